@@ -1,0 +1,38 @@
+//! What an audit says of a package.
+
+/// Why it isn't known whether a version is yanked.
+#[derive(Clone, Copy, Debug, PartialEq, Eq)]
+pub enum Cause {
+    /// The package's name isn't the name of a crate; nothing is asked.
+    Name,
+    /// The server answered with this status.
+    Status(u16),
+    /// The body that came isn't lines of JSON objects.
+    JsonLines,
+    /// Some line has no record.
+    Record,
+    /// The server has no such crate.
+    Absent,
+    /// No record has the locked version.
+    NoVersion,
+    /// The exchange failed.
+    Wire,
+    /// The kept entry couldn't be read.
+    Store,
+}
+
+/// Whether a locked version is yanked.
+#[derive(Clone, Copy, Debug, PartialEq, Eq)]
+pub enum Verdict {
+    Yanked,
+    NotYanked,
+    /// It isn't known, for this cause.
+    Unchecked(Cause),
+}
+
+/// The verdict of the package at a place of the lockfile.
+#[derive(Clone, Copy, Debug, PartialEq, Eq)]
+pub struct Judged {
+    pub package: usize,
+    pub verdict: Verdict,
+}

@@ -1,0 +1,130 @@
+//! A folder in place of a server.
+ghost use Rattle.std.specs.Prelude.{[]};
+
+use crate::reading::read_file;
+use std::alloc::Global;
+use std::io::{self, ErrorKind};
+use std::rt;
+use tame_entry::OwnedRevision;
+use tame_names::{Items, ReadAnswer, Text};
+use tame_sparse::{Request, Wire, WireAnswer, WireFault};
+
+/// The largest file of a mirror that is sent, in bytes: 64 MiB.
+pub const MIRROR_LIMIT: u64 = 67108864;
+
+/// Answers a path by the file there in a folder: 404 where it is absent, 304 where its entity
+/// tag is the named one, else 200. The tag is the text of the file with `.etag` added, without
+/// a newline at its end. It tells nothing of its exchanges.
+#[derive(Drop)]
+pub struct MirrorWire<'a, R: rt::Files + AllocGlobal> {
+    rt: &'a R,
+    folder: &'a str,
+    faults: u64,
+}
+
+impl<'a, R: rt::Files + AllocGlobal> MirrorWire<'a, R> {
+    /// The mirror in a folder.
+    pub fn new(rt: &'a R, folder: &'a str) -> MirrorWire<'a, R> {
+        MirrorWire {
+            rt,
+            folder,
+            faults: 0,
+        }
+    }
+}
+
+/// The file at a path; a file over the limit is an error.
+fn read_limited<R: rt::Files + AllocGlobal>(
+    rt: &R,
+    alloc: Global,
+    path: &str,
+) -> io::Result<Option<Vec<u8>>> {
+    match read_file(rt, alloc, path, MIRROR_LIMIT)? {
+        ReadAnswer::Absent => Ok(None),
+        ReadAnswer::Whole(bytes) => Ok(Some(bytes)),
+        ReadAnswer::Over(_) => Err(io::Error::from(ErrorKind::InvalidData)),
+    }
+}
+
+/// The entity tag of the file at a path.
+fn read_etag<R: rt::Files + AllocGlobal>(
+    rt: &R,
+    alloc: Global,
+    path: &str,
+) -> io::Result<Option<Text>> {
+    let tag = format!(in alloc; "{path}.etag")?;
+    let Some(bytes) = read_limited(rt, alloc, tag.as_str())? else {
+        return Ok(None);
+    };
+    let line = match bytes.as_slice() {
+        [line @ .., b'\n'] => line,
+        line => line,
+    };
+    match std::str::from_utf8(line) {
+        Ok(text) => match Text::of(alloc, text) {
+            Ok(text) => Ok(Some(text)),
+            Err(_) => Err(io::Error::from(ErrorKind::OutOfMemory)),
+        },
+        Err(_) => Ok(None),
+    }
+}
+
+fn is_named(named: &Option<OwnedRevision>, etag: &Option<Text>) -> bool {
+    match (named, etag) {
+        (Some(OwnedRevision::Etag(named)), Some(etag)) => named.as_str() == etag.as_str(),
+        _ => false,
+    }
+}
+
+fn answer<R: rt::Files + AllocGlobal>(
+    rt: &R,
+    alloc: Global,
+    folder: &str,
+    request: &Request,
+) -> io::Result<WireAnswer> {
+    let path = format!(in alloc; "{folder}/{}", request.path)?;
+    let Some(bytes) = read_limited(rt, alloc, path.as_str())? else {
+        return Ok(WireAnswer {
+            status: 404,
+            revision: None,
+            body: Items::new(alloc),
+        });
+    };
+    let etag = read_etag(rt, alloc, path.as_str())?;
+    let is_named = is_named(&request.named, &etag);
+    let revision = etag.map(OwnedRevision::Etag);
+    Ok(WireAnswer {
+        status: if is_named { 304 } else { 200 },
+        revision,
+        body: if is_named {
+            Items::new(alloc)
+        } else {
+            Items::of(bytes)
+        },
+    })
+}
+
+impl<'a, R: rt::Files + AllocGlobal> Wire for MirrorWire<'a, R> {
+    ghost tells = { ⊥ };
+
+    ghost exchanges = { λ _. [] };
+
+    ghost faults = { λ w. w.faults };
+
+    fn wire_faults(&self) -> u64 {
+        self.faults
+    }
+
+    fn exchange(&mut self, alloc: Global, request: &Request) -> Result<WireAnswer, WireFault> {
+        match answer(self.rt, alloc, self.folder, request) {
+            Ok(answer) => Ok(answer),
+            Err(error) => {
+                if error.kind() == ErrorKind::OutOfMemory {
+                    return Err(WireFault::NoMemory);
+                }
+                self.faults = self.faults.saturating_add(1);
+                Err(WireFault::Failed)
+            }
+        }
+    }
+}

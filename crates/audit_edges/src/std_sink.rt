@@ -1,0 +1,40 @@
+//! Output, over std.
+ghost use Rattle.std.specs.Prelude.{[]};
+
+use std::io::Write;
+use tame_names::{Sink, SinkFault};
+
+/// An output over a writer. It tells nothing of what it holds.
+#[derive(Drop)]
+pub struct StdSink<W: Write + Drop> {
+    writer: W,
+    faults: u64,
+}
+
+impl<W: Write + Drop> StdSink<W> {
+    /// An output over this writer.
+    pub fn new(writer: W) -> StdSink<W> {
+        StdSink { writer, faults: 0 }
+    }
+}
+
+impl<W: Write + Drop> Sink for StdSink<W> {
+    ghost tells = { ⊥ };
+
+    ghost holds = { λ _. [] };
+
+    ghost faults = { λ s. s.faults };
+
+    fn sink_faults(&self) -> u64 {
+        self.faults
+    }
+
+    fn put(&mut self, piece: &[u8]) -> Result<(), SinkFault> {
+        let done = self.writer.write_all(piece);
+        if done.is_ok() && self.writer.flush().is_ok() {
+            return Ok(());
+        }
+        self.faults = self.faults.saturating_add(1);
+        Err(SinkFault)
+    }
+}

@@ -1,0 +1,204 @@
+//! Packages as a lockfile lists them.
+ghost use Rattle.std.specs.Prelude.{◌≡◌, ◌≢◌, ◌↔◌, IsTrue, nat_eq, option_map, IfOk, IfErr, IfSome, Ok, Err};
+ghost use Rattle.std.specs.List.{starts_with};
+ghost use Rattle.semver.specs.Parse.{memory_error};
+ghost use Rattle.toml.specs.View.{view, items_view};
+ghost use Rattle.audit_lock.specs.Listed.{has_source_kind, listed_of, rule_of, source_of, text_or_absent, texts_of, texts_or_absent, version_of};
+
+use semver::Version;
+use std::alloc::{AllocError, Global};
+use tame_names::{Items, NoMemory, Text};
+use toml::Value;
+
+/// What a lockfile has to keep, besides being TOML without floats.
+#[derive(Clone, Copy, Debug, PartialEq, Eq)]
+pub enum LockRule {
+    /// `version` is absent, or 1 to 4.
+    Version,
+    /// `package` is absent, or an array of tables.
+    Packages,
+    /// A package has a `name`, a text.
+    Name,
+    /// A package has a `version`, a SemVer version.
+    PackageVersion,
+    /// The `source` of a package is absent, or a text of a kind of source.
+    Source,
+    /// The `checksum` of a package is absent, or a text.
+    Checksum,
+    /// The `dependencies` of a package are absent, or an array of texts.
+    Dependencies,
+    /// The `replace` of a package is absent, or a text.
+    Replace,
+    /// `root` is absent, or a table.
+    Root,
+    /// Each dependency names a listed package.
+    Names,
+}
+
+/// A package as it is listed: its dependencies are texts.
+#[derive(Drop)]
+pub struct ListedPackage {
+    pub name: Text,
+    pub version: Text,
+    pub source: Option<Text>,
+    pub checksum: Option<Text>,
+    pub dependencies: Items<Text>,
+}
+
+/// Why a table is no package.
+#[derive(Clone, Copy, Debug, PartialEq, Eq)]
+pub enum ListingFault {
+    Rule(LockRule),
+    NoMemory,
+}
+
+impl From<AllocError> for ListingFault {
+    ghost use Rattle.audit_lock.specs.declared.listed.ListingFault.TheVariants.{NoMemory as no_memory};
+
+    ghost from_gives = { λ _ e. e ≡ no_memory };
+
+    fn from(_: AllocError) -> ListingFault {
+        ListingFault::NoMemory
+    }
+}
+
+impl From<NoMemory> for ListingFault {
+    ghost use Rattle.audit_lock.specs.declared.listed.ListingFault.TheVariants.{NoMemory as no_memory};
+
+    ghost from_gives = { λ _ e. e ≡ no_memory };
+
+    fn from(_: NoMemory) -> ListingFault {
+        ListingFault::NoMemory
+    }
+}
+
+fn is_memory(error: semver::Error) -> bool
+    ensures { IsTrue result ↔ (error ≡ memory_error) }
+{
+    error == semver::Error::from(AllocError)
+}
+
+fn begins_with(text: &str, prefix: &str) -> bool
+    ensures { result ≡ starts_with nat_eq text.now prefix.now }
+{
+    text.starts_with(prefix)
+}
+
+fn has_source_kind(text: &str) -> bool
+    ensures { result ≡ has_source_kind text.now }
+{
+    begins_with(text, "registry+")
+        || begins_with(text, "sparse+")
+        || begins_with(text, "git+")
+        || begins_with(text, "path+")
+        || begins_with(text, "local-registry+")
+        || begins_with(text, "directory+")
+}
+
+/// A text, or nothing where the member is absent.
+fn text_or_absent<'a>(member: Option<&'a Value>) -> Option<Option<&'a str>>
+    ensures { option_map (option_map (λ s. s.now)) result
+        ≡ text_or_absent (option_map (λ v. view v.now) member.entry) }
+{
+    match member {
+        None => Some(None),
+        Some(Value::String(text)) => Some(Some(text.as_str())),
+        Some(_) => None,
+    }
+}
+
+fn source_of<'a>(member: Option<&'a Value>) -> Option<Option<&'a str>>
+    ensures { option_map (option_map (λ s. s.now)) result
+        ≡ source_of (option_map (λ v. view v.now) member.entry) }
+{
+    match member {
+        None => Some(None),
+        Some(Value::String(text)) if has_source_kind(text.as_str()) => Some(Some(text.as_str())),
+        Some(_) => None,
+    }
+}
+
+fn version_of<'a>(alloc: Global, member: Option<&'a Value>) -> Result<Option<&'a str>, AllocError>
+    ensures { IfOk result (λ o. option_map (λ s. s.now) o
+        ≡ version_of (option_map (λ v. view v.now) member.entry)) }
+{
+    let Some(text) = member.and_then(Value::as_str) else {
+        return Ok(None);
+    };
+    match Version::parse(alloc, text) {
+        Ok(_) => Ok(Some(text)),
+        Err(error) => {
+            if is_memory(error) {
+                Err(AllocError)
+            } else {
+                Ok(None)
+            }
+        }
+    }
+}
+
+fn texts_of(alloc: Global, items: &[Value]) -> Result<Option<Items<Text>>, NoMemory>
+    ensures { IfOk result (λ texts. texts ≡ texts_of (items_view items.now)) }
+{
+    let mut texts = Items::new(alloc);
+    for item in items {
+        let Some(text) = item.as_str() else {
+            return Ok(None);
+        };
+        texts.add(Text::of(alloc, text)?)?;
+    }
+    Ok(Some(texts))
+}
+
+/// An array of texts; empty where the member is absent.
+fn texts_or_absent(alloc: Global, member: Option<&Value>) -> Result<Option<Items<Text>>, NoMemory>
+    ensures { IfOk result (λ texts. texts
+        ≡ texts_or_absent (option_map (λ v. view v.now) member.entry)) }
+{
+    match member {
+        None => Ok(Some(Items::new(alloc))),
+        Some(Value::Array(items)) => texts_of(alloc, items),
+        Some(_) => Ok(None),
+    }
+}
+
+fn copy(alloc: Global, text: Option<&str>) -> Result<Option<Text>, NoMemory>
+    ensures { IfOk result (λ copy. copy ≡ option_map (λ s. s.now) text.entry) }
+{
+    match text {
+        None => Ok(None),
+        Some(text) => Ok(Some(Text::of(alloc, text)?)),
+    }
+}
+
+/// The package that a table is, or the first rule that it breaks.
+pub fn read_listed(alloc: Global, value: &Value) -> Result<ListedPackage, ListingFault>
+    ensures ok { IfOk result (λ p. listed_of (view value.now) ≡ Ok p) }
+    ensures refused { IfErr result (λ e. IfSome (rule_of e) (λ r. listed_of (view value.now) ≡ Err r)) }
+{
+    let Some(name) = value.get("name").and_then(Value::as_str) else {
+        return Err(ListingFault::Rule(LockRule::Name));
+    };
+    let Some(version) = version_of(alloc, value.get("version"))? else {
+        return Err(ListingFault::Rule(LockRule::PackageVersion));
+    };
+    let Some(source) = source_of(value.get("source")) else {
+        return Err(ListingFault::Rule(LockRule::Source));
+    };
+    let Some(checksum) = text_or_absent(value.get("checksum")) else {
+        return Err(ListingFault::Rule(LockRule::Checksum));
+    };
+    if text_or_absent(value.get("replace")).is_none() {
+        return Err(ListingFault::Rule(LockRule::Replace));
+    }
+    let Some(dependencies) = texts_or_absent(alloc, value.get("dependencies"))? else {
+        return Err(ListingFault::Rule(LockRule::Dependencies));
+    };
+    Ok(ListedPackage {
+        name: Text::of(alloc, name)?,
+        version: Text::of(alloc, version)?,
+        source: copy(alloc, source)?,
+        checksum: copy(alloc, checksum)?,
+        dependencies,
+    })
+}

@@ -1,0 +1,60 @@
+//! The program `cargo_audit`: makes the real outside and runs the command over it.
+#![tactic(auto)]
+
+use audit_edges::{MirrorWire, StdFiles, StdSink};
+use audit_program::run;
+use std::env::VarError;
+use std::io::ErrorKind;
+use std::process::ExitCode;
+use std::{env, io};
+
+/// The folder of the mirror, where `CARGO_AUDIT_MIRROR` names none.
+const DEFAULT_MIRROR: &str = "index-mirror";
+
+/// The words behind the program's own path.
+fn words(rt: &HostRuntime) -> io::Result<Vec<String>> {
+    let mut words = Vec::new(rt.alloc());
+    for word in env::args(rt)?.skip(1) {
+        words.push(word)?;
+    }
+    Ok(words)
+}
+
+/// The folder of the mirror.
+fn mirror(rt: &HostRuntime) -> io::Result<String> {
+    match env::var(rt, "CARGO_AUDIT_MIRROR") {
+        Ok(folder) => Ok(folder),
+        Err(VarError::NotPresent) => Ok(String::from_str(rt.alloc(), DEFAULT_MIRROR)?),
+        Err(VarError::NotUnicode) => Err(io::Error::from(ErrorKind::InvalidData)),
+        Err(VarError::OutOfMemory) => Err(io::Error::from(ErrorKind::OutOfMemory)),
+    }
+}
+
+fn audit(rt: &HostRuntime) -> io::Result<u8> {
+    let words = words(rt)?;
+    let folder = mirror(rt)?;
+    let mut files = StdFiles::new(rt);
+    let mut wire = MirrorWire::new(rt, folder.as_str());
+    let mut out = StdSink::new(io::writer(rt));
+    let mut err = StdSink::new(rt.stderr());
+    let outcome = run(
+        rt.alloc(),
+        words.as_slice(),
+        &mut files,
+        &mut wire,
+        &mut out,
+        &mut err,
+    );
+    Ok(outcome.status)
+}
+
+fn main(rt: HostRuntime) -> ExitCode {
+    match audit(&rt) {
+        Ok(status) => ExitCode::from(status),
+        Err(error) => ExitCode::from(if error.kind() == ErrorKind::OutOfMemory {
+            3
+        } else {
+            2
+        }),
+    }
+}

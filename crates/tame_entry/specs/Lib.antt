@@ -1,0 +1,5 @@
+pub mod Held
+pub mod JsonLines
+pub mod Lines
+pub mod Revision
+pub mod Says

@@ -1,0 +1,27 @@
+-- The body of an index file: a JSON object a line (Cargo Book, "Registry Index", index files).
+use Rattle.std.specs.Prelude.{ℕ, ◌-◌, List, [], ◌∷◌, length, slice_index, Bool, not, nat_le, ◌==◌, ◌&&◌, Option, Some, is_none, option_map, position, if◌then◌else◌}
+use Rattle.tame_names.specs.Pieces.{pieces}
+use Rattle.tame_names.specs.declared.errors.InvalidJsonLines.{InvalidJsonLines}
+use Rattle.tame_names.specs.declared.errors.InvalidJsonLines.TheVariants.{Empty, NotJson}
+
+-- a body without the newlines that end it
+abbrev pub trimmed : List ℕ → List ℕ
+trimmed [] = []
+trimmed (b ∷ bs) = if b == 10 && length (trimmed bs) == 0 then [] else b ∷ trimmed bs
+
+-- the lines: what is left, cut at its newlines; nothing but newlines has no line
+abbrev pub lines : List ℕ → List (List ℕ)
+lines body = pieces 10 (trimmed body)
+
+-- two bytes or more, the first `{` and the last `}`
+abbrev pub is_object_line : List ℕ → Bool
+is_object_line line = nat_le 2 (length line) && slice_index line 0 == 123 && slice_index line (length line - 1) == 125
+
+-- why a body isn't valid: there is no line, or this is the first that doesn't look like an object
+abbrev pub invalid : List ℕ → Option InvalidJsonLines
+invalid body =
+    if length (trimmed body) == 0 then Some Empty
+    else option_map (λ n. NotJson n) (position (λ line. not (is_object_line line)) (lines body))
+
+abbrev pub valid : List ℕ → Bool
+valid body = is_none (invalid body)

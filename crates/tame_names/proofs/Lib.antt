@@ -1,0 +1,6 @@
+pub mod Cuts
+pub mod Ascii
+pub mod Joined
+pub mod Counted
+pub mod Utf8Lemmas
+pub mod Prefixes

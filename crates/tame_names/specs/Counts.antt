@@ -1,0 +1,15 @@
+-- Counts of faults. Each object of the outside counts how often it has failed.
+use Rattle.std.specs.Prelude.{◌≡◌, ◌≢◌, ◌+◌, ◌-◌, ◌^◌, ◌<◌, ◌≤◌, ℕ, min, Result, IfErr}
+
+-- a count rose: it is higher at the second moment, or it stands at its end there
+abbrev pub Rose : ℕ → ℕ → Type 0
+Rose before now = min (before + 1) (2 ^ 64 - 1) ≤ now
+
+-- a count is quiet: it is the same at both moments, and below its end
+abbrev pub IsQuiet : ℕ → ℕ → Type 0
+IsQuiet before now = (now ≡ before) × (before < 2 ^ 64 - 1)
+
+-- the count never falls, and a call that failed raised it; want of memory is no fault
+pub record HasCause {T E : Type 0} (no_memory : E) (before now : ℕ) (result : Result T E) : Type 0 where
+  pub later : before ≤ now
+  pub failed : IfErr result (λ e. e ≢ no_memory → Rose before now)

@@ -1,0 +1,23 @@
+//! Crate names with their place in an index, texts and lists that contracts see as lists,
+//! and the traits through which the product reaches files and output.
+#![tactic(auto)]
+
+mod errors;
+mod host;
+mod lists;
+mod memory_files;
+mod memory_sink;
+mod names;
+mod output;
+mod pieces;
+mod texts;
+
+pub use errors::{InvalidJsonLines, InvalidKrateName, NoMemory};
+pub use host::{FailedCall, FileCall, FileFault, Files, ReadAnswer};
+pub use lists::Items;
+pub use memory_files::{MemFile, MemFiles};
+pub use memory_sink::MemSink;
+pub use names::KrateName;
+pub use output::{Sink, SinkFault};
+pub use pieces::{SplitIter, split};
+pub use texts::{Text, utf8_text};

@@ -1,0 +1,104 @@
+//! Files in memory.
+ghost use Rattle.std.specs.Prelude.{◌≡◌, ⊤, IfErr, option_copied};
+ghost use Rattle.tame_names.specs.MemoryFiles.{file_at, standing_in};
+ghost use Rattle.tame_names.specs.Standing.{Reads, File};
+
+use crate::host::{FailedCall, FileCall, FileFault, Files, ReadAnswer};
+use crate::lists::Items;
+use crate::texts::Text;
+use std::alloc::Global;
+
+/// A file in memory.
+#[derive(Drop)]
+pub struct MemFile {
+    pub path: Text,
+    pub bytes: Items<u8>,
+}
+
+/// Files in memory; of equal paths the first counts. The calls whose numbers are listed,
+/// counted from 1, fail.
+#[derive(Drop)]
+pub struct MemFiles {
+    files: Items<MemFile>,
+    fails: Items<u64>,
+    failed: Items<FailedCall>,
+    calls: u64,
+    faults: u64,
+}
+
+impl MemFiles {
+    /// These files; the calls of these numbers are to fail.
+    pub fn new(alloc: Global, files: Items<MemFile>, fails: Items<u64>) -> MemFiles {
+        MemFiles {
+            files,
+            fails,
+            failed: Items::new(alloc),
+            calls: 0,
+            faults: 0,
+        }
+    }
+
+    /// The calls that have failed, the first in front.
+    pub fn failed(&self) -> &[FailedCall]
+        ensures { result.now ≡ self.now.failed }
+    {
+        self.failed.as_slice()
+    }
+}
+
+fn file_at<'a>(files: &'a [MemFile], path: &str) -> Option<&'a MemFile>
+    ensures { option_copied result ≡ file_at files.now path.now }
+{
+    for file in files {
+        if file.path.as_str() == path {
+            return Some(file);
+        }
+    }
+    None
+}
+
+impl Files for MemFiles {
+    ghost tells = { ⊤ };
+
+    ghost stands = { λ m path. standing_in m.files path };
+
+    ghost failed = { λ m. m.failed };
+
+    ghost faults = { λ m. m.faults };
+
+    fn file_faults(&self) -> u64 {
+        self.faults
+    }
+
+    fn read(&mut self, alloc: Global, path: &str, limit: u64) -> Result<ReadAnswer, FileFault> {
+        self.calls = self.calls.saturating_add(1);
+        if self.fails.as_slice().contains(&self.calls) {
+            let path = Text::of(alloc, path)?;
+            self.failed.add(FailedCall {
+                call: FileCall::Read,
+                path: Some(path),
+            })?;
+            self.faults = self.faults.saturating_add(1);
+            return Err(FileFault::Failed);
+        }
+        match file_at(self.files.as_slice(), path) {
+            None => Ok(ReadAnswer::Absent),
+            Some(file) => copy_within(alloc, file.bytes.as_slice(), limit),
+        }
+    }
+}
+
+/// The bytes, or their number where they are more than the limit.
+fn copy_within(alloc: Global, bytes: &[u8], limit: u64) -> Result<ReadAnswer, FileFault>
+    ensures memory { IfErr result (λ e. e ≡ FileFault.NoMemory) }
+    ensures read { Reads (File bytes.now) limit result }
+{
+    let len = bytes.len() as u64;
+    if len > limit {
+        return Ok(ReadAnswer::Over(len));
+    }
+    match Vec::from_slice(alloc, bytes) {
+        Ok(copy) => Ok(ReadAnswer::Whole(copy)),
+        Err(_) => Err(FileFault::NoMemory),
+    }
+}

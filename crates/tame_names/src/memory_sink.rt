@@ -1,0 +1,58 @@
+//! An output in memory.
+ghost use Rattle.std.specs.Prelude.{◌≡◌, [], ⊤};
+
+use crate::lists::Items;
+use crate::output::{Sink, SinkFault};
+use std::alloc::Global;
+
+/// Holds what was put. The puts whose numbers are listed, counted from 1, fail and append nothing.
+#[derive(Drop)]
+pub struct MemSink {
+    bytes: Items<u8>,
+    fails: Items<u64>,
+    calls: u64,
+    faults: u64,
+}
+
+impl MemSink {
+    /// An empty output whose puts of these numbers are to fail.
+    pub fn new(alloc: Global, fails: Items<u64>) -> MemSink
+        ensures { result.bytes ≡ [] }
+    {
+        MemSink {
+            bytes: Items::new(alloc),
+            fails,
+            calls: 0,
+            faults: 0,
+        }
+    }
+
+    /// The bytes that it holds.
+    pub fn bytes(&self) -> &[u8]
+        ensures { result.now ≡ self.now.bytes }
+    {
+        self.bytes.as_slice()
+    }
+}
+
+impl Sink for MemSink {
+    ghost tells = { ⊤ };
+
+    ghost holds = { λ s. s.bytes };
+
+    ghost faults = { λ s. s.faults };
+
+    fn sink_faults(&self) -> u64 {
+        self.faults
+    }
+
+    fn put(&mut self, piece: &[u8]) -> Result<(), SinkFault> {
+        self.calls = self.calls.saturating_add(1);
+        let is_to_fail = self.fails.as_slice().contains(&self.calls);
+        if !is_to_fail && self.bytes.extend(piece).is_ok() {
+            return Ok(());
+        }
+        self.faults = self.faults.saturating_add(1);
+        Err(SinkFault)
+    }
+}

@@ -1,0 +1,4 @@
+pub mod Checksums
+pub mod Dependencies
+pub mod Members
+pub mod Record

@@ -1,0 +1,117 @@
+//! Dependencies of a version.
+ghost use Rattle.std.specs.Prelude.{◌≡◌, option_map, IfOk};
+ghost use Rattle.serde_json.specs.View.{view, items_view};
+ghost use Rattle.tame_records.specs.Dependencies.{dependency_of, dependencies_of, kind_named, kind_of};
+
+use crate::members::{copy, text_or_null, texts_of};
+use serde_json::Value;
+use std::alloc::Global;
+use tame_names::{Items, NoMemory, Text};
+
+/// What a dependency is used for.
+#[derive(Clone, Copy, Debug, PartialEq, Eq)]
+pub enum DependencyKind {
+    Normal,
+    Dev,
+    Build,
+}
+
+/// A dependency of a version in the index (Cargo Book, "Registry Index", JSON schema).
+#[derive(Drop)]
+pub struct IndexDependency {
+    /// The name in the version's own manifest.
+    pub name: Text,
+    /// The requirement on its version.
+    pub req: Text,
+    pub features: Items<Text>,
+    pub optional: bool,
+    pub default_features: bool,
+    /// The platform that it is for; none: every platform.
+    pub target: Option<Text>,
+    pub kind: DependencyKind,
+    /// The crate's own name, where `name` isn't that.
+    pub package: Option<Text>,
+}
+
+fn kind_of(member: Option<&Value>) -> Option<DependencyKind>
+    ensures { result ≡ kind_of (option_map (λ v. view v.now) member.entry) }
+{
+    match member {
+        None | Some(Value::Null) => Some(DependencyKind::Normal),
+        Some(Value::String(text)) => kind_named(text.as_str()),
+        Some(_) => None,
+    }
+}
+
+fn kind_named(text: &str) -> Option<DependencyKind>
+    ensures { result ≡ kind_named text.now }
+{
+    if text == "normal" {
+        Some(DependencyKind::Normal)
+    } else if text == "dev" {
+        Some(DependencyKind::Dev)
+    } else if text == "build" {
+        Some(DependencyKind::Build)
+    } else {
+        None
+    }
+}
+
+fn dependency_of(alloc: Global, value: &Value) -> Result<Option<IndexDependency>, NoMemory>
+    ensures { IfOk result (λ d. d ≡ dependency_of (view value.now)) }
+{
+    let Some(name) = value.get("name").and_then(Value::as_str) else {
+        return Ok(None);
+    };
+    let Some(req) = value.get("req").and_then(Value::as_str) else {
+        return Ok(None);
+    };
+    let Some(features) = value.get("features").and_then(Value::as_array) else {
+        return Ok(None);
+    };
+    let Some(features) = texts_of(alloc, features)? else {
+        return Ok(None);
+    };
+    let Some(optional) = value.get("optional").and_then(Value::as_bool) else {
+        return Ok(None);
+    };
+    let Some(default_features) = value.get("default_features").and_then(Value::as_bool) else {
+        return Ok(None);
+    };
+    let Some(target) = text_or_null(value.get("target")) else {
+        return Ok(None);
+    };
+    let Some(kind) = kind_of(value.get("kind")) else {
+        return Ok(None);
+    };
+    let Some(package) = text_or_null(value.get("package")) else {
+        return Ok(None);
+    };
+    Ok(Some(IndexDependency {
+        name: Text::of(alloc, name)?,
+        req: Text::of(alloc, req)?,
+        features,
+        optional,
+        default_features,
+        target: copy(alloc, target)?,
+        kind,
+        package: copy(alloc, package)?,
+    }))
+}
+
+/// The items as dependencies.
+pub fn dependencies_of(
+    alloc: Global,
+    items: &[Value],
+) -> Result<Option<Items<IndexDependency>>, NoMemory>
+    ensures { IfOk result (λ all. all ≡ dependencies_of (items_view items.now)) }
+{
+    let mut all = Items::new(alloc);
+    for item in items {
+        let Some(dependency) = dependency_of(alloc, item)? else {
+            return Ok(None);
+        };
+        all.add(dependency)?;
+    }
+    Ok(Some(all))
+}

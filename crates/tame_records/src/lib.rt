@@ -1,0 +1,12 @@
+//! Lines of a registry's index as records.
+#![tactic(auto)]
+
+mod checksums;
+mod dependencies;
+mod members;
+mod versions;
+
+pub use checksums::{Chksum, ChksumParseError};
+pub use dependencies::{DependencyKind, IndexDependency};
+pub use members::FeatureMap;
+pub use versions::{IndexVersion, LineFault, VersionHead};

@@ -1,0 +1,122 @@
+//! A wire in memory.
+ghost use Rattle.std.specs.Prelude.{◌≡◌, [], ⊤, IfOk};
+
+use crate::network::{Exchange, Held, Request, Wire, WireAnswer, WireFault};
+use std::alloc::Global;
+use tame_entry::OwnedRevision;
+use tame_names::{Items, NoMemory};
+
+/// What a server holds at a call, and the answer that it gives; without one the call fails.
+#[derive(Drop)]
+pub struct Scripted {
+    pub held: Option<Held>,
+    pub answer: Option<WireAnswer>,
+}
+
+/// Gives the items of a list, one at each call; a call past its end fails, with nothing held.
+/// Keeps its exchanges.
+#[derive(Drop)]
+pub struct MemWire {
+    script: Items<Scripted>,
+    exchanges: Items<Exchange>,
+    faults: u64,
+}
+
+impl MemWire {
+    /// A wire that gives these answers.
+    pub fn new(alloc: Global, script: Items<Scripted>) -> MemWire
+        ensures { result.exchanges ≡ [] }
+    {
+        MemWire {
+            script,
+            exchanges: Items::new(alloc),
+            faults: 0,
+        }
+    }
+
+    /// The exchanges so far.
+    pub fn exchanges(&self) -> &[Exchange]
+        ensures { result.now ≡ self.now.exchanges }
+    {
+        self.exchanges.as_slice()
+    }
+}
+
+fn copy_revision(
+    alloc: Global,
+    revision: &Option<OwnedRevision>,
+) -> Result<Option<OwnedRevision>, NoMemory>
+    ensures { IfOk result (λ copy. copy ≡ revision.now) }
+{
+    match revision {
+        None => Ok(None),
+        Some(revision) => Ok(Some(revision.try_clone(alloc)?)),
+    }
+}
+
+fn copy_answer(alloc: Global, answer: &Option<WireAnswer>) -> Result<Option<WireAnswer>, NoMemory>
+    ensures { IfOk result (λ copy. copy ≡ answer.now) }
+{
+    let Some(answer) = answer else {
+        return Ok(None);
+    };
+    Ok(Some(WireAnswer {
+        status: answer.status,
+        revision: copy_revision(alloc, &answer.revision)?,
+        body: Items::copied(alloc, answer.body.as_slice())?,
+    }))
+}
+
+fn copy_held(alloc: Global, held: &Option<Held>) -> Result<Option<Held>, NoMemory>
+    ensures { IfOk result (λ copy. copy ≡ held.now) }
+{
+    let Some(held) = held else {
+        return Ok(None);
+    };
+    Ok(Some(Held {
+        revision: copy_revision(alloc, &held.revision)?,
+        body: Items::copied(alloc, held.body.as_slice())?,
+    }))
+}
+
+impl Wire for MemWire {
+    ghost tells = { ⊤ };
+
+    ghost exchanges = { λ w. w.exchanges };
+
+    ghost faults = { λ w. w.faults };
+
+    fn wire_faults(&self) -> u64 {
+        self.faults
+    }
+
+    fn exchange(&mut self, alloc: Global, request: &Request) -> Result<WireAnswer, WireFault> {
+        let path = request.path.try_clone(alloc)?;
+        let named = copy_revision(alloc, &request.named)?;
+        let number = self.exchanges.as_slice().len();
+        let (held, answer, kept) = match self.script.as_slice().get(number) {
+            None => (None, None, None),
+            Some(item) => (
+                copy_held(alloc, &item.held)?,
+                copy_answer(alloc, &item.answer)?,
+                copy_answer(alloc, &item.answer)?,
+            ),
+        };
+        let exchange = Exchange {
+            path,
+            named,
+            held,
+            answer: kept,
+        };
+        if self.exchanges.push(exchange).is_err() {
+            return Err(WireFault::NoMemory);
+        }
+        match answer {
+            Some(answer) => Ok(answer),
+            None => {
+                self.faults = self.faults.saturating_add(1);
+                Err(WireFault::Failed)
+            }
+        }
+    }
+}
