@@ -4,3 +4,4 @@ pub mod Joined
 pub mod Counted
 pub mod Utf8Lemmas
 pub mod Prefixes
+pub mod Cases

@@ -1,11 +1,27 @@
 -- Names of crates and their places in an index.
--- Cargo Book, "Registry Index": characters of a name, and the folders of index files.
-use Rattle.std.specs.Prelude.{ℕ, codes, List, ◌++◌, length, take, drop, Bool, not, ◌==◌, ◌||◌, Option, Some, None, is_none, option_map, unwrap_or, find, if◌then◌else◌, encode_utf8}
-use Rattle.std.specs.List.{enumerate_from}
-use Rattle.std.specs.Char.{is_ascii_alphanumeric}
+-- Cargo Book, "Registry Index" (characters of a name, folders of index files) and "The Manifest Format" (names).
+use Rattle.std.specs.Prelude.{ℕ, codes, List, [], ◌∷◌, ◌++◌, length, take, drop, Bool, true, false, not, nat_lt, ◌==◌, ◌||◌, bytes_eq, Option, Some, None, is_none, option_map, unwrap_or, find, if◌then◌else◌, encode_utf8}
+use Rattle.std.specs.List.{enumerate_from, list_any}
+use Rattle.std.specs.Char.{is_ascii_alphabetic, is_ascii_alphanumeric}
 use Rattle.std.specs.Str.{chars, str_to_ascii_lowercase}
+use Rattle.tame_names.specs.Pieces.{pieces}
 use Rattle.tame_names.specs.declared.errors.InvalidKrateName.{InvalidKrateName}
-use Rattle.tame_names.specs.declared.errors.InvalidKrateName.TheVariants.{InvalidLength, InvalidCharacter}
+use Rattle.tame_names.specs.declared.errors.InvalidKrateName.TheVariants.{InvalidLength, InvalidCharacter, ReservedName}
+use Rattle.tame_names.specs.declared.errors.ReservedNameKind.{ReservedNameKind}
+use Rattle.tame_names.specs.declared.errors.ReservedNameKind.TheVariants.{Keyword, Artifact, Windows, Standard}
+
+-- why a text is no name: its number of characters, a character and its place, or what it is reserved as
+pub data NameRefusal : Type 0 where
+  HasLength : (count : ℕ) → NameRefusal
+  HasCharacter : (character place : ℕ) → NameRefusal
+  IsReserved : (name : List ℕ) (kind : ReservedNameKind) → NameRefusal
+
+abbrev pub refusal : InvalidKrateName → NameRefusal
+refusal (InvalidLength n) = HasLength n
+refusal (InvalidCharacter c at) = HasCharacter c at
+refusal (ReservedName name kind) = IsReserved name.now kind
+
+-- ---- what every name keeps
 
 -- an ASCII letter or digit, `-` or `_`
 abbrev pub is_name_char : ℕ → Bool
@@ -16,13 +32,68 @@ abbrev pub first_invalid : List ℕ → Option (ℕ × ℕ)
 first_invalid text = find (λ p. not (is_name_char p.1)) (enumerate_from 0 (chars text))
 
 -- why a text is no name: it is empty, or this is its first character of another kind
-abbrev pub refusal_of : List ℕ → Option InvalidKrateName
+abbrev pub refusal_of : List ℕ → Option NameRefusal
 refusal_of text =
-    if length text == 0 then Some (InvalidLength 0)
-    else option_map (λ p. InvalidCharacter p.1 p.0) (first_invalid text)
+    if length text == 0 then Some (HasLength 0)
+    else option_map (λ p. HasCharacter p.1 p.0) (first_invalid text)
 
 abbrev pub is_name : List ℕ → Bool
 is_name text = is_none (refusal_of text)
+
+-- ---- what cargo and crates.io want besides
+
+-- the first character is a letter or `_`
+abbrev pub is_char_at : ℕ × ℕ → Bool
+is_char_at p = if p.0 == 0 then is_ascii_alphabetic p.1 || p.1 == 95 else is_name_char p.1
+
+abbrev pub first_bad : List ℕ → Option (ℕ × ℕ)
+first_bad text = find (λ p. not (is_char_at p)) (enumerate_from 0 (chars text))
+
+-- reserved names, compared with case
+abbrev pub keywords : List (List ℕ)
+keywords = pieces 32 (codes "Self abstract as async await become box break const continue crate do dyn else enum extern false final fn for if impl in let loop macro match mod move mut override priv pub ref return self static struct super trait true try type typeof unsafe unsized use virtual where while yield")
+
+abbrev pub artifacts : List (List ℕ)
+artifacts = pieces 32 (codes "build deps examples incremental")
+
+abbrev pub windows : List (List ℕ)
+windows = pieces 32 (codes "aux con nul prn com1 com2 com3 com4 com5 com6 com7 com8 com9 lpt1 lpt2 lpt3 lpt4 lpt5 lpt6 lpt7 lpt8 lpt9")
+
+abbrev pub libraries : List (List ℕ)
+libraries = pieces 32 (codes "alloc core proc-macro proc_macro std test")
+
+abbrev pub stands_in : List ℕ → List (List ℕ) → Bool
+stands_in text names = list_any (λ name. bytes_eq name text) names
+
+abbrev pub reserved_kind : List ℕ → Option ReservedNameKind
+reserved_kind text =
+    if stands_in text keywords then Some Keyword
+    else if stands_in text artifacts then Some Artifact
+    else if stands_in text windows then Some Windows
+    else if stands_in text libraries then Some Standard
+    else None
+
+-- a place that counts, and a length that is too long, where there is a limit
+abbrev pub is_within : Option ℕ → ℕ → Bool
+is_within None place = true
+is_within (Some limit) place = nat_lt place limit
+
+abbrev pub is_longer : Option ℕ → ℕ → Bool
+is_longer None count = false
+is_longer (Some limit) count = nat_lt limit count
+
+-- a bad character within the limit comes before the length, and reserved names come last
+abbrev pub by_characters : Option ℕ → List ℕ → Option (ℕ × ℕ) → Option NameRefusal
+by_characters limit text (Some p) = Some (if is_within limit p.0 then HasCharacter p.1 p.0 else HasLength (length (chars text)))
+by_characters limit text None =
+    if is_longer limit (length (chars text)) then Some (HasLength (length (chars text)))
+    else option_map (λ kind. IsReserved text kind) (reserved_kind text)
+
+-- why a text is no name to cargo, with a limit on its characters or without one
+abbrev pub strict_refusal : Option ℕ → List ℕ → Option NameRefusal
+strict_refusal limit text = if length text == 0 then Some (HasLength 0) else by_characters limit text (first_bad text)
+
+-- ---- places
 
 -- the folders of a name, by its number of letters, parted by a separator
 abbrev pub prefix : List ℕ → List ℕ → List ℕ

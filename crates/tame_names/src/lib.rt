@@ -2,6 +2,7 @@
 //! and the traits through which the product reaches files and output.
 #![tactic(auto)]
 
+mod conversions;
 mod errors;
 mod host;
 mod lists;
@@ -10,9 +11,13 @@ mod memory_sink;
 mod names;
 mod output;
 mod pieces;
+mod reserved;
 mod texts;
 
-pub use errors::{InvalidJsonLines, InvalidKrateName, NoMemory};
+pub use errors::{
+    CacheError, Error, FileLockError, HttpError, InvalidJsonLines, InvalidKrateName, InvalidUrl,
+    InvalidUrlError, IoKind, LocalRegistryError, LockError, NoMemory, ReservedNameKind,
+};
 pub use host::{FailedCall, FileCall, FileFault, Files, ReadAnswer};
 pub use lists::Items;
 pub use memory_files::{MemFile, MemFiles};

@@ -1,12 +1,17 @@
 //! Names of crates.
-ghost use Rattle.std.specs.Prelude.{◌≡◌, ◌++◌, IsTrue, IfOk, IfErr, Some, None, OnOk, string_bytes};
+ghost use Rattle.std.specs.Prelude.{◌≡◌, ℕ, List, ◌++◌, IsTrue, IfOk, IfErr, Some, None, OnOk, OnErr, IsOk, length, option_map, string_bytes};
 ghost use Rattle.std.specs.Prelude.{encode_utf8};
-ghost use Rattle.std.specs.Str.{str_to_ascii_lowercase, IsAscii};
-ghost use Rattle.tame_names.specs.Names.{is_name_char, first_invalid, refusal_of, is_name, prefix, relative_path, separator, path};
+ghost use Rattle.std.specs.Str.{chars, str_to_ascii_lowercase, IsAscii};
+ghost use Rattle.tame_names.specs.Names.{is_name_char, is_char_at, first_bad, first_invalid, refusal, refusal_of, strict_refusal, is_longer, is_name, is_within, prefix, relative_path, separator, path};
 
 use crate::errors::{InvalidKrateName, NoMemory};
+use crate::reserved::reserved_name;
 use crate::texts::Text;
 use std::alloc::{AllocError, Global};
+use std::fmt;
+
+/// The most characters that crates.io takes for a name.
+const CRATES_IO_LIMIT: usize = 64;
 
 /// The name of a crate: not empty, and of ASCII letters, digits, `-` and `_` alone.
 ///
@@ -24,11 +29,76 @@ fn is_name_char(character: char) -> bool
     character.is_ascii_alphanumeric() || character == '-' || character == '_'
 }
 
+/// Whether a character may stand at its place in a name of cargo.
+fn is_char_at(place: usize, character: char) -> bool
+    ensures { result ≡ is_char_at (place, character) }
+{
+    if place == 0 {
+        character.is_ascii_alphabetic() || character == '_'
+    } else {
+        is_name_char(character)
+    }
+}
+
 /// The first character that a name may not have, with its place among the characters.
 fn first_invalid(name: &str) -> Option<(usize, char)>
     ensures { result ≡ first_invalid name.now }
 {
     name.chars().enumerate().find(|p| !is_name_char(p.1))
+}
+
+fn first_bad(name: &str) -> Option<(usize, char)>
+    ensures { result ≡ first_bad name.now }
+{
+    name.chars().enumerate().find(|p| !is_char_at(p.0, p.1))
+}
+
+fn count_of(name: &str) -> usize
+    ensures { result ≡ length (chars name.now) }
+{
+    name.chars().count()
+}
+
+fn is_within(limit: Option<usize>, place: usize) -> bool
+    ensures { result ≡ is_within limit place }
+{
+    match limit {
+        None => true,
+        Some(limit) => place < limit,
+    }
+}
+
+fn is_longer(limit: Option<usize>, count: usize) -> bool
+    ensures { result ≡ is_longer limit count }
+{
+    match limit {
+        None => false,
+        Some(limit) => limit < count,
+    }
+}
+
+/// Why a text is no name to cargo, if it isn't.
+fn strict_refusal(name: &str, limit: Option<usize>) -> Option<InvalidKrateName>
+    ensures { option_map refusal result ≡ strict_refusal limit name.now }
+{
+    if name.is_empty() {
+        return Some(InvalidKrateName::InvalidLength(0));
+    }
+    if let Some((index, invalid)) = first_bad(name) {
+        return Some(if is_within(limit, index) {
+            InvalidKrateName::InvalidCharacter { invalid, index }
+        } else {
+            InvalidKrateName::InvalidLength(count_of(name))
+        });
+    }
+    let count = count_of(name);
+    if is_longer(limit, count) {
+        return Some(InvalidKrateName::InvalidLength(count));
+    }
+    match reserved_name(name) {
+        Some((reserved, kind)) => Some(InvalidKrateName::ReservedName { reserved, kind }),
+        None => None,
+    }
 }
 
 impl<'n> KrateName<'n> {
@@ -38,7 +108,7 @@ impl<'n> KrateName<'n> {
     /// name has its first character that a name may not have as the reason.
     pub fn try_from(name: &'n str) -> Result<KrateName<'n>, InvalidKrateName>
         ensures ok { IfOk result (λ n. (text_of n ≡ name.now) × (refusal_of name.now ≡ None)) }
-        ensures refused { IfErr result (λ e. refusal_of name.now ≡ Some e) }
+        ensures refused { IfErr result (λ e. refusal_of name.now ≡ Some (refusal e)) }
     {
         if name.is_empty() {
             return Err(InvalidKrateName::InvalidLength(0));
@@ -47,6 +117,37 @@ impl<'n> KrateName<'n> {
             Some((index, invalid)) => Err(InvalidKrateName::InvalidCharacter { invalid, index }),
             None => Ok(KrateName { text: name }),
         }
+    }
+
+    fn strict(name: &'n str, limit: Option<usize>) -> Result<KrateName<'n>, InvalidKrateName>
+        ensures ok { IfOk result (λ n. (text_of n ≡ name.now) × (strict_refusal limit name.now ≡ None)) }
+        ensures refused { IfErr result (λ e. strict_refusal limit name.now ≡ Some (refusal e)) }
+    {
+        match strict_refusal(name, limit) {
+            Some(refused) => Err(refused),
+            None => Ok(KrateName { text: name }),
+        }
+    }
+
+    /// The text as a name that crates.io takes: a name of cargo of at most 64 characters. A bad
+    /// character among the first 64 comes before the length, and reserved names come last.
+    pub fn crates_io(name: &'n str) -> Result<KrateName<'n>, InvalidKrateName>
+        ensures ok { IfOk result (λ n. (text_of n ≡ name.now) × (strict_refusal (Some 64) name.now ≡ None)) }
+        ensures refused { IfErr result (λ e. strict_refusal (Some 64) name.now ≡ Some (refusal e)) }
+        // cargo accepts what crates.io accepts
+        ensures accepted { IsOk result → strict_refusal None name.now ≡ None }
+    {
+        KrateName::strict(name, Some(CRATES_IO_LIMIT))
+    }
+
+    /// The text as a name that cargo takes: it begins with a letter or `_`, and isn't reserved.
+    pub fn cargo(name: &'n str) -> Result<KrateName<'n>, InvalidKrateName>
+        ensures ok { IfOk result (λ n. (text_of n ≡ name.now) × (strict_refusal None name.now ≡ None)) }
+        ensures refused { IfErr result (λ e. strict_refusal None name.now ≡ Some (refusal e)) }
+        // every name of cargo is a name
+        ensures accepted { IsOk result → refusal_of name.now ≡ None }
+    {
+        KrateName::strict(name, None)
     }
 
     /// Appends the folders of this name in an index, parted by `sep`; they keep the name's case.
@@ -72,11 +173,25 @@ impl<'n> KrateName<'n> {
         acc.push_str(&self.text[2..4])
     }
 
+    /// Appends the folders of this name in an index, parted by `sep`; they keep the name's case.
+    pub fn prefix(&self, acc: &mut String, sep: char) -> Result<(), NoMemory>
+        ensures appended { OnOk result (string_bytes acc.new ≡ string_bytes acc.old ++ prefix (encode_utf8 sep) (text_of self.now)) }
+        ensures same { OnErr result (string_bytes acc.new ≡ string_bytes acc.old) }
+    {
+        let mut folders = String::new(*acc.allocator());
+        self.push_prefix(&mut folders, sep)?;
+        acc.push_str(folders.as_str())?;
+        Ok(())
+    }
+
     /// The place of this name's file in an index: its folders and the name, parted by `sep`
     /// (`/` where none is given), all in ASCII lower case.
     pub fn relative_path(&self, alloc: Global, sep: Option<char>) -> Result<Text, NoMemory>
         ensures parts { IfOk result (λ p. p ≡ relative_path (separator sep) (text_of self.now)) }
         ensures path { sep ≡ None → IfOk result (λ p. path (text_of self.now) ≡ Some p) }
+        // names that are equal up to ASCII case have one path
+        ensures one_path { (other : List ℕ) → IsTrue (is_name other) → str_to_ascii_lowercase other ≡ str_to_ascii_lowercase (text_of self.now)
+            → path other ≡ path (text_of self.now) }
     {
         let sep = sep.unwrap_or('/');
         let mut path = String::new(alloc);
@@ -92,5 +207,29 @@ impl<'n> KrateName<'n> {
         ensures { result.now ≡ text_of self.now }
     {
         self.text
+    }
+}
+
+impl KrateName<'static> {
+    ghost use Rattle.tame_names.specs.KrateNames.{text_of};
+
+    /// The name that a text of the program is, which crates.io has to accept.
+    pub fn from_static(name: &'static str) -> KrateName<'static>
+        requires { strict_refusal (Some 64) name.now ≡ None }
+        ensures { text_of result ≡ name.now }
+    {
+        KrateName { text: name }
+    }
+}
+
+impl fmt::Display for KrateName<'_> {
+    fn fmt<W: fmt::Write>(&self, f: &mut fmt::Formatter<W>) -> fmt::Result {
+        f.pad(self.text)
+    }
+}
+
+impl fmt::Debug for KrateName<'_> {
+    fn fmt<W: fmt::Write>(&self, f: &mut fmt::Formatter<W>) -> fmt::Result {
+        f.pad(self.text)
     }
 }

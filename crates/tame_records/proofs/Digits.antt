@@ -1,14 +1,16 @@
 -- 64 digits decode.
-use Rattle.std.proofs.Common.{◌≡◌, ℕ, zero, suc, ◌*◌, List, [], ◌∷◌, length, Bool, true, false, not, cond, Option, Some, None, Result, Ok, Err, refl, arith}
-use Rattle.std.specs.Prelude.{IsOk}
+use Rattle.std.proofs.Common.{◌≡◌, ℕ, zero, suc, ◌*◌, List, [], ◌∷◌, length, Bool, true, false, not, cond, Option, Some, None, Result, Ok, Err, refl, ap, ◌∙◌, arith}
+use Rattle.std.specs.Prelude.{IsOk, ◌==◌}
 use Rattle.std.specs.List.{AllPass}
-use Rattle.std.specs.Result.{MatchResult}
+use Rattle.std.specs.Result.{MatchResult, result_unwrap_or}
 use Rattle.std.specs.Char.{is_ascii_hexdigit}
 use Rattle.std.proofs.lemmas.Bool.Decides.{nat_tests}
-use Rattle.hex.specs.Hex.{is_hex_digit, decode_sized}
+use Rattle.hex.specs.Hex.{IsBytes, is_hex_digit, decode_of, decode_sized, encode_lower}
 use Rattle.hex.specs.declared.error.FromHexError.{FromHexError}
-use Rattle.hex.proofs.HexLemmas.{IsOk-decode_sized}
-use Rattle.tame_records.specs.Checksums.{first_bad_digit}
+use Rattle.hex.proofs.HexLemmas.{IsOk-decode_sized, decode_of-ok, decode_of-encode_lower}
+use Rattle.tame_records.specs.Checksums.{chksum_of, first_bad_digit, hex_bytes, unless_bad}
+use Rattle.tame_records.specs.declared.checksums.Chksum.{Chksum}
+use Rattle.tame_records.specs.declared.checksums.ChksumParseError.{ChksumParseError}
 
 is_digit : (c : ℕ) → is_ascii_hexdigit c ≡ true → is_hex_digit c ≡ true
 is_digit c h = grind (arith, nat_tests)
@@ -33,3 +35,31 @@ pub decodes : (text : List ℕ) (result : Result Unit FromHexError) (out : List 
 decodes text result out e len good h is =
     let sized : length text ≡ 2 * 32 = omega arith in
     refuted (decode_sized text 32) result out e ((IsOk-decode_sized text 32).1 (sized, all_digits text good)) h is
+
+a_digit : (c : ℕ) → is_hex_digit c ≡ true → is_ascii_hexdigit c ≡ true
+a_digit c h = grind (arith, nat_tests)
+
+none_bad : (b : Bool) (x : ℕ) (rest : Option ℕ) → b ≡ true → rest ≡ None → cond (not b) (Some x) rest ≡ None
+none_bad true x rest h none = none
+none_bad false x rest h none = cc
+
+no_bad_digit : (text : List ℕ) → AllPass is_hex_digit text → first_bad_digit text ≡ None
+no_bad_digit [] all = refl
+no_bad_digit (c ∷ cs) all =
+    none_bad (is_ascii_hexdigit c) c (first_bad_digit cs) (a_digit c (all zero zero (omega arith)))
+    (no_bad_digit cs (λ k d low. all (suc k) d (omega (arith, low))))
+
+unless_none : (bad : Option ℕ) (bytes digest : List ℕ) → bad ≡ None → bytes ≡ digest → unless_bad bad bytes ≡ Ok (record { 0 = digest })
+unless_none bad bytes digest none is = rw (none, is) refl
+
+sized : (b : Bool) (x y : Result Chksum ChksumParseError) → b ≡ true → cond b x y ≡ x
+sized b x y h = rw h refl
+
+-- the digits of a digest parse to it
+pub parses : (text bytes : List ℕ) → text ≡ encode_lower bytes → length bytes ≡ 32 → IsBytes bytes → chksum_of text ≡ Ok (record { 0 = bytes })
+parses text bytes is len fits =
+    let back : decode_of text ≡ Ok bytes = rw is (decode_of-encode_lower bytes fits) in
+    let ok = decode_of-ok text bytes back in
+    let long : (length text == 64) ≡ true = grind (arith, nat_tests, ok.2, len) in
+    let out : hex_bytes text ≡ bytes = ap (λ (r : Result (List ℕ) FromHexError). result_unwrap_or r []) back in
+    sized _ _ _ long ∙ unless_none (first_bad_digit text) (hex_bytes text) bytes (no_bad_digit text ok.1) out

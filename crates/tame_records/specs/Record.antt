@@ -1,5 +1,5 @@
 -- The record of a line of the index (Cargo Book, "Registry Index", JSON schema).
-use Rattle.std.specs.Prelude.{ℕ, codes, List, Option, Some, None, option_map, option_and_then, if◌then◌else◌}
+use Rattle.std.specs.Prelude.{ℕ, codes, List, [], replicate, false, Option, Some, None, option_map, option_and_then, if◌then◌else◌}
 use Rattle.std.specs.Result.{result_ok}
 use Rattle.tame_names.specs.Utf8.{utf8_text}
 use Rattle.serde_json.specs.Data.{Data}
@@ -56,3 +56,7 @@ record_of line = option_and_then record_of_data (value_of line)
 -- the version's text and the yanked flag of a record
 abbrev pub head_of : IndexVersion → VersionHead
 head_of r = record { version = r.version; yanked = r.yanked }
+
+-- a version of this name and version's text that holds nothing else
+abbrev pub fake : List ℕ → List ℕ → IndexVersion
+fake name version = record { name = name; version = version; deps = []; checksum = record { 0 = replicate 32 0 }; yanked = false; links = None; rust_version = None; pubtime = None; features = []; features2 = None; v = None }

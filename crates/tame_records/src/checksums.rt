@@ -1,19 +1,27 @@
 //! SHA-256 digests as hex text.
-ghost use Rattle.std.specs.Prelude.{◌≡◌};
+ghost use Rattle.std.specs.Prelude.{◌≡◌, Some, Ok, IfOk};
+ghost use Rattle.hex.specs.Hex.{encode_lower};
 ghost use Rattle.tame_records.specs.Checksums.{chksum_of, first_bad_digit};
 
-use hex::decode_to_slice;
+use hex::{decode_to_slice, encode, encode_to_slice};
+use std::alloc::Global;
+use std::fmt;
+use std::str::FromStr;
+use tame_names::{NoMemory, Text};
+use thiserror::Error as ThisError;
 
 /// The SHA-256 digest of a crate file.
 #[derive(Clone, PartialEq, Eq, Drop)]
 pub struct Chksum(pub [u8; 32]);
 
 /// Why a text isn't the hex form of a digest.
-#[derive(Clone, Copy, Debug, PartialEq, Eq)]
+#[derive(Clone, Copy, Debug, PartialEq, Eq, ThisError)]
 pub enum ChksumParseError {
     /// The text has this number of bytes, and not 64.
+    #[error("expected string with length 64 but got length {0}")]
     InvalidLength(usize),
     /// The first byte that is no hex digit, as the character of that number.
+    #[error("encountered non-hex character '{0}'")]
     InvalidValue(char),
 }
 
@@ -21,6 +29,16 @@ fn first_bad_digit(text: &str) -> Option<u8>
     ensures { result ≡ first_bad_digit text.now }
 {
     text.bytes().find(|byte| !byte.is_ascii_hexdigit())
+}
+
+fn digits_of(alloc: Global, bytes: &[u8; 32]) -> Result<Text, NoMemory>
+    ensures digits { IfOk result (λ t. t ≡ encode_lower bytes.now) }
+    ensures parses { IfOk result (λ t. chksum_of t ≡ Ok (record { 0 = bytes.now })) }
+{
+    match encode(alloc, bytes.as_slice()) {
+        Ok(text) => Ok(Text::from_string(text)),
+        Err(_) => Err(NoMemory),
+    }
 }
 
 impl Chksum {
@@ -39,5 +57,52 @@ impl Chksum {
             Ok(()) => Ok(Chksum(bytes)),
             Err(_) => unreachable!(),
         }
+    }
+}
+
+impl Chksum {
+    /// The digest as 64 hex digits, the letters in lower case.
+    pub fn to_text(&self, alloc: Global) -> Result<Text, NoMemory>
+        ensures digits { IfOk result (λ t. t ≡ encode_lower self.now.0) }
+        // it parses to the digest again
+        ensures parses { IfOk result (λ t. chksum_of t ≡ Ok self.now) }
+    {
+        digits_of(alloc, &self.0)
+    }
+
+    /// Writes the 64 hex digits.
+    fn write_digits<W: fmt::Write>(&self, f: &mut fmt::Formatter<W>) -> fmt::Result {
+        let mut digits = [0u8; 64];
+        if encode_to_slice(self.0.as_slice(), &mut digits).is_err() {
+            return Err(fmt::Error);
+        }
+        match std::str::from_utf8(&digits) {
+            Ok(text) => f.write_str(text),
+            Err(_) => Err(fmt::Error),
+        }
+    }
+}
+
+impl FromStr for Chksum {
+    type Err = ChksumParseError;
+
+    ghost from_str_gives = { λ text r. r ≡ chksum_of text };
+
+    fn from_str(text: &str) -> Result<Chksum, ChksumParseError> {
+        Chksum::parse(text)
+    }
+}
+
+impl fmt::Display for Chksum {
+    fn fmt<W: fmt::Write>(&self, f: &mut fmt::Formatter<W>) -> fmt::Result {
+        self.write_digits(f)
+    }
+}
+
+impl fmt::Debug for Chksum {
+    fn fmt<W: fmt::Write>(&self, f: &mut fmt::Formatter<W>) -> fmt::Result {
+        f.write_str("Chksum { sha-256: \"")?;
+        self.write_digits(f)?;
+        f.write_str("\" }")
     }
 }

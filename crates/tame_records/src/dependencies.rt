@@ -1,12 +1,15 @@
 //! Dependencies of a version.
-ghost use Rattle.std.specs.Prelude.{◌≡◌, option_map, IfOk};
+ghost use Rattle.std.specs.Prelude.{◌≡◌, ◌⊎◌, ◌↔◌, IsTrue, map, option_map, unwrap_or, Ok, Err, IfOk, IfErr, IsErr};
+ghost use Rattle.semver.specs.Parse.{memory_error, req_of};
+ghost use Rattle.semver.specs.Identifiers.{comparator_view};
 ghost use Rattle.serde_json.specs.View.{view, items_view};
 ghost use Rattle.tame_records.specs.Dependencies.{dependency_of, dependencies_of, kind_named, kind_of};
 
 use crate::members::{copy, text_or_null, texts_of};
 use serde_json::Value;
-use std::alloc::Global;
-use tame_names::{Items, NoMemory, Text};
+use semver::VersionReq;
+use std::alloc::{AllocError, Global};
+use tame_names::{Error, Items, NoMemory, Text};
 
 /// What a dependency is used for.
 #[derive(Clone, Copy, Debug, PartialEq, Eq)]
@@ -31,6 +34,82 @@ pub struct IndexDependency {
     pub kind: DependencyKind,
     /// The crate's own name, where `name` isn't that.
     pub package: Option<Text>,
+}
+
+impl IndexDependency {
+    /// The features that it asks for.
+    pub fn features(&self) -> &[Text]
+        ensures { result.now ≡ self.now.features }
+    {
+        self.features.as_slice()
+    }
+
+    /// Whether it is optional.
+    pub fn is_optional(&self) -> bool
+        ensures { result ≡ self.now.optional }
+    {
+        self.optional
+    }
+
+    /// Whether it asks for the default features.
+    pub fn has_default_features(&self) -> bool
+        ensures { result ≡ self.now.default_features }
+    {
+        self.default_features
+    }
+
+    /// The platform that it is for; none: every platform.
+    pub fn target(&self) -> Option<&str>
+        ensures { option_map (λ t. t.now) result ≡ self.now.target }
+    {
+        self.target.as_ref().map(Text::as_str)
+    }
+
+    /// What it is used for.
+    pub fn kind(&self) -> DependencyKind
+        ensures { result ≡ self.now.kind }
+    {
+        self.kind
+    }
+
+    /// The crate's own name, where `name` isn't that.
+    pub fn package(&self) -> Option<&str>
+        ensures { option_map (λ t. t.now) result ≡ self.now.package }
+    {
+        self.package.as_ref().map(Text::as_str)
+    }
+
+    /// The crate's own name.
+    pub fn crate_name(&self) -> &str
+        ensures { result.now ≡ unwrap_or self.now.package self.now.name }
+    {
+        match &self.package {
+            Some(package) => package.as_str(),
+            None => self.name.as_str(),
+        }
+    }
+
+    /// The requirement on its version; `Semver` where its text is none.
+    pub fn version_requirement(&self, alloc: Global) -> Result<VersionReq, Error>
+        ensures ok { IfOk result (λ r. req_of self.now.req ≡ Ok (map comparator_view r.comparators.items)) }
+        ensures semver { result ≡ Err Error.Semver → IsErr (req_of self.now.req) }
+        ensures only { IfErr result (λ e. (e ≡ Error.Semver) ⊎ (e ≡ Error.NoMemory)) }
+    {
+        match VersionReq::parse(alloc, self.req.as_str()) {
+            Ok(requirement) => Ok(requirement),
+            Err(error) => Err(if is_memory(error) {
+                Error::NoMemory
+            } else {
+                Error::Semver
+            }),
+        }
+    }
+}
+
+fn is_memory(error: semver::Error) -> bool
+    ensures { IsTrue result ↔ (error ≡ memory_error) }
+{
+    error == semver::Error::from(AllocError)
 }
 
 fn kind_of(member: Option<&Value>) -> Option<DependencyKind>

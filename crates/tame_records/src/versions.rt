@@ -2,7 +2,7 @@
 ghost use Rattle.std.specs.Prelude.{◌≡◌, IfOk, IfErr, Some, None, option_map};
 ghost use Rattle.serde_json.specs.View.{view, items_view, members_view};
 ghost use Rattle.serde_json.specs.Read.{read};
-ghost use Rattle.tame_records.specs.Record.{chksum_of_data, head_of, optional_of, record_of, record_of_data};
+ghost use Rattle.tame_records.specs.Record.{chksum_of_data, fake, head_of, optional_of, record_of, record_of_data};
 ghost use Rattle.serde_json.specs.Written.{has_float, items_have_float, members_have_float};
 
 use crate::checksums::Chksum;
@@ -222,6 +222,63 @@ impl IndexVersion {
             Some(version) => Ok(version),
             None => Err(LineFault::Json),
         }
+    }
+
+    /// A version of this name and this version's text: without dependencies and features, with
+    /// a digest of zeros, not yanked, and with nothing else.
+    pub fn fake(alloc: Global, name: &str, version: &str) -> Result<IndexVersion, NoMemory>
+        ensures { IfOk result (λ r. r ≡ fake name.now version.now) }
+    {
+        let name = Text::of(alloc, name)?;
+        let version = Text::of(alloc, version)?;
+        Ok(IndexVersion {
+            name,
+            version,
+            deps: Items::new(alloc),
+            checksum: Chksum([0; 32]),
+            yanked: false,
+            links: None,
+            rust_version: None,
+            pubtime: None,
+            features: Features::new(alloc),
+            features2: None,
+            v: None,
+        })
+    }
+
+    /// Its dependencies.
+    pub fn dependencies(&self) -> &[IndexDependency]
+        ensures { result.now ≡ self.now.deps }
+    {
+        self.deps.as_slice()
+    }
+
+    /// The bytes of its digest.
+    pub fn checksum(&self) -> &[u8; 32]
+        ensures { result.now ≡ self.now.checksum.0 }
+    {
+        &self.checksum.0
+    }
+
+    /// The native library that it links to.
+    pub fn links(&self) -> Option<&str>
+        ensures { option_map (λ t. t.now) result ≡ self.now.links }
+    {
+        self.links.as_ref().map(Text::as_str)
+    }
+
+    /// Whether it is yanked.
+    pub fn is_yanked(&self) -> bool
+        ensures { result ≡ self.now.yanked }
+    {
+        self.yanked
+    }
+
+    /// The least version of Rust that it wants.
+    pub fn rust_version(&self) -> Option<&str>
+        ensures { option_map (λ t. t.now) result ≡ self.now.rust_version }
+    {
+        self.rust_version.as_ref().map(Text::as_str)
     }
 
     /// What an audit keeps of it.

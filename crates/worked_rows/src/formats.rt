@@ -1,7 +1,9 @@
 //! Tables of formats. The values come from the built Rust crates.
 use std::test::Fail;
 use tame_entry::{JsonLines, OwnedRevision};
-use tame_names::{InvalidJsonLines, InvalidKrateName, KrateName, Text, split, utf8_text};
+use tame_names::{
+    InvalidJsonLines, InvalidKrateName, KrateName, ReservedNameKind, Text, split, utf8_text,
+};
 use tame_records::{Chksum, ChksumParseError, IndexVersion, LineFault};
 use tame_sparse::crates_io_request;
 
@@ -71,6 +73,68 @@ fn names(rt: HostRuntime) -> Result<(), Fail> {
         };
         assert!(rt; refused == want, "at {name:?}");
     }
+    Ok(())
+}
+
+#[test]
+fn names_of_cargo(rt: HostRuntime) -> Result<(), Fail> {
+    let long = "aaaaaaaabbbbbbbbccccccccddddddddaaaaaaaabbbbbbbbccccccccddddddddxxxxxxx";
+    assert!(rt; KrateName::crates_io(long).err() == Some(InvalidKrateName::InvalidLength(71)));
+    assert_eq!(rt; KrateName::cargo(long)?.as_str(), long);
+    assert!(rt; KrateName::crates_io(&long[..64]).is_ok());
+    let cases = [
+        (
+            "no.pe",
+            InvalidKrateName::InvalidCharacter {
+                invalid: '.',
+                index: 2,
+            },
+        ),
+        (
+            "3nop",
+            InvalidKrateName::InvalidCharacter {
+                invalid: '3',
+                index: 0,
+            },
+        ),
+        (
+            "-a.",
+            InvalidKrateName::InvalidCharacter {
+                invalid: '-',
+                index: 0,
+            },
+        ),
+        ("", InvalidKrateName::InvalidLength(0)),
+    ];
+    for (name, want) in cases {
+        assert!(rt;
+            KrateName::crates_io(name).err() == Some(want),
+            "at {name:?}"
+        );
+        assert!(rt; KrateName::cargo(name).err() == Some(want), "at {name:?}");
+    }
+    let reserved = [
+        ("Self", ReservedNameKind::Keyword),
+        ("yield", ReservedNameKind::Keyword),
+        ("incremental", ReservedNameKind::Artifact),
+        ("com1", ReservedNameKind::Windows),
+        ("lpt9", ReservedNameKind::Windows),
+        ("proc-macro", ReservedNameKind::Standard),
+        ("test", ReservedNameKind::Standard),
+    ];
+    for (name, want) in reserved {
+        let Err(InvalidKrateName::ReservedName { reserved, kind }) = KrateName::cargo(name) else {
+            return Err(Fail::from("not reserved"));
+        };
+        assert_eq!(rt; reserved, name);
+        assert!(rt; kind == want, "at {name}");
+    }
+    for name in ["self_", "SELF", "Con", "_", "a"] {
+        assert!(rt; KrateName::cargo(name).is_ok(), "at {name}");
+    }
+    let mut folders = String::from_str(rt.alloc(), "x")?;
+    KrateName::from_static("ABc").prefix(&mut folders, '/')?;
+    assert_eq!(rt; folders.as_str(), "x3/A");
     Ok(())
 }
 
@@ -187,11 +251,12 @@ fn real_line(rt: HostRuntime) -> Result<(), Fail> {
     };
     assert_eq!(rt; version.name.as_str(), "tiny-json");
     assert_eq!(rt; version.deps.as_slice().len(), 2);
-    let package = version.deps.as_slice()[0]
-        .package
-        .as_ref()
-        .map(Text::as_str);
-    assert!(rt; package == Some("old-codec"));
+    let dependency = &version.deps.as_slice()[0];
+    assert!(rt; dependency.package() == Some("old-codec"));
+    assert_eq!(rt; dependency.crate_name(), "old-codec");
+    assert!(rt; dependency.target() == Some("cfg(unix)"));
+    assert!(rt; dependency.is_optional() && !dependency.has_default_features());
+    assert!(rt; dependency.version_requirement(rt.alloc()).is_ok());
     assert!(rt; version.rust_version.as_ref().map(Text::as_str) == Some("1.70"));
     let head = version.into_head();
     assert_eq!(rt; head.version.as_str(), "1.2.0");

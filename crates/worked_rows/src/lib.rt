@@ -8,4 +8,8 @@ mod host;
 #[cfg(test)]
 mod lockfiles;
 #[cfg(test)]
+mod messages;
+#[cfg(test)]
+mod real_form;
+#[cfg(test)]
 mod runs;

@@ -180,15 +180,25 @@ fn lockfile_that_cannot_be_read(rt: HostRuntime) -> Result<(), Fail> {
         reads: &[1],
         puts: &[],
     };
-    let cases: [(Option<&[u8]>, Failing<'_>, &str); 5] = [
-        (None, NOTHING, "Missing { path: \"Cargo.lock\" }"),
-        (Some(b"version = 4"), reads, "File { path: \"Cargo.lock\" }"),
-        (Some(b"\xff"), NOTHING, "NotUtf8 { path: \"Cargo.lock\" }"),
-        (Some(b"= 4"), NOTHING, "Lockfile(Toml)"),
-        (Some(b"x = 1.5"), NOTHING, "Lockfile(Float)"),
+    let cases: [(&str, &[u8], Failing<'_>, &str); 5] = [
+        ("other", b"", NOTHING, "Missing { path: \"Cargo.lock\" }"),
+        (
+            "Cargo.lock",
+            b"version = 4",
+            reads,
+            "File { path: \"Cargo.lock\" }",
+        ),
+        (
+            "Cargo.lock",
+            b"\xff",
+            NOTHING,
+            "NotUtf8 { path: \"Cargo.lock\" }",
+        ),
+        ("Cargo.lock", b"= 4", NOTHING, "Lockfile(Toml)"),
+        ("Cargo.lock", b"x = 1.5", NOTHING, "Lockfile(Float)"),
     ];
-    for (bytes, failing, want) in cases {
-        let file = bytes.map(|bytes| ("Cargo.lock", bytes));
+    for (path, bytes, failing, want) in cases {
+        let file = Some((path, bytes));
         let ran = run_words(&rt, &words, file, Items::new(rt.alloc()), failing)?;
         assert_eq!(rt; name_of(&rt, &ran.outcome.fault)?.as_str(), want);
         assert_eq!(rt; ran.outcome.status, 2);
