@@ -6,8 +6,8 @@ ghost use Rattle.serde_json.specs.View.{view, items_view};
 ghost use Rattle.tame_records.specs.Dependencies.{dependency_of, dependencies_of, kind_named, kind_of};
 
 use crate::members::{copy, text_or_null, texts_of};
-use serde_json::Value;
 use semver::VersionReq;
+use serde_json::Value;
 use std::alloc::{AllocError, Global};
 use tame_names::{Error, Items, NoMemory, Text};
 
