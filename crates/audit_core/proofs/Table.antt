@@ -3,7 +3,8 @@ use Rattle.std.proofs.Common.{◌≡◌, ℕ, ◌+◌, List, [], ◌∷◌, ◌+
 use Rattle.std.specs.Prelude.{bytes_eq, find, filter, ◌||◌, ◌==◌}
 use Rattle.std.specs.List.{enumerate_from, cons_option}
 use Rattle.tame_names.specs.Names.{path}
-use Rattle.tame_entry.specs.Lines.{lines, valid}
+use Rattle.tame_entry.specs.Lines.{valid}
+use Rattle.tame_records.specs.Lines.{lines}
 use Rattle.tame_entry.specs.Says.{heads_of}
 use Rattle.tame_entry.specs.declared.revisions.OwnedRevision.{OwnedRevision}
 use Rattle.tame_sparse.specs.declared.network.Exchange.{Exchange}

@@ -1,6 +1,7 @@
 -- What an answer says of every version of its crate: the table of verdicts, read once for a path.
 use Rattle.std.specs.Prelude.{ℕ, List, ◌==◌, Option, Some, None, if◌then◌else◌}
-use Rattle.tame_entry.specs.Lines.{lines, valid}
+use Rattle.tame_entry.specs.Lines.{valid}
+use Rattle.tame_records.specs.Lines.{lines}
 use Rattle.tame_entry.specs.Says.{heads_of, said_of}
 use Rattle.tame_sparse.specs.declared.network.WireAnswer.{WireAnswer}
 use Rattle.audit_core.specs.Verdicts.{status_says_absent, verdict_said}

@@ -1,7 +1,8 @@
 -- What an audit says of a package.
 use Rattle.std.specs.Prelude.{◌≡◌, ◌≢◌, ℕ, List, [], ◌∷◌, Bool, true, false, ◌==◌, ◌||◌, Option, Some, None, option_map, bytes_eq, find, if◌then◌else◌, MatchOption, IsSomeAnd}
 use Rattle.tame_names.specs.Names.{path}
-use Rattle.tame_entry.specs.Lines.{lines, valid}
+use Rattle.tame_entry.specs.Lines.{valid}
+use Rattle.tame_records.specs.Lines.{lines}
 use Rattle.tame_entry.specs.Says.{says}
 use Rattle.tame_entry.specs.declared.said.Said.{Said}
 use Rattle.tame_entry.specs.declared.said.Said.TheVariants as said

@@ -1,6 +1,7 @@
 //! What an answer says of every version of a crate.
 ghost use Rattle.std.specs.Prelude.{◌≡◌, IfOk, Some};
-ghost use Rattle.tame_entry.specs.Lines.{invalid, lines, valid};
+ghost use Rattle.tame_entry.specs.Lines.{invalid, valid};
+ghost use Rattle.tame_records.specs.Lines.{lines};
 ghost use Rattle.audit_core.specs.Answers.{answer_of, body_answer, verdict_by};
 
 use crate::verdicts::{Cause, Verdict};

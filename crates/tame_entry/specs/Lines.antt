@@ -1,17 +1,8 @@
 -- The body of an index file: a JSON object a line (Cargo Book, "Registry Index", index files).
-use Rattle.std.specs.Prelude.{ℕ, ◌-◌, List, [], ◌∷◌, length, slice_index, Bool, not, nat_le, ◌==◌, ◌&&◌, Option, Some, is_none, option_map, position, if◌then◌else◌}
-use Rattle.tame_names.specs.Pieces.{pieces}
+use Rattle.std.specs.Prelude.{ℕ, ◌-◌, List, length, slice_index, Bool, not, nat_le, ◌==◌, ◌&&◌, Option, Some, is_none, option_map, position, if◌then◌else◌}
+use Rattle.tame_records.specs.Lines.{lines, trimmed}
 use Rattle.tame_names.specs.declared.errors.InvalidJsonLines.{InvalidJsonLines}
 use Rattle.tame_names.specs.declared.errors.InvalidJsonLines.TheVariants.{Empty, NotJson}
-
--- a body without the newlines that end it
-abbrev pub trimmed : List ℕ → List ℕ
-trimmed [] = []
-trimmed (b ∷ bs) = if b == 10 && length (trimmed bs) == 0 then [] else b ∷ trimmed bs
-
--- the lines: what is left, cut at its newlines; nothing but newlines has no line
-abbrev pub lines : List ℕ → List (List ℕ)
-lines body = pieces 10 (trimmed body)
 
 -- two bytes or more, the first `{` and the last `}`
 abbrev pub is_object_line : List ℕ → Bool

@@ -1,26 +1,17 @@
 //! The body of an index file, cut into lines.
 ghost use Rattle.std.specs.Prelude.{◌≡◌, List, ℕ, IfOk, IfErr, Some, None, position, not};
-ghost use Rattle.tame_entry.specs.Lines.{invalid, is_object_line, lines, trimmed};
+ghost use Rattle.tame_entry.specs.Lines.{invalid, is_object_line};
+ghost use Rattle.tame_records.specs.Lines.{lines, trimmed};
 ghost use Rattle.tame_names.specs.Pieces.{pieces};
 
 use tame_names::{InvalidJsonLines, SplitIter, split};
+use tame_records::trimmed;
 
 /// Lines that each look like a JSON object: two bytes or more, the first `{` and the last `}`.
 /// There is one line at least.
 #[derive(Clone, Copy)]
 pub struct JsonLines<'r> {
     text: &'r [u8],
-}
-
-/// The bytes without the newlines that end them.
-fn trimmed(bytes: &[u8]) -> &[u8]
-    ensures { result.now ≡ trimmed bytes.now }
-{
-    let mut end = bytes.len();
-    while end > 0 && bytes[end - 1] == b'\n' {
-        end -= 1;
-    }
-    &bytes[..end]
 }
 
 fn is_object_line(line: &[u8]) -> bool

@@ -1,2 +1,4 @@
 pub mod Ahead
 pub mod Digits
+pub mod Trims
+pub mod KrateLemmas

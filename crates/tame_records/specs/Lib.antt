@@ -1,4 +1,6 @@
 pub mod Checksums
 pub mod Dependencies
+pub mod Krates
+pub mod Lines
 pub mod Members
 pub mod Record

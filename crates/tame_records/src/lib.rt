@@ -3,10 +3,14 @@
 
 mod checksums;
 mod dependencies;
+mod krates;
+mod lines;
 mod members;
 mod versions;
 
 pub use checksums::{Chksum, ChksumParseError};
 pub use dependencies::{DependencyKind, IndexDependency};
+pub use krates::IndexKrate;
+pub use lines::trimmed;
 pub use members::FeatureMap;
 pub use versions::{IndexVersion, LineFault, VersionHead};

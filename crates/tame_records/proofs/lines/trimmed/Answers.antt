@@ -1,8 +1,8 @@
 use Rattle.std.proofs.Common.{◌≡◌, take, sym, ◌∙◌, ap, arith}
-use Rattle.tame_entry.specs.Lines.{trimmed}
-use Rattle.tame_entry.proofs.Trims.{newline_before, other_before}
-use Rattle.tame_entry.proofs.json_lines.trimmed.Goals as goal
-use Rattle.tame_entry.proofs.json_lines.trimmed.Goals.{then-loop-end-test+else-bytes-end-eq10, else-loop-end-test}
+use Rattle.tame_records.specs.Lines.{trimmed}
+use Rattle.tame_records.proofs.Trims.{newline_before, other_before}
+use Rattle.tame_records.proofs.lines.trimmed.Goals as goal
+use Rattle.tame_records.proofs.lines.trimmed.Goals.{then-loop-end-test+else-bytes-end-eq10, else-loop-end-test}
 
 pub loop-end-preserved : goal.loop-end-preserved
 loop-end-preserved c = record {

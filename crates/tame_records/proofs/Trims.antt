@@ -2,7 +2,7 @@
 use Rattle.std.proofs.Common.{◌≡◌, ℕ, zero, suc, ◌<◌, ◌==◌, List, [], ◌∷◌, length, take, get_or, Bool, true, false, cond, refl, sym, ap, ◌∙◌, ◌≤◌, ◌-◌, arith}
 use Rattle.std.specs.Prelude.{◌&&◌}
 use Rattle.std.proofs.lemmas.Bool.Decides.{nat_tests}
-use Rattle.tame_entry.specs.Lines.{trimmed}
+use Rattle.tame_records.specs.Lines.{trimmed}
 
 -- a newline at the end makes no difference
 pub trimmed-newline : (bs : List ℕ) (k : ℕ) → k < length bs → get_or bs k 0 ≡ 10 → trimmed (take (suc k) bs) ≡ trimmed (take k bs)

@@ -1,6 +1,6 @@
 use Rattle.std.proofs.Common.{◌≡◌, ◌≤◌, length, take}
-use Rattle.tame_entry.specs.Lines.{trimmed}
-use Rattle.tame_entry.proofs.json_lines.trimmed.Given as goal
+use Rattle.tame_records.specs.Lines.{trimmed}
+use Rattle.tame_records.proofs.lines.trimmed.Given as goal
 
 -- the bytes behind the end are newlines
 abbrev pub invariant-loop-end : goal.invariant-loop-end

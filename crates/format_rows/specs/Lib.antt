@@ -1,0 +1,1 @@
+-- Tests alone: no definition of its own.

@@ -1,0 +1,11 @@
+//! Tests of the formats: tables whose values come from the built Rust crates.
+#![tactic(auto)]
+
+#[cfg(test)]
+mod formats;
+#[cfg(test)]
+mod krates;
+#[cfg(test)]
+mod lockfiles;
+#[cfg(test)]
+mod messages;

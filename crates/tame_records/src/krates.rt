@@ -1,0 +1,93 @@
+//! The versions of a crate.
+ghost use Rattle.std.specs.Prelude.{◌≡◌, ◌≢◌, ◌⊎◌, ◌<◌, ◌-◌, length, slice_get, option_map, Some, None, Ok, Err, IfOk, IfErr};
+ghost use Rattle.tame_names.specs.Counts.{Rose};
+ghost use Rattle.tame_names.specs.Pieces.{pieces};
+ghost use Rattle.tame_records.specs.Krates.{IsRead, IsReadAt, first_unread, records_of, unread};
+ghost use Rattle.tame_records.specs.Lines.{lines, trimmed};
+ghost use Rattle.tame_records.specs.declared.versions.IndexVersion.{IndexVersion};
+
+use crate::lines::trimmed;
+use crate::versions::{IndexVersion, LineFault};
+use std::alloc::Global;
+use tame_names::{Error, FileFault, Files, IoKind, Items, ReadAnswer, split};
+
+/// The versions of a crate, in the order in which they were published.
+#[derive(Drop)]
+pub struct IndexKrate {
+    pub versions: Items<IndexVersion>,
+}
+
+/// The records of the lines of a text.
+fn records_of(alloc: Global, text: &[u8]) -> Result<Items<IndexVersion>, Error>
+    ensures ok { IfOk result (λ vs. (records_of (pieces 10 text.now) ≡ Some vs) × (first_unread (pieces 10 text.now) ≡ None)) }
+    ensures refused { IfErr result (λ e. (e ≡ Error.NoMemory) ⊎ (option_map (λ n. Error.Json n) (first_unread (pieces 10 text.now)) ≡ Some e)) }
+{
+    let mut versions = Items::new(alloc);
+    for line in split(text, b'\n') {
+        match IndexVersion::read_line(alloc, line) {
+            Ok(version) => versions.add(version)?,
+            Err(LineFault::Json) => {
+                let line = versions.as_slice().len() as u64;
+                return Err(Error::Json { line });
+            }
+            Err(LineFault::NoMemory) => return Err(Error::NoMemory),
+        }
+    }
+    Ok(versions)
+}
+
+impl IndexKrate {
+    /// The versions in the index file at a path; `Io(NotFound)` where nothing is there,
+    /// `Io(Failed)` where it can't be read, else as `from_slice`.
+    pub fn new<F: Files>(alloc: Global, files: &mut F, path: &str) -> Result<IndexKrate, Error>
+        ensures read { F.tells → IsReadAt (F.stands files.old path.now) result }
+        ensures failed { result ≡ Err (Error.Io IoKind.Failed) → Rose (F.faults files.old) (F.faults files.new) }
+    {
+        match files.read(alloc, path, u64::MAX) {
+            Ok(ReadAnswer::Whole(bytes)) => IndexKrate::from_slice(alloc, bytes.as_slice()),
+            Ok(ReadAnswer::Absent) => Err(Error::Io(IoKind::NotFound)),
+            Ok(ReadAnswer::Over(_)) => unreachable!(),
+            Err(FileFault::Failed) => Err(Error::Io(IoKind::Failed)),
+            Err(FileFault::NoMemory) => Err(Error::NoMemory),
+        }
+    }
+
+    /// The versions that the lines of a body are, newlines at its end left out. A body without
+    /// a line is refused with `NoCrateVersions`, else `Json` tells the first line that has no
+    /// record.
+    pub fn from_slice(alloc: Global, bytes: &[u8]) -> Result<IndexKrate, Error>
+        ensures { IsRead bytes.now result }
+    {
+        let text = trimmed(bytes);
+        if text.is_empty() {
+            return Err(Error::NoCrateVersions);
+        }
+        let versions = records_of(alloc, text)?;
+        Ok(IndexKrate { versions })
+    }
+
+    /// The name of the first version. There has to be one.
+    pub fn name(&self) -> &str
+        requires { 0 < length self.now.versions }
+        ensures { (first : IndexVersion) → slice_get self.now.versions 0 ≡ Some first → result.now ≡ first.name }
+    {
+        self.earliest_version().name.as_str()
+    }
+
+    /// The first version. There has to be one.
+    pub fn earliest_version(&self) -> &IndexVersion
+        requires { 0 < length self.now.versions }
+        ensures { slice_get self.now.versions 0 ≡ Some result.now }
+    {
+        &self.versions.as_slice()[0]
+    }
+
+    /// The last version. There has to be one.
+    pub fn most_recent_version(&self) -> &IndexVersion
+        requires { 0 < length self.now.versions }
+        ensures { slice_get self.now.versions (length self.now.versions - 1) ≡ Some result.now }
+    {
+        let versions = self.versions.as_slice();
+        &versions[versions.len() - 1]
+    }
+}
