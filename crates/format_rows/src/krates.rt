@@ -3,13 +3,13 @@ use std::test::Fail;
 use tame_names::{Error, IoKind, Items, MemFile, MemFiles, Text};
 use tame_records::IndexKrate;
 
-/// Index lines of these versions of the crate `a`.
-fn body(rt: &HostRuntime, versions: &[&str]) -> Result<String, Fail> {
+/// Index lines of these versions of the crate `a`, each with its yanked flag.
+fn body(rt: &HostRuntime, versions: &[(&str, bool)]) -> Result<String, Fail> {
     let digest = "0000000000000000000000000000000000000000000000000000000000000000";
     let mut text = String::new(rt.alloc());
-    for version in versions {
+    for (version, yanked) in versions {
         let line = format!(in rt.alloc();
-            "{{\"name\":\"a\",\"vers\":\"{version}\",\"deps\":[],\"cksum\":\"{digest}\",\"features\":{{}}}}\n"
+            "{{\"name\":\"a\",\"vers\":\"{version}\",\"deps\":[],\"cksum\":\"{digest}\",\"features\":{{}},\"yanked\":{yanked}}}\n"
         )?;
         text.push_str(line.as_str())?;
     }
@@ -18,13 +18,39 @@ fn body(rt: &HostRuntime, versions: &[&str]) -> Result<String, Fail> {
 
 #[test]
 fn versions(rt: HostRuntime) -> Result<(), Fail> {
-    let list = ["0.1.0", "0.1.1", "0.1.0", "0.2.0", "0.5.0"];
+    let list = [
+        ("0.1.0", false),
+        ("0.1.1", false),
+        ("0.1.0", false),
+        ("0.2.0", false),
+        ("0.3.0", false),
+        ("0.4.0", false),
+        ("0.4.0-alpha.00", false),
+        ("0.5.0", true),
+    ];
     let text = body(&rt, list.as_slice())?;
     let krate = IndexKrate::from_slice(rt.alloc(), text.as_bytes())?;
-    assert_eq!(rt; krate.versions.as_slice().len(), 5);
+    assert_eq!(rt; krate.versions.as_slice().len(), 8);
     assert_eq!(rt; krate.name(), "a");
     assert_eq!(rt; krate.earliest_version().version.as_str(), "0.1.0");
     assert_eq!(rt; krate.most_recent_version().version.as_str(), "0.5.0");
+    let highest = krate.highest_version(rt.alloc())?;
+    assert_eq!(rt; highest.version.as_str(), "0.5.0");
+    let Some(normal) = krate.highest_normal_version(rt.alloc())? else {
+        return Err(Fail::from("no normal version"));
+    };
+    assert_eq!(rt; normal.version.as_str(), "0.4.0");
+    Ok(())
+}
+
+#[test]
+fn no_normal_version(rt: HostRuntime) -> Result<(), Fail> {
+    let list = [("1.0.0-rc.1", false), ("1", false), ("0.1.0", true)];
+    let text = body(&rt, list.as_slice())?;
+    let krate = IndexKrate::from_slice(rt.alloc(), text.as_bytes())?;
+    assert!(rt; krate.highest_normal_version(rt.alloc())?.is_none());
+    let highest = krate.highest_version(rt.alloc())?;
+    assert_eq!(rt; highest.version.as_str(), "1.0.0-rc.1");
     Ok(())
 }
 
@@ -33,7 +59,7 @@ fn refused(rt: HostRuntime) -> Result<(), Fail> {
     let Err(Error::NoCrateVersions) = IndexKrate::from_slice(rt.alloc(), b"\n\n") else {
         return Err(Fail::from("newlines alone"));
     };
-    let mut text = body(&rt, &["0.1.0"])?;
+    let mut text = body(&rt, &[("0.1.0", false)])?;
     text.push_str("{}\n{}\n")?;
     let Err(Error::Json { line: 1 }) = IndexKrate::from_slice(rt.alloc(), text.as_bytes()) else {
         return Err(Fail::from("the second line has no record"));
@@ -44,7 +70,7 @@ fn refused(rt: HostRuntime) -> Result<(), Fail> {
 #[test]
 fn files(rt: HostRuntime) -> Result<(), Fail> {
     let alloc = rt.alloc();
-    let text = body(&rt, &["0.1.0"])?;
+    let text = body(&rt, &[("0.1.0", false)])?;
     let mut there = Items::new(alloc);
     there.add(MemFile {
         path: Text::of(alloc, "1/a")?,

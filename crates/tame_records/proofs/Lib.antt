@@ -2,3 +2,4 @@ pub mod Ahead
 pub mod Digits
 pub mod Trims
 pub mod KrateLemmas
+pub mod Greatest

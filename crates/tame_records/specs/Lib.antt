@@ -1,5 +1,6 @@
 pub mod Checksums
 pub mod Dependencies
+pub mod Highest
 pub mod Krates
 pub mod Lines
 pub mod Members

@@ -106,7 +106,7 @@ impl IndexDependency {
     }
 }
 
-fn is_memory(error: semver::Error) -> bool
+pub fn is_memory(error: semver::Error) -> bool
     ensures { IsTrue result ↔ (error ≡ memory_error) }
 {
     error == semver::Error::from(AllocError)

@@ -3,6 +3,7 @@
 
 mod checksums;
 mod dependencies;
+mod highest;
 mod krates;
 mod lines;
 mod members;

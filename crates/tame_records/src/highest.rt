@@ -1,0 +1,117 @@
+//! The highest versions of a crate.
+ghost use Rattle.std.specs.Prelude.{◌≡◌, ◌<◌, [], length, map, slice_get, option_map, option_and_then, Some, None, Ok, IfOk, IsSomeAnd, MatchOption, true};
+ghost use Rattle.semver.specs.Identifiers.{parts_of};
+ghost use Rattle.itertools.specs.Extremes.{by_cmp_reversed, position_of, wins};
+ghost use Rattle.tame_records.specs.Highest.{highest_normal, if_normal, last_greatest, normal_rank, rank};
+
+use crate::dependencies::is_memory;
+use crate::krates::IndexKrate;
+use crate::versions::IndexVersion;
+use itertools::Itertools;
+use semver::Version;
+use std::alloc::Global;
+use tame_names::NoMemory;
+
+/// The version that its text is.
+fn rank(alloc: Global, version: &IndexVersion) -> Result<Option<Version>, NoMemory>
+    ensures { IfOk result (λ r. option_map parts_of r ≡ rank version.now) }
+{
+    match Version::parse(alloc, version.version.as_str()) {
+        Ok(version) => Ok(Some(version)),
+        Err(error) => {
+            if is_memory(error) {
+                Err(NoMemory)
+            } else {
+                Ok(None)
+            }
+        }
+    }
+}
+
+/// The version that its text is, where it isn't yanked and has no pre-release.
+fn normal_rank(alloc: Global, version: &IndexVersion) -> Result<Option<Version>, NoMemory>
+    ensures { IfOk result (λ r. option_map parts_of r ≡ normal_rank version.now) }
+{
+    if version.yanked {
+        return Ok(None);
+    }
+    match rank(alloc, version)? {
+        Some(found) if found.pre.is_empty() => Ok(Some(found)),
+        _ => Ok(None),
+    }
+}
+
+/// The place of the greatest item, of several the last.
+fn last_greatest<T: Ord + Drop>(items: Vec<T>) -> Option<usize>
+    ensures place { result ≡ position_of (wins true (by_cmp_reversed T.cmp)) items.items }
+    ensures within { MatchOption result (items.items ≡ []) (λ i. i < length items.items) }
+{
+    items.into_iter().position_max()
+}
+
+/// The place of the greatest rank, of several the last; having none is lowest.
+fn highest_place(ranks: Vec<Option<Version>>) -> Option<usize>
+    ensures place { result ≡ last_greatest (map (option_map parts_of) ranks.items) }
+    ensures within { MatchOption result (ranks.items ≡ []) (λ i. i < length ranks.items) }
+{
+    last_greatest(ranks)
+}
+
+fn ranks(alloc: Global, versions: &[IndexVersion]) -> Result<Vec<Option<Version>>, NoMemory>
+    ensures { IfOk result (λ rs. map (option_map parts_of) rs.items ≡ map rank versions.now) }
+{
+    let mut ranks = Vec::new(alloc);
+    for version in versions {
+        ranks.push(rank(alloc, version)?)?;
+    }
+    Ok(ranks)
+}
+
+fn normal_ranks(alloc: Global, versions: &[IndexVersion]) -> Result<Vec<Option<Version>>, NoMemory>
+    ensures { IfOk result (λ rs. map (option_map parts_of) rs.items ≡ map normal_rank versions.now) }
+{
+    let mut ranks = Vec::new(alloc);
+    for version in versions {
+        ranks.push(normal_rank(alloc, version)?)?;
+    }
+    Ok(ranks)
+}
+
+/// The version, where it has a normal rank.
+fn if_normal(alloc: Global, version: &IndexVersion) -> Result<Option<&IndexVersion>, NoMemory>
+    ensures { IfOk result (λ found. option_map (λ v. v.now) found ≡ if_normal version.now) }
+{
+    match normal_rank(alloc, version)? {
+        Some(_) => Ok(Some(version)),
+        None => Ok(None),
+    }
+}
+
+impl IndexKrate {
+    /// The greatest version, of several the last; a text that is no version is lowest. There has
+    /// to be a version (Semantic Versioning 2.0.0, section 11; then build metadata).
+    pub fn highest_version(&self, alloc: Global) -> Result<&IndexVersion, NoMemory>
+        requires { 0 < length self.now.versions }
+        ensures { IfOk result (λ v. IsSomeAnd (last_greatest (map rank self.now.versions)) (λ i. slice_get self.now.versions i ≡ Some v.now)) }
+    {
+        let versions = self.versions.as_slice();
+        let ranks = ranks(alloc, versions)?;
+        match highest_place(ranks) {
+            Some(place) => Ok(&versions[place]),
+            None => unreachable!(),
+        }
+    }
+
+    /// The greatest version that isn't yanked and has no pre-release, of several the last; none
+    /// where there is no such version.
+    pub fn highest_normal_version(&self, alloc: Global) -> Result<Option<&IndexVersion>, NoMemory>
+        ensures { IfOk result (λ found. option_map (λ v. v.now) found ≡ highest_normal self.now.versions) }
+    {
+        let versions = self.versions.as_slice();
+        let ranks = normal_ranks(alloc, versions)?;
+        let Some(place) = highest_place(ranks) else {
+            return Ok(None);
+        };
+        if_normal(alloc, &versions[place])
+    }
+}
