@@ -9,7 +9,7 @@ use std::rt::Files;
 use tame_names::ReadAnswer;
 
 /// Whether nothing can be at a path, by the error of a look at it.
-fn is_absent(kind: ErrorKind) -> bool {
+pub fn is_absent(kind: ErrorKind) -> bool {
     matches!(kind, ErrorKind::NotFound | ErrorKind::NotADirectory)
 }
 

@@ -1,9 +1,12 @@
 //! Each edge over a real folder.
-use crate::{MirrorWire, StdFiles, StdSink};
+use crate::{FileCacheDisk, MirrorWire, StdFiles, StdSink};
 use std::fs;
 use std::test::Fail;
-use tame_entry::OwnedRevision;
-use tame_names::{FileFault, Files, ReadAnswer, Sink, Text};
+use tame_cache::{CacheDisk, IndexCache, Kept, Peek};
+use tame_entry::{
+    CacheWrite, HttpRevision, IndexEntry, JsonLines, OwnedRevision, Revision, ValidCacheEntry,
+};
+use tame_names::{FileFault, FileLock, Files, KrateName, ReadAnswer, Sink, Text};
 use tame_sparse::{Request, Wire, WireFault, crates_io_request};
 
 fn whole(answer: Result<ReadAnswer, FileFault>) -> Option<Vec<u8>> {
@@ -84,5 +87,42 @@ fn mirror(rt: HostRuntime) -> Result<(), Fail> {
             == Some(WireFault::Failed)
     );
     assert_eq!(rt; wire.wire_faults(), 1);
+    Ok(())
+}
+
+#[test]
+fn cache_disk(rt: HostRuntime) -> Result<(), Fail> {
+    let alloc = rt.alloc();
+    let lock = FileLock::unlocked();
+    let cache = IndexCache::at_path(Text::of(alloc, "")?);
+    let name = KrateName::try_from("a")?;
+    let line =
+        b"{\"name\":\"a\",\"vers\":\"0.1.0\",\"deps\":[],\"cksum\":\"0000000000000000000000000000000000000000000000000000000000000000\",\"features\":{},\"yanked\":true}\n";
+    let written = CacheWrite::Remote(JsonLines::validate(line)?);
+    let revision = Revision::Http(HttpRevision::Etag("x"));
+    let mut disk = FileCacheDisk::new(&rt, "cache");
+    let Ok(None) = cache.read_cache_file(alloc, name, &lock, &mut disk) else {
+        return Err(Fail::from("an entry"));
+    };
+    let kept = cache.write_to_cache(alloc, name, written, &revision, &lock, &mut disk);
+    assert!(rt; kept.ok() == Some(Kept::Written));
+    let again = cache.write_to_cache(alloc, name, written, &revision, &lock, &mut disk);
+    assert!(rt; again.ok() == Some(Kept::Written));
+    assert_eq!(rt; disk.disk_faults(), 0);
+    let mut other = FileCacheDisk::new(&rt, "cache");
+    let Ok(Some(IndexEntry::Cache(file))) = cache.cached_krate(alloc, name, &lock, &mut other)
+    else {
+        return Err(Fail::from("no entry"));
+    };
+    assert_eq!(rt; file.as_slice().len(), 160);
+    assert!(rt; fs::read(&rt, "cache/.cache/1/a")?.as_slice() == file.as_slice());
+    let Ok(entry) = ValidCacheEntry::read(file.as_slice()) else {
+        return Err(Fail::from("not readable"));
+    };
+    assert!(rt; entry.revision == revision);
+    assert!(rt; other.peek(".cache/1/a/below").ok() == Some(Peek::Absent));
+    fs::create_dir_all(&rt, "cache/.cache/2/ab")?;
+    assert!(rt; other.cut(".cache/2/ab", 0).is_err());
+    assert_eq!(rt; other.disk_faults(), 1);
     Ok(())
 }

@@ -9,3 +9,5 @@ mod krates;
 mod lockfiles;
 #[cfg(test)]
 mod messages;
+#[cfg(test)]
+mod written;

@@ -1,5 +1,9 @@
+pub mod Commits
+pub mod Entry
 pub mod Held
+pub mod IndexEntries
 pub mod JsonLines
 pub mod Lines
+pub mod Raw
 pub mod Revision
 pub mod Says

@@ -1,5 +1,6 @@
 -- The body of an index file: a JSON object a line (Cargo Book, "Registry Index", index files).
 use Rattle.std.specs.Prelude.{ℕ, ◌-◌, List, length, slice_index, Bool, not, nat_le, ◌==◌, ◌&&◌, Option, Some, is_none, option_map, position, if◌then◌else◌}
+use Rattle.std.specs.List.{list_all}
 use Rattle.tame_records.specs.Lines.{lines, trimmed}
 use Rattle.tame_names.specs.declared.errors.InvalidJsonLines.{InvalidJsonLines}
 use Rattle.tame_names.specs.declared.errors.InvalidJsonLines.TheVariants.{Empty, NotJson}
@@ -16,3 +17,7 @@ invalid body =
 
 abbrev pub valid : List ℕ → Bool
 valid body = is_none (invalid body)
+
+-- valid, and no byte is zero
+abbrev pub plain : List ℕ → Bool
+plain body = valid body && list_all (λ b. not (b == 0)) body

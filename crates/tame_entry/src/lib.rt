@@ -1,11 +1,22 @@
-//! The lines of a crate in the index, what they say of a version, and the revisions that they
-//! are sent under.
+//! The lines of a crate in the index, what they say of a version, the revisions that they are
+//! sent and kept under, and the entries of the cache as bytes.
 #![tactic(auto)]
 
+mod entries;
+mod index_entries;
 mod json_lines;
+mod laws;
+mod raw;
 mod revisions;
 mod said;
+mod sha1;
+mod writes;
 
+pub use entries::{CURRENT_CACHE_VERSION, INDEX_V_MAX, ValidCacheEntry};
+pub use index_entries::{IndexEntry, IndexEntryVersion, LockedMmap};
 pub use json_lines::JsonLines;
-pub use revisions::OwnedRevision;
+pub use laws::entries_read_back;
+pub use revisions::{GitRevision, HttpRevision, OwnedRevision, Revision};
 pub use said::{Said, read_heads, said_of};
+pub use sha1::{HexBytes, Sha1Hex};
+pub use writes::CacheWrite;

@@ -1,14 +1,42 @@
-//! The revisions that bodies are sent under.
-ghost use Rattle.std.specs.Prelude.{◌≡◌, IfOk};
+//! The revisions that bodies are sent and kept under.
+ghost use Rattle.std.specs.Prelude.{◌≡◌, ◌++◌, length, IfOk, OnOk};
+ghost use Rattle.tame_names.specs.Output.{AddsPrefix, HasPutCause};
+ghost use Rattle.tame_entry.specs.Entry.{has_no_zero};
+ghost use Rattle.tame_entry.specs.Revision.{IsFormed, entry_name, entry_value, equal_revisions, http_value, revision_value, stored_value, written_text};
 
+use crate::raw::has_no_zero;
+use crate::sha1::Sha1Hex;
 use std::alloc::Global;
-use tame_names::{NoMemory, Text};
+use std::fmt;
+use tame_names::{NoMemory, Sink, SinkFault, Text};
 
 /// An HTTP revision of a body: its entity tag or its date (RFC 9110, sections 8.8.2 and 8.8.3).
 #[derive(Debug, Drop, PartialEq, Eq)]
 pub enum OwnedRevision {
     Etag(Text),
     LastModified(Text),
+}
+
+/// An HTTP revision, borrowed.
+#[derive(Clone, Copy, Debug)]
+pub enum HttpRevision<'s> {
+    Etag(&'s str),
+    LastModified(&'s str),
+}
+
+/// A commit of a git index: the bytes of its SHA-1, or their hex digits.
+#[derive(Clone, Copy)]
+pub enum GitRevision {
+    Raw([u8; 20]),
+    Hex(Sha1Hex),
+}
+
+/// What an entry of the cache was stored under.
+#[derive(Clone, Copy)]
+pub enum Revision<'s> {
+    Http(HttpRevision<'s>),
+    Git(GitRevision),
+    Unknown,
 }
 
 impl OwnedRevision {
@@ -22,5 +50,154 @@ impl OwnedRevision {
                 Ok(OwnedRevision::LastModified(text.try_clone(alloc)?))
             }
         }
+    }
+
+    /// This revision, borrowed.
+    pub fn as_http(&self) -> HttpRevision<'_>
+        ensures { http_value result ≡ self.now }
+    {
+        match self {
+            OwnedRevision::Etag(text) => HttpRevision::Etag(text.as_str()),
+            OwnedRevision::LastModified(text) => HttpRevision::LastModified(text.as_str()),
+        }
+    }
+}
+
+impl HttpRevision<'_> {
+    /// A copy that owns its text.
+    pub fn to_owned(&self, alloc: Global) -> Result<OwnedRevision, NoMemory>
+        ensures { IfOk result (λ copy. copy ≡ http_value self.now) }
+    {
+        match self {
+            HttpRevision::Etag(text) => Ok(OwnedRevision::Etag(Text::of(alloc, text)?)),
+            HttpRevision::LastModified(text) => Ok(OwnedRevision::LastModified(Text::of(
+                alloc, text,
+            )?)),
+        }
+    }
+}
+
+/// A revision with a commit's digits.
+#[derive(Clone, Copy)]
+enum StoredRevision<'s> {
+    Etag(&'s str),
+    LastModified(&'s str),
+    Commit(Sha1Hex),
+    Unknown,
+}
+
+impl StoredRevision<'_> {
+    /// The name in front of its text in an entry, and what stands behind that.
+    fn parts(&self) -> (&'static str, &str)
+        ensures name { result.0.now ≡ entry_name (stored_value self.now) }
+        ensures value { result.1.now ≡ entry_value (stored_value self.now) }
+        ensures formed { IsFormed (stored_value self.now) }
+    {
+        match self {
+            StoredRevision::Etag(text) => ("etag: ", text),
+            StoredRevision::LastModified(text) => ("last-modified: ", text),
+            StoredRevision::Commit(digits) => ("", digits.as_str()),
+            StoredRevision::Unknown => ("Unknown", ""),
+        }
+    }
+}
+
+/// Puts two pieces, the second behind the first.
+fn put_both<S: Sink>(sink: &mut S, first: &[u8], second: &[u8]) -> Result<u64, SinkFault>
+    ensures put { S.tells → OnOk result (S.holds sink.new ≡ S.holds sink.old ++ first.now ++ second.now) }
+    ensures part { S.tells → AddsPrefix (S.holds sink.old) (first.now ++ second.now) (S.holds sink.new) }
+    ensures count { IfOk result (λ n. n ≡ length (first.now ++ second.now)) }
+    ensures cause { HasPutCause (S.faults sink.old) (S.faults sink.new) result }
+{
+    sink.put(first)?;
+    sink.put(second)?;
+    Ok(first.len() as u64 + second.len() as u64)
+}
+
+fn both_without_zero(first: &[u8], second: &[u8]) -> bool
+    ensures { result ≡ has_no_zero (first.now ++ second.now) }
+{
+    has_no_zero(first) && has_no_zero(second)
+}
+
+impl<'s> Revision<'s> {
+    fn stored(&self) -> StoredRevision<'s>
+        ensures { stored_value result ≡ revision_value self.now }
+    {
+        match self {
+            Revision::Http(HttpRevision::Etag(text)) => StoredRevision::Etag(text),
+            Revision::Http(HttpRevision::LastModified(text)) => StoredRevision::LastModified(text),
+            Revision::Git(GitRevision::Raw(bytes)) => StoredRevision::Commit(Sha1Hex::from(*bytes)),
+            Revision::Git(GitRevision::Hex(digits)) => StoredRevision::Commit(*digits),
+            Revision::Unknown => StoredRevision::Unknown,
+        }
+    }
+
+    /// Puts the text of this revision in an entry, and answers the number of its bytes.
+    pub fn write<S: Sink>(&self, sink: &mut S) -> Result<u64, SinkFault>
+        ensures put { S.tells → OnOk result (S.holds sink.new ≡ S.holds sink.old ++ written_text self.now) }
+        ensures part { S.tells → AddsPrefix (S.holds sink.old) (written_text self.now) (S.holds sink.new) }
+        ensures count { IfOk result (λ n. n ≡ length (written_text self.now)) }
+        ensures cause { HasPutCause (S.faults sink.old) (S.faults sink.new) result }
+    {
+        let stored = self.stored();
+        let (name, value) = stored.parts();
+        put_both(sink, name.as_bytes(), value.as_bytes())
+    }
+
+    /// Whether no zero byte stands in the text of this revision.
+    pub fn has_no_zero(&self) -> bool
+        ensures { result ≡ has_no_zero (written_text self.now) }
+    {
+        let stored = self.stored();
+        let (name, value) = stored.parts();
+        both_without_zero(name.as_bytes(), value.as_bytes())
+    }
+
+    /// Appends the text of this revision in an entry.
+    pub fn append_to(&self, out: &mut Vec<u8>) -> Result<(), NoMemory>
+        ensures formed { IsFormed (revision_value self.now) }
+        ensures appended { OnOk result (out.new.items ≡ out.old.items ++ written_text self.now) }
+    {
+        let stored = self.stored();
+        let (name, value) = stored.parts();
+        out.extend_from_slice(name.as_bytes())?;
+        out.extend_from_slice(value.as_bytes())?;
+        Ok(())
+    }
+}
+
+// ---- equal where they write equal texts
+
+ghost use Rattle.std.proofs.Common.{rules};
+ghost use Rattle.std.specs.Cmp.Rules.{comparing};
+
+impl PartialEq for Revision<'_> {
+    ghost eq = { equal_revisions };
+
+    ghost laws = { Prim.search (comparing, rules) };
+
+    fn eq(&self, other: &Revision<'_>) -> bool {
+        let (one, two) = (self.stored(), other.stored());
+        let (name, value) = one.parts();
+        let (other_name, other_value) = two.parts();
+        name == other_name && value == other_value
+    }
+}
+
+impl Eq for Revision<'_> {
+    ghost laws = { Prim.search (comparing, rules) };
+}
+
+impl fmt::Debug for Revision<'_> {
+    fn fmt<W: fmt::Write>(&self, f: &mut fmt::Formatter<W>) -> fmt::Result {
+        let stored = self.stored();
+        let (name, value) = stored.parts();
+        f.write_str(name)?;
+        match self {
+            Revision::Http(_) => f.write_str(": ")?,
+            _ => {}
+        }
+        f.write_str(value)
     }
 }

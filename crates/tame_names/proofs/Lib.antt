@@ -5,3 +5,4 @@ pub mod Counted
 pub mod Utf8Lemmas
 pub mod Prefixes
 pub mod Cases
+pub mod Relative

@@ -3,6 +3,7 @@ pub mod KrateNames
 pub mod MemoryFiles
 pub mod Names
 pub mod Output
+pub mod Paths
 pub mod Pieces
 pub mod Standing
 pub mod Utf8

@@ -1,9 +1,9 @@
 -- Names of crates and their places in an index.
 -- Cargo Book, "Registry Index" (characters of a name, folders of index files) and "The Manifest Format" (names).
-use Rattle.std.specs.Prelude.{ℕ, codes, List, [], ◌∷◌, ◌++◌, length, take, drop, Bool, true, false, not, nat_lt, ◌==◌, ◌||◌, bytes_eq, Option, Some, None, is_none, option_map, unwrap_or, find, if◌then◌else◌, encode_utf8}
+use Rattle.std.specs.Prelude.{◌≡◌, ℕ, codes, List, [], ◌∷◌, ◌++◌, length, take, drop, Bool, true, false, not, nat_lt, ◌==◌, ◌||◌, bytes_eq, Option, Some, None, is_none, option_map, unwrap_or, find, if◌then◌else◌, encode_utf8}
 use Rattle.std.specs.List.{enumerate_from, list_any}
 use Rattle.std.specs.Char.{is_ascii_alphabetic, is_ascii_alphanumeric}
-use Rattle.std.specs.Str.{chars, str_to_ascii_lowercase}
+use Rattle.std.specs.Str.{IsUtf8, chars, str_to_ascii_lowercase}
 use Rattle.tame_names.specs.Pieces.{pieces}
 use Rattle.tame_names.specs.declared.errors.InvalidKrateName.{InvalidKrateName}
 use Rattle.tame_names.specs.declared.errors.InvalidKrateName.TheVariants.{InvalidLength, InvalidCharacter, ReservedName}
@@ -114,3 +114,7 @@ separator given = encode_utf8 (unwrap_or given 47)
 -- the path of a name's file in an index: a function of the name alone, and of names only
 abbrev pub path : List ℕ → Option (List ℕ)
 path text = if is_name text then Some (relative_path (separator None) text) else None
+
+-- a path of some name
+abbrev pub IsIndexPath : List ℕ → Type 0
+IsIndexPath p = (name : List ℕ) × IsUtf8 name × (path name ≡ Some p)

@@ -2,7 +2,7 @@
 ghost use Rattle.std.specs.Prelude.{◌≡◌, ℕ, List, ◌++◌, IsTrue, IfOk, IfErr, Some, None, OnOk, OnErr, IsOk, length, option_map, string_bytes};
 ghost use Rattle.std.specs.Prelude.{encode_utf8};
 ghost use Rattle.std.specs.Str.{chars, str_to_ascii_lowercase, IsAscii};
-ghost use Rattle.tame_names.specs.Names.{is_name_char, is_char_at, first_bad, first_invalid, refusal, refusal_of, strict_refusal, is_longer, is_name, is_within, prefix, relative_path, separator, path};
+ghost use Rattle.tame_names.specs.Names.{IsIndexPath, is_name_char, is_char_at, first_bad, first_invalid, refusal, refusal_of, strict_refusal, is_longer, is_name, is_within, prefix, relative_path, separator, path};
 
 use crate::errors::{InvalidKrateName, NoMemory};
 use crate::reserved::reserved_name;
@@ -189,6 +189,7 @@ impl<'n> KrateName<'n> {
     pub fn relative_path(&self, alloc: Global, sep: Option<char>) -> Result<Text, NoMemory>
         ensures parts { IfOk result (λ p. p ≡ relative_path (separator sep) (text_of self.now)) }
         ensures path { sep ≡ None → IfOk result (λ p. path (text_of self.now) ≡ Some p) }
+        ensures index_path { sep ≡ None → IfOk result IsIndexPath }
         // names that are equal up to ASCII case have one path
         ensures one_path { (other : List ℕ) → IsTrue (is_name other) → str_to_ascii_lowercase other ≡ str_to_ascii_lowercase (text_of self.now)
             → path other ≡ path (text_of self.now) }

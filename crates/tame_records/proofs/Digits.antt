@@ -43,7 +43,7 @@ none_bad : (b : Bool) (x : ℕ) (rest : Option ℕ) → b ≡ true → rest ≡ 
 none_bad true x rest h none = none
 none_bad false x rest h none = cc
 
-no_bad_digit : (text : List ℕ) → AllPass is_hex_digit text → first_bad_digit text ≡ None
+pub no_bad_digit : (text : List ℕ) → AllPass is_hex_digit text → first_bad_digit text ≡ None
 no_bad_digit [] all = refl
 no_bad_digit (c ∷ cs) all =
     none_bad (is_ascii_hexdigit c) c (first_bad_digit cs) (a_digit c (all zero zero (omega arith)))

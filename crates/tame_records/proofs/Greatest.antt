@@ -26,7 +26,7 @@ module _ {A B : Type 0} (f : A → B) (takes : A → A → Bool) (picks : B → 
   position_mapped (x ∷ xs) = ap Some (places xs 0 1 x)
 
 module _ {A B : Type 0} (f : A → B) (C : A → A → Ordering) (D : B → B → Ordering) (same : (x y : A) → C x y ≡ D (f x) (f y)) where
-  options : (x y : Option A) → option_cmp C x y ≡ option_cmp D (option_map f x) (option_map f y)
+  pub options : (x y : Option A) → option_cmp C x y ≡ option_cmp D (option_map f x) (option_map f y)
   options None None = refl
   options None (Some y) = refl
   options (Some x) None = refl

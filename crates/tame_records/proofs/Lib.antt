@@ -2,4 +2,8 @@ pub mod Ahead
 pub mod Digits
 pub mod Trims
 pub mod KrateLemmas
+mod WrittenTokens
+mod ReadBack
+mod RoundTrip
 pub mod Greatest
+mod HighestLemmas

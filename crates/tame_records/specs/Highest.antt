@@ -1,6 +1,7 @@
 -- The highest versions of a crate (Semantic Versioning 2.0.0, section 11, then build metadata as the crate `semver` orders it).
-use Rattle.std.specs.Prelude.{ℕ, List, length, map, ◌==◌, Option, Some, None, option_and_then, is_some, slice_get, true, if◌then◌else◌}
-use Rattle.std.specs.Ordering.{nat_cmp, ordering_then}
+use Rattle.std.specs.Prelude.{◌≡◌, ℕ, List, IsSomeAnd, false, length, map, ◌==◌, Option, Some, None, option_and_then, is_some, slice_get, true, if◌then◌else◌}
+use Rattle.std.specs.List.{AllByRecursion}
+use Rattle.std.specs.Ordering.{is_lt, nat_cmp, ordering_then}
 use Rattle.std.specs.Option.{option_cmp}
 use Rattle.std.specs.Result.{result_ok}
 use Rattle.std.specs.declared.cmp.Ordering.{Ordering}
@@ -32,3 +33,17 @@ if_normal v = if is_some (normal_rank v) then Some v else None
 -- the version with the greatest normal rank, of several the last; where no version has one there is none
 abbrev pub highest_normal : List IndexVersion → Option IndexVersion
 highest_normal versions = option_and_then if_normal (option_and_then (λ i. slice_get versions i) (last_greatest (map normal_rank versions)))
+
+-- none of these is greater than the one at the place
+abbrev pub NoneAbove : {A : Type 0} → (A → A → Ordering) → List A → ℕ → Type 0
+NoneAbove {A} cmp xs place = (best : A) → slice_get xs place ≡ Some best → AllByRecursion (λ x. is_lt (cmp best x) ≡ false) xs
+
+-- not yanked, and a version without a pre-release
+pub record IsNormal (v : IndexVersion) : Type 0 where
+  pub not_yanked : v.yanked ≡ false
+  pub no_pre : IsSomeAnd (rank v) (λ p. length p.3 ≡ 0)
+
+-- normal, and none of these has a greater normal rank
+pub record IsHighestNormal (versions : List IndexVersion) (v : IndexVersion) : Type 0 where
+  pub normal : IsNormal v
+  pub none_above : AllByRecursion (λ r. is_lt (option_cmp parts_cmp (normal_rank v) r) ≡ false) (map normal_rank versions)

@@ -5,3 +5,4 @@ pub mod Krates
 pub mod Lines
 pub mod Members
 pub mod Record
+pub mod Written

@@ -1,5 +1,5 @@
 //! SHA-256 digests as hex text.
-ghost use Rattle.std.specs.Prelude.{◌≡◌, Some, Ok, IfOk};
+ghost use Rattle.std.specs.Prelude.{◌≡◌, Some, Ok, IfOk, is_none};
 ghost use Rattle.hex.specs.Hex.{encode_lower};
 ghost use Rattle.tame_records.specs.Checksums.{chksum_of, first_bad_digit};
 
@@ -29,6 +29,13 @@ fn first_bad_digit(text: &str) -> Option<u8>
     ensures { result ≡ first_bad_digit text.now }
 {
     text.bytes().find(|byte| !byte.is_ascii_hexdigit())
+}
+
+/// Whether a text has nothing but hex digits.
+pub fn is_hex_text(text: &str) -> bool
+    ensures { result ≡ is_none (first_bad_digit text.now) }
+{
+    first_bad_digit(text).is_none()
 }
 
 fn digits_of(alloc: Global, bytes: &[u8; 32]) -> Result<Text, NoMemory>

@@ -3,14 +3,17 @@
 
 mod checksums;
 mod dependencies;
+mod features;
 mod highest;
 mod krates;
 mod lines;
 mod members;
 mod versions;
+mod writing;
 
-pub use checksums::{Chksum, ChksumParseError};
+pub use checksums::{Chksum, ChksumParseError, is_hex_text};
 pub use dependencies::{DependencyKind, IndexDependency};
+pub use features::FeatureIter;
 pub use krates::IndexKrate;
 pub use lines::trimmed;
 pub use members::FeatureMap;

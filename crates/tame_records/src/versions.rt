@@ -28,9 +28,9 @@ pub struct IndexVersion {
     pub rust_version: Option<Text>,
     /// When it was published, as written.
     pub pubtime: Option<Text>,
-    features: Features,
-    features2: Option<Features>,
-    v: Option<u32>,
+    pub(crate) features: Features,
+    pub(crate) features2: Option<Features>,
+    pub(crate) v: Option<u32>,
 }
 
 /// The members of a version that its line may leave out.

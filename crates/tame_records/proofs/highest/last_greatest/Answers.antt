@@ -1,9 +1,12 @@
 use Rattle.std.proofs.Common.{rules, ◌≡◌, true, false}
+use Rattle.std.specs.Prelude.{IfSome, None, Some}
 use Rattle.std.proofs.lemmas.List.MinMax.{ranks_by}
 use Rattle.std.specs.Ordering.{is_lt}
 use Rattle.itertools.specs.Extremes.{by_cmp, by_cmp_reversed, position_of, wins}
 use Rattle.itertools.proofs.ExtremeLemmas.{position-greatest}
+use Rattle.tame_records.specs.Highest.{NoneAbove}
 use Rattle.tame_records.proofs.Greatest.{placed}
+use Rattle.tame_records.proofs.HighestLemmas.{if_placed}
 use Rattle.tame_records.proofs.highest.last_greatest.Goals as goal
 
 pub returns-clause-within : goal.returns-clause-within
@@ -12,3 +15,10 @@ returns-clause-within g c =
     let e : c.position_max.result ≡ position_of (wins true (by_cmp_reversed g.T.Ord.cmp)) xs = search rules in
     let facts = position-greatest (by_cmp g.T.Ord.cmp) (ranks_by g.met.T.Ord.total (λ x. x)) xs in
     rw e (placed (λ y b. is_lt (g.T.Ord.cmp b y) ≡ false) xs _ facts)
+
+pub returns-clause-none_above : goal.returns-clause-none_above
+returns-clause-none_above g c =
+    let xs = c.args.items.items in
+    let e : c.position_max.result ≡ position_of (wins true (by_cmp_reversed g.T.Ord.cmp)) xs = search rules in
+    let facts = position-greatest (by_cmp g.T.Ord.cmp) (ranks_by g.met.T.Ord.total (λ x. x)) xs in
+    rw e (if_placed g.T.Ord.cmp xs _ facts)

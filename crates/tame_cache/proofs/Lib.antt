@@ -1,0 +1,7 @@
+mod Bytes
+mod Copies
+pub mod Moments
+mod Steps
+mod Whole
+mod Record
+pub mod KeptLemmas

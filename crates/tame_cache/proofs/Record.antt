@@ -1,0 +1,81 @@
+-- One call more in the record of a disk in memory.
+use Rattle.std.proofs.Common.{◌≡◌, ◌≢◌, inl, inr, ℕ, suc, ◌+◌, ◌-◌, ◌≤◌, ◌<◌, min, max, List, [], ◌∷◌, ◌++◌, length, get_or, take, drop, Option, Some, None, Bool, true, false, refl, sym, ◌∙◌, ap, subst, arith, append_assoc, length-append, length-drop}
+use Rattle.std.specs.Prelude.{option_map, Result, Ok, Err, OnOk, OnErr}
+use Rattle.std.specs.String.{string_bytes}
+use Rattle.std.specs.Str.{bytes_eq}
+use Rattle.std.proofs.lemmas.Bool.{cases_eq}
+use Rattle.std.proofs.lemmas.Slice.Eq.{bytes_eq-Decides}
+use Rattle.std.proofs.lemmas.List.{take_more, take_at, drop_at, take_min, length-take, length-take-le}
+use Rattle.tame_cache.specs.declared.memory_disk.Call.{Call}
+use Rattle.tame_cache.specs.declared.memory_disk.Change.{Change}
+use Rattle.tame_cache.specs.declared.memory_disk.Change.TheVariants.{Write, Cut, Sync}
+use Rattle.tame_cache.specs.Disk.{File, Step, Wrote, Torn, CutShort, TornFile, CutFile, content, with_piece, reads, may_leave, MayWrite}
+use Rattle.tame_cache.specs.Calls.{step_of, file_of, after, past_of}
+
+pub past_more : (path : List ℕ) (past : List Step) (calls : List Call) (call : Call) → past_of path past (calls ++ call ∷ []) ≡ after path (past_of path past calls) (string_bytes call.path) call.change (file_of call.file)
+past_more path past [] call = refl
+past_more path past (first ∷ calls) call = past_more path (after path past (string_bytes first.path) first.change (file_of first.file)) calls call
+
+pub after_same : (path : List ℕ) (past : List Step) (change : Change) (now : File) → after path past path change now ≡ step_of change now ∷ past
+after_same path past change now = let same = (bytes_eq-Decides path path).1 refl in rw same
+
+pub after_other : (path changed : List ℕ) (past : List Step) (change : Change) (now : File) → path ≢ changed → after path past changed change now ≡ past
+after_other path changed past change now other = go (bytes_eq changed path) refl
+  where
+    go : (b : Bool) → bytes_eq changed path ≡ b → after path past changed change now ≡ past
+    go true same = absurd (other (sym ((bytes_eq-Decides changed path).0 same)))
+    go false differs = rw differs
+
+reads_step : (change : Change) (file : File) (past : List Step) → reads (step_of change file ∷ past) ≡ file
+reads_step (Write at n) file past = refl
+reads_step (Cut len) file past = refl
+reads_step Sync file past = refl
+
+-- what a read gives after a call, by what a test of its path answered
+pub reads_same : (path changed : List ℕ) (past : List Step) (change : Change) (now : File) → bytes_eq changed path ≡ true → reads (after path past changed change now) ≡ now
+reads_same path changed past change now same = rw same (reads_step change now past)
+
+pub reads_other : (path changed : List ℕ) (past : List Step) (change : Change) (now : File) → bytes_eq changed path ≡ false → reads (after path past changed change now) ≡ reads past
+reads_other path changed past change now differs = rw differs
+
+-- a write that is whole is one that may be torn
+pub whole_torn : (old piece : List ℕ) (at : ℕ) → at ≤ length old → Torn at (length piece) old (with_piece old at piece)
+whole_torn old piece at le =
+    let front : length (take at old) ≡ at = length-take-le at old le in
+    let behind : length (take at old ++ piece) ≡ at + length piece = length-append (take at old) piece ∙ ap (λ (n : ℕ). n + length piece) front in
+    let size : length (with_piece old at piece) ≡ (at + length piece) + (length old - (at + length piece)) = omega (arith, behind, length-append (take at old ++ piece) (drop (at + length piece) old), length-drop (at + length piece) old) in
+    let same : min at (length old) ≡ at = omega arith in
+    record {
+      before = ap (λ (n : ℕ). take n (with_piece old at piece)) same ∙ ap (λ (l : List ℕ). take at l) (append_assoc (take at old) piece (drop (at + length piece) old)) ∙ take_at (take at old) (piece ++ drop (at + length piece) old) at front;
+      after = drop_at (take at old ++ piece) (drop (at + length piece) old) (at + length piece) behind;
+      no_shorter = omega (arith, size);
+      no_longer = omega (arith, size);
+    }
+
+pub whole_torn_file : (old : File) (piece : List ℕ) (at : ℕ) → at ≤ length (content old) → TornFile at (length piece) old (Some (with_piece (content old) at piece))
+whole_torn_file None piece at le = inr (with_piece [] at piece, refl, whole_torn [] piece at le)
+whole_torn_file (Some bytes) piece at le = (with_piece bytes at piece, refl, whole_torn bytes piece at le)
+
+pub whole_cut : (old : List ℕ) (len : ℕ) → CutShort len old (take len old)
+whole_cut old len = record {
+  no_shorter = omega (arith, length-take len old);
+  front = ap (λ (n : ℕ). take n old) (length-take len old) ∙ take_min len old;
+}
+
+pub whole_cut_file : (old : File) (len : ℕ) → CutFile len old (option_map (take len) old)
+whole_cut_file None len = refl
+whole_cut_file (Some bytes) len = (take len bytes, refl, whole_cut bytes len)
+
+-- a write that was noted, or failed
+pub noted_write : {E : Type 0} (r : Result (Unit {0}) E) (old new : List Step) (at n : ℕ) (now : File) → OnOk r (new ≡ Wrote at n now ∷ old) → OnErr r (new ≡ old) → TornFile at n (reads old) now → MayWrite at n old new
+noted_write (Ok u) old new at n now done failed torn =
+    let shown : reads new ≡ now = ap reads done in
+    inr (done ∙ ap (λ (f : File). Wrote at n f ∷ old) (sym shown), subst (λ (f : File). TornFile at n (reads old) f) (sym shown) torn)
+noted_write (Err e) old new at n now done failed torn = inl failed
+
+-- what a crash may leave after a call, by what a test of its path answered
+pub left_same : (path changed : List ℕ) (past : List Step) (change : Change) (now left : File) → bytes_eq changed path ≡ true → may_leave (step_of change now ∷ past) left → may_leave (after path past changed change now) left
+left_same path changed past change now left same here = rw same here
+
+pub left_other : (path changed : List ℕ) (past : List Step) (change : Change) (now left : File) → bytes_eq changed path ≡ false → may_leave past left → may_leave (after path past changed change now) left
+left_other path changed past change now left differs here = rw differs here

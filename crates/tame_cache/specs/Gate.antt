@@ -1,0 +1,36 @@
+-- What the steps of a write keep of a cache file (this project).
+use Rattle.std.specs.Prelude.{◌≡◌, ◌≢◌, ℕ, ◌≤◌, List, [], ◌∷◌, length, Option, Some, None, IsErr}
+use Rattle.tame_entry.specs.Entry.{read_entry}
+use Rattle.tame_cache.specs.Disk.{File, Step, content, first_of, reads, may_leave, IsAlone}
+use Rattle.tame_cache.specs.declared.disk.Peek.{Peek}
+
+-- no readable entry: there is no file, or its bytes are refused
+abbrev pub IsRefused : File → Type 0
+IsRefused None = Unit {0}
+IsRefused (Some bytes) = IsErr (read_entry bytes)
+
+-- where a read finds no file, a crash leaves none, or one of at most one byte
+abbrev pub IsOrderly : List Step → Type 0
+IsOrderly past = reads past ≡ None → (file : File) → may_leave past file → length (content file) ≤ 1
+
+-- a file was settled: this is its first byte, and where there is a file a crash leaves no other
+pub record IsSettled (seen : Peek) (past : List Step) : Type 0 where
+  pub answer : seen ≡ first_of (reads past)
+  pub only : reads past ≢ None → IsAlone past
+
+abbrev pub BeginsWithZero : File → Type 0
+BeginsWithZero file = (rest : List ℕ) × (file ≡ Some (0 ∷ rest))
+
+-- the gate is closed: byte 0 stands first, and a crash leaves no other file
+pub record IsClosed (past : List Step) : Type 0 where
+  pub first : BeginsWithZero (reads past)
+  pub only : IsAlone past
+
+-- two files that are equal behind their first bytes
+abbrev pub DiffersInFirst : File → File → Type 0
+DiffersInFirst one other = (x : ℕ) × (y : ℕ) × (rest : List ℕ) × (one ≡ Some (x ∷ rest)) × (other ≡ Some (y ∷ rest))
+
+-- the file has these bytes, and a crash leaves no other
+pub record IsStored (bytes : List ℕ) (past : List Step) : Type 0 where
+  pub whole : reads past ≡ Some bytes
+  pub only : IsAlone past

@@ -1,0 +1,7 @@
+pub mod CacheFiles
+pub mod Calls
+pub mod Disk
+pub mod Faults
+pub mod Gate
+pub mod Kept
+pub mod MemoryDisk

@@ -1,0 +1,23 @@
+-- Index entries by where they come from.
+use Rattle.std.specs.Prelude.{◌≡◌, ℕ, List, [], Option, Some, None, unwrap_or, Result, Ok, Err}
+use Rattle.tame_names.specs.Utf8.{utf8_text}
+use Rattle.tame_names.specs.declared.errors.CacheError.{CacheError}
+use Rattle.tame_entry.specs.Entry.{ReadEntry, read_entry}
+use Rattle.tame_entry.specs.Raw.{raw_version}
+use Rattle.tame_entry.specs.declared.index_entries.IndexEntry.{IndexEntry}
+use Rattle.tame_entry.specs.declared.index_entries.IndexEntry.TheVariants.{Remote, Cache, Local}
+
+-- the version's text: that of the entry where it has one, else the one in the line
+abbrev pub version_text : Option (List ℕ) → List ℕ → List ℕ
+version_text (Some version) line = unwrap_or (utf8_text version) []
+version_text None line = raw_version line
+
+abbrev pub some_entry : Result ReadEntry CacheError → Result (Option ReadEntry) CacheError
+some_entry (Ok e) = Ok (Some e)
+some_entry (Err f) = Err f
+
+-- a file of the cache is what its bytes are read as; others aren't files of the cache
+abbrev pub CachedAs : IndexEntry → Result (Option ReadEntry) CacheError → Type 0
+CachedAs (Remote json_lines) r = r ≡ Ok None
+CachedAs (Cache file) r = r ≡ some_entry (read_entry file)
+CachedAs (Local file) r = r ≡ Ok None

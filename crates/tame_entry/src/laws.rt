@@ -1,0 +1,14 @@
+//! Laws of entries, over their definitions.
+ghost use Rattle.std.specs.Prelude.{◌≡◌, ℕ, List, IsTrue, Ok, flat_map};
+ghost use Rattle.tame_records.specs.Lines.{lines};
+ghost use Rattle.tame_entry.specs.Entry.{entry, has_no_zero, lines_in, pair_bytes, pairs, read_entry};
+ghost use Rattle.tame_entry.specs.Lines.{plain};
+ghost use Rattle.tame_entry.specs.Revision.{EntryRevision, IsRevision, entry_text};
+
+/// The entry of a plain body under a revision without a zero byte is readable, with that revision
+/// and the lines of the body.
+pub fn entries_read_back()
+    ensures read { (r : EntryRevision) (body : List ℕ) → IsRevision r → IsTrue (has_no_zero (entry_text r)) → IsTrue (plain body)
+        → read_entry (entry r (pairs body)) ≡ Ok (record { revision = r; versions = flat_map pair_bytes (pairs body) }) }
+    ensures lines { (body : List ℕ) → IsTrue (plain body) → lines_in (flat_map pair_bytes (pairs body)) ≡ lines body }
+{}

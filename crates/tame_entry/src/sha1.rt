@@ -1,0 +1,92 @@
+//! SHA-1 digests of commits as hex digits.
+ghost use Rattle.std.specs.Prelude.{◌≡◌, true, false, IsTrue, MatchOption};
+ghost use Rattle.hex.specs.Hex.{encode_lower};
+ghost use Rattle.tame_entry.specs.Commits.{is_commit};
+
+use hex::encode_to_slice;
+use std::marker::Model;
+use tame_records::is_hex_text;
+
+/// The bytes of an entry's revision that is a commit.
+pub type HexBytes = [u8; 40];
+
+/// A SHA-1 digest as 40 hex digits.
+#[derive(Clone, Copy)]
+pub struct Sha1Hex {
+    digits: HexBytes,
+}
+
+impl Model for Sha1Hex {
+    ghost use Rattle.std.specs.Prelude.{List, ℕ, IsTrue};
+    ghost use Rattle.tame_entry.specs.Commits.{is_commit};
+
+    ghost Value = { List ℕ };
+
+    ghost view = { λ s. s.digits };
+
+    ghost invariant = { λ s. IsTrue (is_commit s.digits) };
+
+    ghost inverse = { λ d. record { digits = d } };
+}
+
+impl Sha1Hex {
+    /// The digits of a digest, the letters in lower case.
+    pub fn from(raw: [u8; 20]) -> Sha1Hex
+        ensures { result ≡ encode_lower raw }
+    {
+        Sha1Hex::of(&raw)
+    }
+
+    fn of(raw: &[u8; 20]) -> Sha1Hex
+        ensures { result ≡ encode_lower raw.now }
+    {
+        let mut digits = [0u8; 40];
+        if encode_to_slice(raw.as_slice(), &mut digits).is_err() {
+            unreachable!();
+        }
+        Sha1Hex { digits }
+    }
+
+    /// The digits that a text is, in the case that it has.
+    pub fn parse(text: &str) -> Option<Sha1Hex>
+        ensures { MatchOption result (is_commit text.now ≡ false) (λ s. (is_commit text.now ≡ true) × (s ≡ text.now)) }
+    {
+        if !is_commit(text) {
+            return None;
+        }
+        let mut digits = [0u8; 40];
+        digits.copy_from_slice(text.as_bytes());
+        Some(Sha1Hex { digits })
+    }
+
+    /// The digits.
+    pub fn as_bytes(&self) -> &HexBytes
+        ensures { result.now ≡ self.now }
+    {
+        &self.digits
+    }
+
+    /// The digits, as text.
+    pub fn as_str(&self) -> &str
+        ensures text { result.now ≡ self.now }
+        ensures digits { IsTrue (is_commit self.now) }
+    {
+        match std::str::from_utf8(&self.digits) {
+            Ok(text) => text,
+            Err(_) => unreachable!(),
+        }
+    }
+}
+
+/// Whether a text is 40 hex digits.
+fn is_commit(text: &str) -> bool
+    ensures { result ≡ is_commit text.now }
+{
+    text.len() == 40 && is_hex_text(text)
+}
+
+impl AsRef<[u8; 40]> for Sha1Hex {
+    fn as_ref(&self) -> &[u8; 40] {
+        self.as_bytes()
+    }
+}
