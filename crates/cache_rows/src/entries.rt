@@ -6,6 +6,7 @@ use tame_entry::{
     Revision, Sha1Hex, ValidCacheEntry, entries_read_back,
 };
 use tame_names::{CacheError, FileLock, Items, MemSink};
+use tame_records::{IndexKrate, IndexVersion};
 
 const LINE: &[u8] = b"{\"name\":\"a\",\"vers\":\"0.1.0\",\"yanked\":false}";
 
@@ -192,5 +193,25 @@ fn cached(rt: HostRuntime) -> Result<(), Fail> {
     assert!(rt; matches!(empty.cached(), Err(CacheError::InvalidCacheEntry)));
     let local = IndexEntry::Local(LockedMmap::of(Vec::new(alloc), &lock));
     assert!(rt; matches!(local.cached(), Ok(None)));
+    Ok(())
+}
+
+#[test]
+fn versions_written(rt: HostRuntime) -> Result<(), Fail> {
+    let alloc = rt.alloc();
+    let body = body(&rt, true)?;
+    let krate = IndexKrate::from_slice(alloc, body.as_bytes())?;
+    let revision = Revision::Http(HttpRevision::Etag("x"));
+    let of_versions = CacheWrite::from(&krate);
+    let lines = CacheWrite::from(JsonLines::validate(body.as_bytes())?);
+    let want = lines.entry(alloc, &revision)?;
+    assert!(rt; of_versions.entry(alloc, &revision)?.as_slice() == want.as_slice());
+    assert_eq!(rt; of_versions.entry_len(alloc, &revision)?, want.len() as u64);
+    assert!(rt; of_versions.is_storable(alloc, &revision)?);
+    let mut zero = IndexKrate {
+        versions: Items::new(alloc),
+    };
+    zero.versions.add(IndexVersion::fake(alloc, "a", "0\x00")?)?;
+    assert!(rt; !CacheWrite::from(&zero).is_storable(alloc, &revision)?);
     Ok(())
 }

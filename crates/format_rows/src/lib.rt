@@ -10,4 +10,6 @@ mod lockfiles;
 #[cfg(test)]
 mod messages;
 #[cfg(test)]
+mod statics;
+#[cfg(test)]
 mod written;

@@ -1,14 +1,12 @@
 -- What torn writes and cuts leave of a cache file.
-use Rattle.std.proofs.Common.{◌≡◌, ◌≢◌, ◌⊎◌, inl, inr, ⊎_elim, ℕ, zero, suc, ◌+◌, ◌≤◌, ◌<◌, min, max, List, [], ◌∷◌, ◌++◌, length, take, drop, Option, Some, None, refl, sym, ◌∙◌, ap, subst, arith, length-append, length-drop}
+use Rattle.std.proofs.Common.{◌≡◌, ◌≢◌, ◌⊎◌, inl, inr, ℕ, zero, suc, ◌+◌, ◌≤◌, ◌<◌, min, List, [], ◌∷◌, length, take, drop, Some, None, refl, sym, ◌∙◌, ap, subst, arith}
 use Rattle.std.specs.Prelude.{Bool, true, false, cond, nat_lt, IsErr, Result, Err}
 use Rattle.std.proofs.lemmas.Bool.Decides.{nat_tests}
 use Rattle.tame_names.specs.declared.errors.CacheError.{CacheError}
 use Rattle.tame_entry.specs.Entry.{ReadEntry, read_entry}
-use Rattle.std.proofs.lemmas.Bool.{cases_eq}
 use Rattle.std.proofs.lemmas.List.{take_at}
-use Rattle.std.proofs.lemmas.Grind.{common_steps}
-use Rattle.tame_cache.specs.Disk.{File, Torn, CutShort, TornFile, CutFile, content, with_piece}
-use Rattle.tame_cache.specs.Gate.{IsRefused, BeginsWithZero, DiffersInFirst}
+use Rattle.tame_cache.specs.Disk.{File, Torn, TornFile, CutFile, content, with_piece}
+use Rattle.tame_cache.specs.Gate.{IsRefused, BeginsWithZero}
 
 empty_refused : IsRefused (Some [])
 empty_refused = refl

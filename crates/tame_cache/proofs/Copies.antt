@@ -1,5 +1,5 @@
 -- A disk in memory is copied file by file.
-use Rattle.std.proofs.Common.{◌≡◌, ◌⊎◌, inl, inr, ℕ, ◌+◌, ◌≤◌, List, [], ◌∷◌, ◌++◌, length, take, Bool, true, false, refl, sym, ◌∙◌, ap, subst, arith}
+use Rattle.std.proofs.Common.{◌≡◌, ◌⊎◌, inl, inr, ℕ, List, [], ◌∷◌, Bool, true, false, refl, sym, ◌∙◌, ap, subst}
 use Rattle.std.specs.Str.{bytes_eq}
 use Rattle.std.specs.String.{string_bytes}
 use Rattle.std.proofs.lemmas.Slice.Eq.{bytes_eq-Decides}
@@ -7,7 +7,6 @@ use Rattle.tame_cache.specs.declared.memory_disk.Call.{Call}
 use Rattle.tame_cache.specs.declared.memory_disk.Change.TheVariants.{Sync}
 use Rattle.tame_cache.specs.Disk.{File, Step, Synced, reads, may_leave, IsAlone}
 use Rattle.tame_cache.specs.Calls.{file_of, after, past_of}
-use Rattle.tame_cache.proofs.Record.{after_other}
 
 -- no change of the file was seen, or the copy has one that a crash may leave
 abbrev pub IsCopied : List ℕ → List Step → List Step → List Step → Type 0

@@ -1,22 +1,22 @@
 -- Kept disks, and histories that keep them.
-use Rattle.std.proofs.Common.{◌≡◌, ◌≢◌, ◌⊎◌, inl, inr, ◌≤◌, ℕ, List, [], ◌∷◌, ◌++◌, length, Option, Some, None, Bool, true, false, cond, IsTrue, refl, sym, ◌∙◌, ap, subst, arith, codes, length-append}
-use Rattle.std.specs.Prelude.{◌==◌, ◌||◌, ◌&&◌, IsErr, Result, Ok, Err, nat_lt}
+use Rattle.std.proofs.Common.{◌≡◌, ◌≢◌, ◌⊎◌, inl, inr, ◌≤◌, ℕ, List, [], ◌∷◌, ◌++◌, length, Some, None, Bool, true, false, cond, refl, sym, ◌∙◌, ap, subst, arith, codes, length-append}
+use Rattle.std.specs.Prelude.{◌==◌, ◌||◌, ◌&&◌, IsErr, Result, Ok, Err}
 use Rattle.std.specs.Str.{bytes_eq}
 use Rattle.std.proofs.lemmas.Bool.Decides.{nat_tests}
 use Rattle.std.proofs.lemmas.Slice.Eq.{bytes_eq-Decides}
 use Rattle.tame_names.specs.Names.{IsIndexPath}
-use Rattle.tame_names.specs.Paths.{begins_with_slash, ends_with_slash, join}
+use Rattle.tame_names.specs.Paths.{ends_with_slash, join}
 use Rattle.tame_names.specs.declared.errors.CacheError.{CacheError}
 use Rattle.tame_names.proofs.Relative.{join_same, path_relative}
-use Rattle.tame_entry.specs.Entry.{Pair, ReadEntry, entry, has_no_zero, is_storable, pairs, read_entry}
-use Rattle.tame_entry.specs.Held.{Maps, ServerMap, body_at}
+use Rattle.tame_entry.specs.Entry.{Pair, ReadEntry, entry, has_no_zero, is_storable, read_entry}
+use Rattle.tame_entry.specs.Held.{ServerMap}
 use Rattle.tame_entry.specs.Revision.{EntryRevision, Http, Commit, Unknown, IsFormed, IsRevision, entry_text}
 use Rattle.tame_entry.specs.declared.revisions.OwnedRevision.TheVariants.{Etag, LastModified}
 use Rattle.tame_entry.proofs.EntryLemmas.{entry_revision, honest_utf8}
-use Rattle.tame_cache.specs.Disk.{File, Step, Synced, reads, content, may_leave, left_since, EachMoment}
+use Rattle.tame_cache.specs.Disk.{File, Step, Synced, reads, content, may_leave, EachMoment}
 use Rattle.tame_cache.specs.Gate.{IsOrderly, IsRefused}
-use Rattle.tame_cache.specs.Kept.{Disk, History, IsAddedTo, IsCrash, IsGood, IsGoodRead, IsGoodUnder, IsKept, IsWithoutFiles, IsWrittenFor, Keeps, begins, cache_file, calls, crashes}
-use Rattle.tame_cache.proofs.Moments.{started, joined, ends, weaker, reads_left}
+use Rattle.tame_cache.specs.Kept.{Disk, History, IsAddedTo, IsGood, IsGoodRead, IsGoodUnder, IsKept, IsWithoutFiles, IsWrittenFor, Keeps, begins, cache_file, calls, crashes}
+use Rattle.tame_cache.proofs.Moments.{started, joined, ends, weaker}
 
 -- ---- places
 

@@ -1,6 +1,6 @@
 -- How the moments of a run of calls add up.
-use Rattle.std.proofs.Common.{◌≡◌, ◌⊎◌, inl, inr, ⊎_elim, ℕ, ◌≤◌, List, [], ◌∷◌, ◌++◌, length, Option, Some, None, refl, sym, ◌∙◌, ap, subst, arith, append_assoc, length-append}
-use Rattle.tame_cache.specs.Disk.{File, Step, Wrote, WasCut, Synced, TornFile, CutFile, reads, may_leave, left_since, MayWrite, MayCut, MaySync, IsAlone, EachMoment}
+use Rattle.std.proofs.Common.{◌≡◌, ◌⊎◌, inl, inr, ⊎_elim, ℕ, List, [], ◌∷◌, ◌++◌, length, refl, sym, ◌∙◌, ap, subst, arith, append_assoc, length-append}
+use Rattle.tame_cache.specs.Disk.{File, Step, Wrote, WasCut, Synced, TornFile, CutFile, reads, may_leave, left_since, MayWrite, MayCut, MaySync, EachMoment}
 
 -- this moment is one of those since an earlier one
 pub counts_now : (t : ℕ) (past : List Step) (file : File) → may_leave past file → left_since t past file

@@ -1,11 +1,10 @@
 -- What the gate's steps leave at each moment.
-use Rattle.std.proofs.Common.{◌≡◌, ◌≢◌, ◌⊎◌, inl, inr, ⊎_elim, ℕ, suc, ◌≤◌, ◌<◌, List, [], ◌∷◌, length, take, drop, Option, Some, None, refl, sym, ◌∙◌, ap, subst, arith}
+use Rattle.std.proofs.Common.{◌≡◌, ◌≢◌, ◌⊎◌, inl, inr, ℕ, suc, ◌≤◌, ◌<◌, List, [], ◌∷◌, length, take, Some, None, sym, ◌∙◌, ap, subst, arith}
 use Rattle.std.specs.Prelude.{option_map}
 use Rattle.std.proofs.lemmas.Bool.{cases_eq}
-use Rattle.tame_cache.specs.declared.disk.Peek.{Peek}
-use Rattle.tame_cache.specs.declared.disk.Peek.TheVariants.{Absent, Empty, Byte}
-use Rattle.tame_cache.specs.Disk.{File, Step, Synced, TornFile, CutFile, content, first_of, with_piece, reads, may_leave, MayWrite, MayCut, MaySync, IsAlone, EachMoment}
-use Rattle.tame_cache.specs.Gate.{IsRefused, IsOrderly, IsSettled, BeginsWithZero, IsClosed, IsStored}
+use Rattle.tame_cache.specs.declared.disk.Peek.TheVariants.{Byte}
+use Rattle.tame_cache.specs.Disk.{File, Step, Synced, TornFile, content, first_of, with_piece, reads, may_leave, MayWrite, MayCut, MaySync, IsAlone, EachMoment}
+use Rattle.tame_cache.specs.Gate.{IsRefused, IsOrderly, BeginsWithZero, IsStored}
 use Rattle.tame_cache.proofs.Moments.{started, joined, weaker, ends, written, shortened, synced, reads_left}
 use Rattle.tame_cache.proofs.Bytes.{short_refused, torn_short, torn_first, other_first, cut_other, torn_behind, cut_behind, laid_bytes}
 

@@ -1,7 +1,7 @@
 -- The four steps together.
-use Rattle.std.proofs.Common.{◌≡◌, ◌≢◌, ◌⊎◌, inl, inr, ⊎_elim, ℕ, suc, ◌≤◌, ◌<◌, List, [], ◌∷◌, length, take, drop, Option, Some, None, refl, sym, ◌∙◌, ap, subst, arith}
+use Rattle.std.proofs.Common.{◌≡◌, ◌⊎◌, inl, inr, ⊎_elim, ℕ, List, ◌∷◌, drop, Some, sym, ◌∙◌, ap, arith}
 use Rattle.std.proofs.lemmas.Bool.{cases_eq}
-use Rattle.tame_cache.specs.Disk.{File, Step, content, reads, may_leave, IsAlone, EachMoment}
+use Rattle.tame_cache.specs.Disk.{File, Step, reads, may_leave, EachMoment}
 use Rattle.tame_cache.specs.Gate.{IsRefused, IsOrderly, BeginsWithZero, DiffersInFirst}
 use Rattle.tame_cache.proofs.Moments.{joined, weaker, ends, reads_left}
 use Rattle.tame_cache.proofs.Bytes.{other_first}

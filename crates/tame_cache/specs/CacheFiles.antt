@@ -1,5 +1,5 @@
 -- What a read of the cache hands out.
-use Rattle.std.specs.Prelude.{◌≡◌, ℕ, List, Option, Some, None}
+use Rattle.std.specs.Prelude.{◌≡◌, Option, Some, None}
 use Rattle.tame_entry.specs.declared.index_entries.IndexEntry.{IndexEntry}
 use Rattle.tame_entry.specs.declared.index_entries.IndexEntry.TheVariants.{Remote, Cache, Local}
 use Rattle.tame_cache.specs.Disk.{File}

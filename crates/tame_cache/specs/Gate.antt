@@ -1,5 +1,5 @@
 -- What the steps of a write keep of a cache file (this project).
-use Rattle.std.specs.Prelude.{◌≡◌, ◌≢◌, ℕ, ◌≤◌, List, [], ◌∷◌, length, Option, Some, None, IsErr}
+use Rattle.std.specs.Prelude.{◌≡◌, ◌≢◌, ℕ, ◌≤◌, List, ◌∷◌, length, Some, None, IsErr}
 use Rattle.tame_entry.specs.Entry.{read_entry}
 use Rattle.tame_cache.specs.Disk.{File, Step, content, first_of, reads, may_leave, IsAlone}
 use Rattle.tame_cache.specs.declared.disk.Peek.{Peek}

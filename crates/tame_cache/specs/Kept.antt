@@ -1,5 +1,5 @@
 -- What a cache may hold so that it never lies about a server (this project).
-use Rattle.std.specs.Prelude.{◌≡◌, ◌≤◌, ℕ, codes, List, [], ◌∷◌, length, IsTrue, Option, Some, None, option_map, Result, Ok, Err}
+use Rattle.std.specs.Prelude.{◌≡◌, ℕ, codes, List, [], ◌∷◌, length, IsTrue, Option, Some, None, option_map, Result, Ok, Err}
 use Rattle.tame_names.specs.Names.{IsIndexPath, path}
 use Rattle.tame_names.specs.Paths.{join}
 use Rattle.tame_names.specs.declared.errors.CacheError.{CacheError}

@@ -59,6 +59,13 @@ impl IndexCache {
         IndexCache { path }
     }
 
+    /// The path of the index.
+    pub fn path(&self) -> &str
+        ensures { result.now ≡ self.now.path }
+    {
+        self.path.as_str()
+    }
+
     /// The path of a crate's file.
     pub fn cache_path(&self, alloc: Global, name: KrateName<'_>) -> Result<Text, NoMemory>
         ensures file { IfOk result (λ q. cache_file_of self.now.path (text_of name.entry) ≡ Some q) }
@@ -140,7 +147,8 @@ impl IndexCache {
         ensures cause { HasCause CacheFault.NoMemory (D.faults disk.old) (D.faults disk.new) result }
     {
         let _lock = lock;
-        if !cw.is_storable(revision) {
+        let storable = cw.is_storable(alloc, revision)?;
+        if !storable {
             return Ok(Kept::NotStored);
         }
         let file = self.cache_path(alloc, name)?;

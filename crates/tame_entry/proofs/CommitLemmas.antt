@@ -1,6 +1,6 @@
 -- Hex digits are ASCII, and those of 20 bytes name a commit.
-use Rattle.std.proofs.Common.{◌≡◌, ℕ, zero, suc, ◌*◌, ◌<◌, List, [], ◌∷◌, length, Bool, true, false, not, cond, Option, Some, None, refl, IsTrue, arith, lit<}
-use Rattle.std.specs.Prelude.{find, is_none, ◌==◌, ◌&&◌}
+use Rattle.std.proofs.Common.{◌≡◌, ℕ, zero, suc, ◌<◌, List, [], ◌∷◌, length, Bool, true, false, not, cond, Option, Some, None, refl, IsTrue, arith, lit<}
+use Rattle.std.specs.Prelude.{is_none, ◌==◌, ◌&&◌}
 use Rattle.std.specs.Char.{is_ascii_hexdigit}
 use Rattle.std.specs.Str.{IsAscii, IsUtf8}
 use Rattle.std.proofs.lemmas.Str.{IsUtf8-from_ascii}

@@ -1,6 +1,6 @@
 -- An entry is read as the revision and the lines that it was made of.
-use Rattle.std.proofs.Common.{◌≡◌, ℕ, zero, suc, ◌<◌, ◌≤◌, lit<, length-append, List, [], ◌∷◌, ◌++◌, Bool, true, false, not, cond, length, map, Option, Some, None, IsTrue, refl, sym, ap, ◌∙◌, subst, codes, bytes_eq, arith, rules, append_assoc}
-use Rattle.std.specs.Prelude.{◌==◌, ◌&&◌, nat_le, nat_lt, flat_map, is_none, find, unwrap_or, Result, Ok, Err}
+use Rattle.std.proofs.Common.{◌≡◌, ℕ, zero, suc, ◌<◌, ◌≤◌, lit<, length-append, List, [], ◌∷◌, ◌++◌, Bool, true, false, not, cond, length, map, Option, Some, None, IsTrue, refl, sym, ap, ◌∙◌, subst, codes, arith, append_assoc}
+use Rattle.std.specs.Prelude.{◌==◌, ◌&&◌, nat_le, nat_lt, flat_map, unwrap_or, Result, Ok, Err}
 use Rattle.std.specs.Char.{is_ascii_hexdigit}
 use Rattle.std.specs.List.{list_all}
 use Rattle.std.specs.Str.{IsAscii, IsUtf8, is_utf8}
@@ -17,7 +17,7 @@ use Rattle.tame_entry.specs.Lines.{plain, valid}
 use Rattle.tame_entry.specs.Commits.{is_commit}
 use Rattle.tame_entry.specs.Entry.{Pair, ReadEntry, entry, has_no_zero, first_part, head, later_parts, lines_in, pair_bytes, pair_of, pairs, read_entry, read_parts, read_text, second_pieces, with_revision}
 use Rattle.tame_entry.specs.Raw.{cut_at, raw_version}
-use Rattle.tame_entry.specs.Revision.{EntryRevision, Http, Commit, Unknown, IsFormed, IsRevision, after, date_or, entry_name, entry_text, entry_value, etag_or, is_honest_text, revision_of, without_name}
+use Rattle.tame_entry.specs.Revision.{EntryRevision, Http, Commit, Unknown, IsRevision, after, date_or, entry_text, etag_or, is_honest_text, revision_of, without_name}
 use Rattle.tame_entry.specs.declared.revisions.OwnedRevision.TheVariants.{Etag, LastModified}
 use Rattle.tame_entry.proofs.AfterLemmas.{after_name}
 use Rattle.tame_entry.proofs.CommitLemmas.{commit_good, commit_utf8, none_found}
@@ -155,7 +155,7 @@ plain_parts false b h = cc
 no_line : (body : List ℕ) → trimmed body ≡ [] → valid body ≡ true → ⊥
 no_line body none h = cc (rw none at h)
 
-some_line : (body bytes : List ℕ) → trimmed body ≡ bytes → valid body ≡ true → (l : List ℕ) × (ls : List (List ℕ)) × (lines body ≡ l ∷ ls)
+pub some_line : (body bytes : List ℕ) → trimmed body ≡ bytes → valid body ≡ true → (l : List ℕ) × (ls : List (List ℕ)) × (lines body ≡ l ∷ ls)
 some_line body [] is h = absurd (no_line body is h)
 some_line body (b ∷ bs) is h = let cut = first_of b bs in (cut.0, cut.1, ap (pieces 10) is ∙ cut.2)
   where

@@ -1,13 +1,11 @@
 -- Bytes without a zero byte, and what is cut out of them.
-use Rattle.std.proofs.Common.{◌≡◌, ℕ, zero, suc, List, [], ◌∷◌, ◌++◌, Bool, true, false, not, cond, length, take, drop, Option, Some, None, option_map, refl, sym, ap, ◌∙◌, IsTrue}
+use Rattle.std.proofs.Common.{◌≡◌, ℕ, zero, suc, List, [], ◌∷◌, ◌++◌, Bool, true, false, not, cond, length, take, drop, Option, Some, None, option_map, refl, sym, ap, ◌∙◌}
 use Rattle.std.specs.Prelude.{◌==◌, ◌&&◌, nat_le, slice_index, unwrap_or, ◌-◌, is_none}
-use Rattle.std.specs.List.{list_all}
 use Rattle.tame_names.specs.Pieces.{pieces}
 use Rattle.tame_names.specs.Pieces as cut
-use Rattle.tame_names.specs.Utf8.{utf8_text}
 use Rattle.tame_records.specs.Lines.{lines, trimmed}
 use Rattle.tame_entry.specs.Entry.{has_no_zero, is_storable_pair, pair_of}
-use Rattle.tame_entry.specs.Raw.{between_quotes, comma_parts, cut_at, names_version, onto_first, quoted_value, raw_version, version_by, version_in, without_space}
+use Rattle.tame_entry.specs.Raw.{comma_parts, cut_at, names_version, onto_first, quoted_value, raw_version, version_by, version_in, without_space}
 
 abbrev pub NoZero : List ℕ → Type 0
 NoZero bytes = has_no_zero bytes ≡ true

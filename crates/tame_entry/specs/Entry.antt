@@ -1,17 +1,19 @@
 -- Cache entries as bytes (the cache of cargo: a version byte, a number of four bytes, a revision, and each version with its line).
-use Rattle.std.specs.Prelude.{ℕ, ◌+◌, List, [], ◌∷◌, ◌++◌, length, take, drop, map, flat_map, ◌==◌, ◌&&◌, nat_lt, not, bytes_eq, Bool, Option, Some, None, unwrap_or, Result, Ok, Err, if◌then◌else◌}
+use Rattle.std.specs.Prelude.{ℕ, List, [], ◌∷◌, ◌++◌, length, take, drop, map, flat_map, ◌==◌, ◌&&◌, nat_lt, not, bytes_eq, Bool, Option, Some, None, unwrap_or, Result, Ok, Err, if◌then◌else◌}
 use Rattle.std.specs.List.{list_all}
 use Rattle.tame_names.specs.Pieces.{pieces}
 use Rattle.tame_names.specs.Utf8.{utf8_text}
 use Rattle.tame_names.specs.declared.errors.CacheError.{CacheError}
 use Rattle.tame_names.specs.declared.errors.CacheError.TheVariants.{InvalidCacheEntry, OutdatedCacheVersion, UnknownCacheVersion, UnknownIndexVersion, OutdatedRevision}
 use Rattle.tame_records.specs.Lines.{lines}
+use Rattle.tame_records.specs.Written.{line}
+use Rattle.tame_records.specs.declared.versions.IndexVersion.{IndexVersion}
 use Rattle.tame_entry.specs.Raw.{cut_at, raw_version}
 use Rattle.tame_entry.specs.JsonLines.{lines_of}
 use Rattle.tame_entry.specs.Revision.{EntryRevision, entry_text, revision_of, revision_value}
 use Rattle.tame_entry.specs.declared.entries.ValidCacheEntry.{ValidCacheEntry}
 use Rattle.tame_entry.specs.declared.writes.CacheWrite.{CacheWrite}
-use Rattle.tame_entry.specs.declared.writes.CacheWrite.TheVariants.{Remote}
+use Rattle.tame_entry.specs.declared.writes.CacheWrite.TheVariants.{Remote, Krate}
 
 abbrev pub has_no_zero : List ℕ → Bool
 has_no_zero bytes = list_all (λ b. not (b == 0)) bytes
@@ -30,9 +32,14 @@ pair_of line = (raw_version line, line)
 abbrev pub pairs : List ℕ → List Pair
 pairs body = map pair_of (lines body)
 
+-- a version with the line that it writes
+abbrev pub version_pair : IndexVersion → Pair
+version_pair v = (v.version, line v)
+
 -- those of what is written
 abbrev pub written_pairs : CacheWrite → List Pair
 written_pairs (Remote json_lines) = map pair_of (lines_of json_lines)
+written_pairs (Krate krate) = map version_pair krate.now.versions
 
 abbrev pub pair_bytes : Pair → List ℕ
 pair_bytes p = p.0 ++ 0 ∷ (p.1 ++ 0 ∷ [])

@@ -1,6 +1,10 @@
 -- Index entries by where they come from.
-use Rattle.std.specs.Prelude.{◌≡◌, ℕ, List, [], Option, Some, None, unwrap_or, Result, Ok, Err}
+use Rattle.std.specs.Prelude.{◌≡◌, ◌⊎◌, ℕ, List, [], Option, Some, None, unwrap_or, Result, Ok, Err}
+use Rattle.tame_names.specs.Standing.{Standing, File, Nothing}
 use Rattle.tame_names.specs.Utf8.{utf8_text}
+use Rattle.tame_names.specs.declared.errors.Error.{Error}
+use Rattle.tame_names.specs.declared.errors.Error.TheVariants as error
+use Rattle.tame_names.specs.declared.errors.IoKind.TheVariants as io_kind
 use Rattle.tame_names.specs.declared.errors.CacheError.{CacheError}
 use Rattle.tame_entry.specs.Entry.{ReadEntry, read_entry}
 use Rattle.tame_entry.specs.Raw.{raw_version}
@@ -15,6 +19,12 @@ version_text None line = raw_version line
 abbrev pub some_entry : Result ReadEntry CacheError → Result (Option ReadEntry) CacheError
 some_entry (Ok e) = Ok (Some e)
 some_entry (Err f) = Err f
+
+-- the bytes of the file that stands at a path
+abbrev pub IsMapped : Standing → Result (List ℕ) Error → Type 0
+IsMapped standing (Ok bytes) = standing ≡ File bytes
+IsMapped standing (Err (error.Io io_kind.NotFound)) = standing ≡ Nothing
+IsMapped standing (Err e) = (e ≡ error.NoMemory) ⊎ (e ≡ error.Io io_kind.Failed)
 
 -- a file of the cache is what its bytes are read as; others aren't files of the cache
 abbrev pub CachedAs : IndexEntry → Result (Option ReadEntry) CacheError → Type 0

@@ -1,9 +1,12 @@
 pub mod Commits
+pub mod Config
 pub mod Entry
 pub mod Held
 pub mod IndexEntries
 pub mod JsonLines
+pub mod Krates
 pub mod Lines
 pub mod Raw
 pub mod Revision
 pub mod Says
+pub mod Scan

@@ -1,11 +1,10 @@
 -- Revisions and their texts (RFC 9110, sections 8.8.2 and 8.8.3; the cache entries of cargo).
-use Rattle.std.specs.Prelude.{ℕ, codes, List, [], ◌∷◌, ◌++◌, Bool, true, false, not, nat_le, ◌&&◌, ◌==◌, bytes_eq, IsTrue, Option, Some, None, if◌then◌else◌}
+use Rattle.std.specs.Prelude.{ℕ, codes, List, [], ◌∷◌, ◌++◌, Bool, false, not, nat_le, ◌&&◌, ◌==◌, bytes_eq, IsTrue, Option, Some, None, if◌then◌else◌}
 use Rattle.std.specs.List.{list_all}
 use Rattle.std.specs.Str.{is_utf8}
 use Rattle.hex.specs.Hex.{encode_lower}
 use Rattle.tame_names.specs.Pieces.{ends_with}
 use Rattle.tame_entry.specs.Commits.{is_commit}
-use Rattle.tame_entry.specs.declared.revisions.GitRevision.{GitRevision}
 use Rattle.tame_entry.specs.declared.revisions.GitRevision.TheVariants as git
 use Rattle.tame_entry.specs.declared.revisions.HttpRevision.{HttpRevision}
 use Rattle.tame_entry.specs.declared.revisions.HttpRevision.TheVariants as http

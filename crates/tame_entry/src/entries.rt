@@ -26,7 +26,8 @@ pub struct ValidCacheEntry<'b> {
     pub version_entries: &'b [u8],
 }
 
-fn after<'t>(text: &'t str, name: &str) -> Option<&'t str>
+/// What stands behind a text's beginning.
+pub fn after<'t>(text: &'t str, name: &str) -> Option<&'t str>
     ensures { option_map (λ t. t.now) result ≡ after name.now text.now }
 {
     text.strip_prefix(name)

@@ -1,13 +1,15 @@
 //! Index entries, from a server, from the cache or from a local registry.
-ghost use Rattle.std.specs.Prelude.{◌≡◌, Ok, Err, Some, None, option_map, IfOk, IfErr};
+ghost use Rattle.std.specs.Prelude.{◌≡◌, ℕ, List, Ok, Err, Some, None, option_map, IfOk, IfErr};
 ghost use Rattle.tame_entry.specs.Entry.{read_entry, read_value};
-ghost use Rattle.tame_entry.specs.IndexEntries.{CachedAs, version_text};
+ghost use Rattle.tame_names.specs.Counts.{Rose};
+ghost use Rattle.tame_entry.specs.IndexEntries.{CachedAs, IsMapped, version_text};
 
 use crate::entries::ValidCacheEntry;
 use crate::json_lines::JsonLines;
 use crate::raw::raw_version;
+use std::alloc::Global;
 use std::marker::Model;
-use tame_names::{CacheError, FileLock, utf8_text};
+use tame_names::{CacheError, Error, FileFault, FileLock, Files, IoKind, ReadAnswer, utf8_text};
 
 /// The bytes of a file, for as long as a lock is held. Contracts see the bytes.
 #[derive(Drop)]
@@ -30,6 +32,27 @@ impl<'l> LockedMmap<'l> {
         ensures { result ≡ bytes.items }
     {
         LockedMmap { bytes, lock }
+    }
+
+    /// The bytes of the file at a path, read whole, under a lock. `Io(NotFound)` where nothing is
+    /// there; `Io(Failed)` where it can't be read.
+    pub fn mmap<F: Files>(
+        alloc: Global,
+        files: &mut F,
+        path: &str,
+        lock: &'l FileLock,
+    ) -> Result<LockedMmap<'l>, Error>
+        ensures read { F.tells → IsMapped (F.stands files.old path.now) result }
+        ensures failed { result ≡ Err (Error.Io IoKind.Failed) → Rose (F.faults files.old) (F.faults files.new) }
+        ensures same { F.tells → (q : List ℕ) → F.stands files.new q ≡ F.stands files.old q }
+    {
+        match files.read(alloc, path, u64::MAX) {
+            Ok(ReadAnswer::Whole(bytes)) => Ok(LockedMmap { bytes, lock }),
+            Ok(ReadAnswer::Absent) => Err(Error::Io(IoKind::NotFound)),
+            Ok(ReadAnswer::Over(_)) => unreachable!(),
+            Err(FileFault::Failed) => Err(Error::Io(IoKind::Failed)),
+            Err(FileFault::NoMemory) => Err(Error::NoMemory),
+        }
     }
 
     /// The bytes.

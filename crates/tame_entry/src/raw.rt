@@ -69,7 +69,7 @@ impl<'a> Iterator for CommaParts<'a> {
     }
 }
 
-fn without_space(text: &[u8]) -> &[u8]
+pub fn without_space(text: &[u8]) -> &[u8]
     ensures { result.now ≡ without_space text.now }
 {
     match text {

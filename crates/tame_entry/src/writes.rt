@@ -3,7 +3,7 @@ ghost use Rattle.std.specs.Prelude.{◌≡◌, ◌⊎◌, ◌≤◌, ◌++◌, �
 ghost use Rattle.std.specs.List.{list_all};
 ghost use Rattle.tame_names.specs.Counts.{Rose};
 ghost use Rattle.tame_names.specs.Output.{AddsPrefix};
-ghost use Rattle.tame_entry.specs.Entry.{entry, is_storable, is_storable_pair, pair_bytes, pair_of, written_pairs};
+ghost use Rattle.tame_entry.specs.Entry.{entry, is_storable, is_storable_pair, pair_bytes, pair_of, version_pair, written_pairs};
 ghost use Rattle.tame_entry.specs.JsonLines.{lines_of};
 ghost use Rattle.tame_entry.specs.Revision.{IsFormed, revision_value};
 
@@ -13,12 +13,35 @@ use crate::raw::{has_no_zero, raw_version};
 use crate::revisions::Revision;
 use std::alloc::Global;
 use tame_names::{Error, IoKind, NoMemory, Sink};
+use tame_records::{IndexKrate, IndexVersion, with_line};
 
 /// What is written to the cache.
 #[derive(Clone, Copy)]
 pub enum CacheWrite<'r> {
     /// The lines that a server sent.
     Remote(JsonLines<'r>),
+    /// The versions of a crate, each with the line that it writes.
+    Krate(&'r IndexKrate),
+}
+
+impl<'r> From<JsonLines<'r>> for CacheWrite<'r> {
+    ghost use Rattle.tame_entry.specs.declared.writes.CacheWrite.TheVariants.{Remote};
+
+    ghost from_gives = { λ lines write. write ≡ Remote lines };
+
+    fn from(lines: JsonLines<'r>) -> CacheWrite<'r> {
+        CacheWrite::Remote(lines)
+    }
+}
+
+impl<'r> From<&'r IndexKrate> for CacheWrite<'r> {
+    ghost use Rattle.tame_entry.specs.declared.writes.CacheWrite.TheVariants.{Krate};
+
+    ghost from_gives = { λ krate write. write ≡ Krate krate };
+
+    fn from(krate: &'r IndexKrate) -> CacheWrite<'r> {
+        CacheWrite::Krate(krate)
+    }
 }
 
 fn append_line(out: &mut Vec<u8>, line: &[u8]) -> Result<(), NoMemory>
@@ -28,6 +51,32 @@ fn append_line(out: &mut Vec<u8>, line: &[u8]) -> Result<(), NoMemory>
     out.push(0)?;
     out.extend_from_slice(line)?;
     Ok(out.push(0)?)
+}
+
+/// The bytes, and behind them a version with the line that it writes.
+fn with_version(alloc: Global, bytes: Vec<u8>, version: &IndexVersion) -> Result<Vec<u8>, NoMemory>
+    ensures { IfOk result (λ all. all.items ≡ bytes.items ++ pair_bytes (version_pair version.now)) }
+{
+    let mut out = bytes;
+    out.extend_from_slice(version.version.as_str().as_bytes())?;
+    out.push(0)?;
+    let mut all = with_line(alloc, out, version)?;
+    all.push(0)?;
+    Ok(all)
+}
+
+fn with_versions(
+    alloc: Global,
+    bytes: Vec<u8>,
+    versions: &[IndexVersion],
+) -> Result<Vec<u8>, NoMemory>
+    ensures { IfOk result (λ all. all.items ≡ bytes.items ++ flat_map pair_bytes (map version_pair versions.now)) }
+{
+    let mut all = bytes;
+    for version in versions {
+        all = with_version(alloc, all, version)?;
+    }
+    Ok(all)
 }
 
 fn append_lines(out: &mut Vec<u8>, lines: JsonLines<'_>) -> Result<(), NoMemory>
@@ -56,6 +105,24 @@ fn lines_are_storable(lines: JsonLines<'_>) -> bool
     true
 }
 
+fn version_is_storable(alloc: Global, version: &IndexVersion) -> Result<bool, NoMemory>
+    ensures { IfOk result (λ storable. storable ≡ is_storable_pair (version_pair version.now)) }
+{
+    let line = with_line(alloc, Vec::new(alloc), version)?;
+    Ok(has_no_zero(version.version.as_str().as_bytes()) && has_no_zero(line.as_slice()))
+}
+
+fn versions_are_storable(alloc: Global, versions: &[IndexVersion]) -> Result<bool, NoMemory>
+    ensures { IfOk result (λ storable. storable ≡ list_all is_storable_pair (map version_pair versions.now)) }
+{
+    for version in versions {
+        if !version_is_storable(alloc, version)? {
+            return Ok(false);
+        }
+    }
+    Ok(true)
+}
+
 fn put<S: Sink>(sink: &mut S, bytes: &[u8]) -> Result<u64, Error>
     ensures put { S.tells → OnOk result (S.holds sink.new ≡ S.holds sink.old ++ bytes.now) }
     ensures part { S.tells → AddsPrefix (S.holds sink.old) bytes.now (S.holds sink.new) }
@@ -70,12 +137,37 @@ fn put<S: Sink>(sink: &mut S, bytes: &[u8]) -> Result<u64, Error>
 }
 
 impl CacheWrite<'_> {
-    /// Whether these lines can be stored under a revision: no zero byte stands in what is written.
-    pub fn is_storable(&self, revision: &Revision<'_>) -> bool
-        ensures { result ≡ is_storable (revision_value revision.now) (written_pairs self.now) }
+    /// Whether no zero byte stands in the versions and lines that are written.
+    fn pairs_are_storable(&self, alloc: Global) -> Result<bool, NoMemory>
+        ensures { IfOk result (λ storable. storable ≡ list_all is_storable_pair (written_pairs self.now)) }
     {
         match self {
-            CacheWrite::Remote(lines) => revision.has_no_zero() && lines_are_storable(*lines),
+            CacheWrite::Remote(lines) => Ok(lines_are_storable(*lines)),
+            CacheWrite::Krate(krate) => versions_are_storable(alloc, krate.versions.as_slice()),
+        }
+    }
+
+    /// Whether these lines can be stored under a revision: no zero byte stands in what is written.
+    pub fn is_storable(&self, alloc: Global, revision: &Revision<'_>) -> Result<bool, NoMemory>
+        ensures { IfOk result (λ storable. storable ≡ is_storable (revision_value revision.now) (written_pairs self.now)) }
+    {
+        if !revision.has_no_zero() {
+            return Ok(false);
+        }
+        self.pairs_are_storable(alloc)
+    }
+
+    /// The bytes, and behind them what is written of each version.
+    fn with_pairs(&self, alloc: Global, bytes: Vec<u8>) -> Result<Vec<u8>, NoMemory>
+        ensures { IfOk result (λ all. all.items ≡ bytes.items ++ flat_map pair_bytes (written_pairs self.now)) }
+    {
+        match self {
+            CacheWrite::Remote(lines) => {
+                let mut all = bytes;
+                append_lines(&mut all, *lines)?;
+                Ok(all)
+            }
+            CacheWrite::Krate(krate) => with_versions(alloc, bytes, krate.versions.as_slice()),
         }
     }
 
@@ -89,10 +181,7 @@ impl CacheWrite<'_> {
         out.extend_from_slice(&INDEX_NUMBER)?;
         revision.append_to(&mut out)?;
         out.push(0)?;
-        match self {
-            CacheWrite::Remote(lines) => append_lines(&mut out, *lines)?,
-        }
-        Ok(out)
+        self.with_pairs(alloc, out)
     }
 
     /// Puts the entry of these lines under a revision, and answers the number of its bytes.

@@ -2,7 +2,7 @@
 ghost use Rattle.std.specs.Prelude.{◌≡◌, IfOk, IfErr, Some, None, option_map};
 ghost use Rattle.serde_json.specs.View.{view, items_view, members_view};
 ghost use Rattle.serde_json.specs.Read.{read};
-ghost use Rattle.tame_records.specs.Record.{chksum_of_data, fake, head_of, optional_of, record_of, record_of_data};
+ghost use Rattle.tame_records.specs.Record.{chksum_of_data, fake, head_of, optional_of, record_of, record_of_data, value_of};
 ghost use Rattle.serde_json.specs.Written.{has_float, items_have_float, members_have_float};
 
 use crate::checksums::Chksum;
@@ -202,6 +202,23 @@ fn parse(alloc: Global, text: &str) -> Result<Option<Value>, NoMemory>
     }
 }
 
+/// The value that bytes are: UTF-8, one JSON value, of equal keys the last, and no float anywhere;
+/// nothing for other bytes (RFC 8259).
+pub fn read_value(alloc: Global, bytes: &[u8]) -> Result<Option<Value>, NoMemory>
+    ensures { IfOk result (λ v. option_map (λ v. view v) v ≡ value_of bytes.now) }
+{
+    let Some(text) = utf8_text(bytes) else {
+        return Ok(None);
+    };
+    let Some(value) = parse(alloc, text)? else {
+        return Ok(None);
+    };
+    if has_float(&value) {
+        return Ok(None);
+    }
+    Ok(Some(value))
+}
+
 impl IndexVersion {
     /// The version that a line of the index is: a UTF-8 JSON object without floats, whose
     /// members have the forms of the index; of equal keys the last counts.
@@ -209,15 +226,9 @@ impl IndexVersion {
         ensures ok { IfOk result (λ r. record_of line.now ≡ Some r) }
         ensures json { result ≡ Err LineFault.Json → record_of line.now ≡ None }
     {
-        let Some(text) = utf8_text(line) else {
+        let Some(value) = read_value(alloc, line)? else {
             return Err(LineFault::Json);
         };
-        let Some(value) = parse(alloc, text)? else {
-            return Err(LineFault::Json);
-        };
-        if has_float(&value) {
-            return Err(LineFault::Json);
-        }
         match version_of(alloc, &value)? {
             Some(version) => Ok(version),
             None => Err(LineFault::Json),

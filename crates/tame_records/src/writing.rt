@@ -204,7 +204,7 @@ fn write_version(
 }
 
 /// The bytes, and behind them the line of a version.
-fn with_line(alloc: Global, bytes: Vec<u8>, version: &IndexVersion) -> Result<Vec<u8>, NoMemory>
+pub fn with_line(alloc: Global, bytes: Vec<u8>, version: &IndexVersion) -> Result<Vec<u8>, NoMemory>
     ensures reads_back { OnOk result (record_of (line version.now) ≡ Some version.now) }
     ensures line { IfOk result (λ all. all.items ≡ bytes.items ++ line version.now) }
 {

@@ -1,2 +1,9 @@
+pub mod Answered
+pub mod Conditions
+pub mod Etags
 pub mod Exchanges
+pub mod Git
 pub mod Honest
+pub mod Named
+pub mod Sent
+pub mod Urls

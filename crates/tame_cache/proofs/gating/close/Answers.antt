@@ -1,4 +1,4 @@
-use Rattle.std.proofs.Common.{◌∙◌, sym, arith}
+use Rattle.std.proofs.Common.{◌∙◌, sym}
 use Rattle.tame_cache.proofs.Steps.{sees_byte, sees_three, open_stands, foreign_cut, foreign_synced, foreign_shut, foreign_orderly}
 use Rattle.tame_cache.proofs.gating.close.Goals as goal
 

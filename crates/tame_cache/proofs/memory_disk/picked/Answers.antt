@@ -1,8 +1,8 @@
-use Rattle.std.proofs.Common.{◌≡◌, [], ◌∷◌, ◌++◌, List, ℕ, take, sym, ◌∙◌, ap, subst}
+use Rattle.std.proofs.Common.{◌≡◌, [], ◌∷◌, ◌++◌, List, take, sym, ◌∙◌, ap, subst}
 use Rattle.std.specs.Str.{bytes_eq}
 use Rattle.std.specs.String.{string_bytes}
 use Rattle.std.proofs.lemmas.List.{take_more}
-use Rattle.tame_cache.specs.Disk.{File, Step, may_leave}
+use Rattle.tame_cache.specs.Disk.{Step, may_leave}
 use Rattle.tame_cache.specs.Calls.{file_of, step_of, after, past_of}
 use Rattle.tame_cache.proofs.Record.{past_more, left_same, left_other}
 use Rattle.tame_cache.proofs.memory_disk.picked.Goals as goal

@@ -1,5 +1,5 @@
 use Rattle.tame_cache.proofs.Steps.{zero_orderly}
-use Rattle.tame_cache.proofs.Whole.{orderly_settled, differs_orderly, whole_settle, whole_close, whole_lay, whole_open}
+use Rattle.tame_cache.proofs.Whole.{orderly_settled, differs_orderly, whole_close, whole_lay, whole_open}
 use Rattle.tame_cache.proofs.storing.store.Goals as goal
 
 pub returns-in_err-close-clause-any_moment : goal.returns-in_err-close-clause-any_moment

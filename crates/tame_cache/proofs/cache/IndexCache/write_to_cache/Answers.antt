@@ -1,4 +1,4 @@
-use Rattle.std.proofs.Common.{◌≡◌, ◌≢◌, ◌∙◌, List, ℕ, Some, IsTrue, inl, sym, rules}
+use Rattle.std.proofs.Common.{◌≡◌, ◌∙◌, IsTrue, inl, rules}
 use Rattle.tame_entry.specs.Entry.{entry, is_storable, written_pairs}
 use Rattle.tame_entry.specs.Revision.{revision_value}
 use Rattle.tame_cache.specs.Kept.{cache_file}
@@ -6,8 +6,17 @@ use Rattle.tame_cache.proofs.KeptLemmas.{keeps_none, moments_at, store_keeps}
 use Rattle.tame_cache.proofs.Moments.{started}
 use Rattle.tame_cache.proofs.cache.IndexCache.write_to_cache.Goals as goal
 
-pub returns-then-not-is_storable-clause-kept : goal.returns-then-not-is_storable-clause-kept
-returns-then-not-is_storable-clause-kept g c told m written kept = keeps_none m c.args.self.now.path (g.D.CacheDisk.past c.args.disk.now) kept
+pub returns-in_err-storable-clause-any_moment : goal.returns-in_err-storable-clause-any_moment
+returns-in_err-storable-clause-any_moment g c told q is ordered = started _ _ (λ file now. inl now)
+
+pub returns-in_err-storable-clause-kept : goal.returns-in_err-storable-clause-kept
+returns-in_err-storable-clause-kept g c told m written kept = keeps_none m c.args.self.now.path (g.D.CacheDisk.past c.args.disk.now) kept
+
+pub returns-then-not-storable-clause-any_moment : goal.returns-then-not-storable-clause-any_moment
+returns-then-not-storable-clause-any_moment g c told q is ordered = started _ _ (λ file now. inl now)
+
+pub returns-then-not-storable-clause-kept : goal.returns-then-not-storable-clause-kept
+returns-then-not-storable-clause-kept g c told m written kept = keeps_none m c.args.self.now.path (g.D.CacheDisk.past c.args.disk.now) kept
 
 pub returns-in_err-file-clause-any_moment : goal.returns-in_err-file-clause-any_moment
 returns-in_err-file-clause-any_moment g c told q is ordered = started _ _ (λ file now. inl now)

@@ -1,5 +1,4 @@
-use Rattle.std.proofs.Common.{◌≡◌, ◌<◌, ◌+◌, [], ◌∷◌, ◌++◌, List, ℕ, length, get_or, take, refl, inl, sym, ◌∙◌, ap, subst, arith}
-use Rattle.std.specs.String.{string_bytes}
+use Rattle.std.proofs.Common.{◌≡◌, ◌<◌, ◌+◌, [], ◌∷◌, ◌++◌, List, length, get_or, take, refl, inl, sym, ◌∙◌, ap, subst, arith}
 use Rattle.std.proofs.lemmas.List.{take_more, take_all}
 use Rattle.tame_cache.specs.declared.memory_disk.Call.{Call}
 use Rattle.tame_cache.specs.Disk.{may_leave}

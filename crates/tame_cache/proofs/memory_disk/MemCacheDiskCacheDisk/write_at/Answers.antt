@@ -1,7 +1,7 @@
 use Rattle.std.proofs.Common.{◌≡◌, ◌≤◌, [], List, ℕ, Some, length, sym, ◌∙◌, ap, subst, arith}
 use Rattle.std.proofs.lemmas.Result.{on_ok_weaker, on_err_weaker}
 use Rattle.tame_cache.specs.declared.memory_disk.Change.TheVariants.{Write}
-use Rattle.tame_cache.specs.Disk.{File, TornFile, content, with_piece, reads}
+use Rattle.tame_cache.specs.Disk.{TornFile, content, with_piece, reads}
 use Rattle.tame_cache.specs.Calls.{past_of}
 use Rattle.tame_cache.proofs.Record.{after_same, noted_write, whole_torn_file}
 use Rattle.tame_cache.proofs.memory_disk.MemCacheDiskCacheDisk.write_at.Goals as goal

@@ -1,4 +1,4 @@
-use Rattle.std.proofs.Common.{◌≡◌, length, ap, rules, ◌∙◌}
+use Rattle.std.proofs.Common.{◌≡◌, length, rules}
 use Rattle.hex.specs.Hex.{IsBytes, encode_lower}
 use Rattle.tame_entry.proofs.CommitLemmas.{lower_commit}
 use Rattle.tame_entry.proofs.sha1.Sha1Hex.of.Goals as goal

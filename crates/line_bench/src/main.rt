@@ -1,0 +1,97 @@
+//! Reads the lines of an index file over and over in one of three ways, to be timed:
+//! `line_bench read FILE`, `line_bench deserialize FILE` or `line_bench scan FILE`. Prints the
+//! number of lines, and how many of them are yanked.
+#![tactic(auto)]
+
+use std::io::ErrorKind;
+use std::process::ExitCode;
+use std::{env, fs, io};
+use tame_entry::{IndexEntryVersion, JsonLines};
+use tame_names::Error;
+use tame_records::IndexKrate;
+
+/// How many lines there are, and how many of them are yanked.
+#[derive(Drop)]
+struct Count {
+    lines: u64,
+    yanked: u64,
+}
+
+impl Count {
+    fn add(&mut self, yanked: bool) {
+        self.lines = self.lines.saturating_add(1);
+        if yanked {
+            self.yanked = self.yanked.saturating_add(1);
+        }
+    }
+}
+
+/// The whole file as the versions of a crate.
+fn read(rt: &HostRuntime, bytes: &[u8]) -> Result<Count, Error> {
+    let krate = IndexKrate::from_slice(rt.alloc(), bytes)?;
+    let mut count = Count {
+        lines: 0,
+        yanked: 0,
+    };
+    for version in krate.versions.as_slice() {
+        count.add(version.yanked);
+    }
+    Ok(count)
+}
+
+/// Each line as a record.
+fn deserialize(rt: &HostRuntime, bytes: &[u8]) -> Result<Count, Error> {
+    let mut count = Count {
+        lines: 0,
+        yanked: 0,
+    };
+    for line in JsonLines::validate(bytes)?.lines() {
+        let version = IndexEntryVersion::of_line(line).deserialize(rt.alloc())?;
+        count.add(version.yanked);
+    }
+    Ok(count)
+}
+
+/// Each line by the scan.
+fn scan(rt: &HostRuntime, bytes: &[u8]) -> Result<Count, Error> {
+    let mut count = Count {
+        lines: 0,
+        yanked: 0,
+    };
+    for line in JsonLines::validate(bytes)?.lines() {
+        let (_, yanked) = IndexEntryVersion::of_line(line).yanked(rt.alloc())?;
+        count.add(yanked);
+    }
+    Ok(count)
+}
+
+fn counted(rt: &HostRuntime, way: &str, bytes: &[u8]) -> io::Result<Count> {
+    let done = match way {
+        "read" => read(rt, bytes),
+        "deserialize" => deserialize(rt, bytes),
+        "scan" => scan(rt, bytes),
+        _ => return Err(io::Error::from(ErrorKind::InvalidInput)),
+    };
+    match done {
+        Ok(count) => Ok(count),
+        Err(_) => Err(io::Error::from(ErrorKind::InvalidData)),
+    }
+}
+
+fn bench(rt: &HostRuntime) -> io::Result<()> {
+    let mut words = env::args(rt)?.skip(1);
+    let (Some(way), Some(path)) = (words.next(), words.next()) else {
+        return Err(io::Error::from(ErrorKind::InvalidInput));
+    };
+    let bytes = fs::read(rt, path.as_str())?;
+    let count = counted(rt, way.as_str(), bytes.as_slice())?;
+    let (lines, yanked) = (count.lines, count.yanked);
+    println!(rt; "{lines} lines, {yanked} yanked")
+}
+
+fn main(rt: HostRuntime) -> ExitCode {
+    match bench(&rt) {
+        Ok(()) => ExitCode::from(0),
+        Err(_) => ExitCode::from(2),
+    }
+}

@@ -1,0 +1,5 @@
+mod Configs
+mod Fields
+mod Visible
+mod Stored
+mod Firsts

@@ -1,0 +1,175 @@
+//! A git index: its cache alone.
+ghost use Rattle.std.specs.Prelude.{◌≡◌, ◌≢◌, ◌⊎◌, ◌↔◌, ◌≤◌, ◌<◌, ◌+◌, ℕ, List, length, true, false, Ok, Err, Some, None, IsTrue, IfOk, IfErr, option_map};
+ghost use Rattle.hex.specs.Hex.{encode_lower};
+ghost use Rattle.tame_names.specs.Counts.{HasCause, Rose};
+ghost use Rattle.tame_names.specs.KrateNames.{text_of};
+ghost use Rattle.tame_names.specs.Names.{is_name, refusal, refusal_of};
+ghost use Rattle.tame_names.specs.declared.errors.InvalidKrateName.{InvalidKrateName};
+ghost use Rattle.tame_entry.specs.Entry.{entry, is_storable};
+ghost use Rattle.tame_entry.specs.Held.{ServerMap};
+ghost use Rattle.tame_entry.specs.Revision.{Commit};
+ghost use Rattle.tame_cache.specs.CacheFiles.{HandsOut};
+ghost use Rattle.tame_cache.specs.Disk.{EachMoment, may_leave, reads};
+ghost use Rattle.tame_cache.specs.Gate.{IsOrderly, IsRefused, IsStored};
+ghost use Rattle.tame_cache.specs.Kept.{IsKept, Keeps, cache_file_of};
+ghost use Rattle.tame_sparse.specs.Git.{first_name, stored_id, version_pairs};
+ghost use Rattle.tame_sparse.specs.Urls.{is_sparse_url};
+
+use crate::urls::is_sparse_url;
+use std::alloc::Global;
+use tame_cache::{CacheDisk, CacheFault, IndexCache, Kept};
+use tame_entry::{CacheWrite, GitRevision, IndexEntry, Revision, Sha1Hex};
+use tame_names::{Error, FileLock, InvalidUrl, InvalidUrlError, IoKind, KrateName, Text};
+use tame_records::IndexKrate;
+
+/// The address of the git index of crates.io.
+pub const CRATES_IO_INDEX: &str = "https://github.com/rust-lang/crates.io-index";
+
+/// A registry's git index: where its cache is, and its head, where that is known.
+#[derive(Drop)]
+pub struct GitIndex {
+    cache: IndexCache,
+    url: Text,
+    head: Option<Sha1Hex>,
+}
+
+impl GitIndex {
+    /// The index at a url, with its cache in the folder of a path, and without a head.
+    /// `InvalidUrl(SparseForGit)` where the url begins with `sparse+http`.
+    pub fn at(alloc: Global, path: Text, url: &str) -> Result<GitIndex, Error>
+        ensures ok { IfOk result (λ index. (is_sparse_url url.now ≡ false) × (index.cache.path ≡ path) × (index.url ≡ url.now) × (index.head ≡ None)) }
+        ensures refused { IfErr result (λ e. (e ≡ Error.NoMemory)
+            ⊎ ((is_sparse_url url.now ≡ true) × (e ≡ Error.InvalidUrl (record { url = url.now; source = InvalidUrlError.SparseForGit })))) }
+    {
+        let copy = Text::of(alloc, url)?;
+        if is_sparse_url(url) {
+            return Err(Error::InvalidUrl(InvalidUrl {
+                url: copy,
+                source: InvalidUrlError::SparseForGit,
+            }));
+        }
+        Ok(GitIndex {
+            cache: IndexCache::at_path(path),
+            url: copy,
+            head: None,
+        })
+    }
+
+    /// Sets the commit of the head, by the bytes of its SHA-1, or that it isn't known.
+    pub fn set_head_commit(&mut self, commit_id: Option<[u8; 20]>)
+        ensures head { self.new.head ≡ option_map encode_lower commit_id }
+        ensures cache { self.new.cache ≡ self.old.cache }
+        ensures url { self.new.url ≡ self.old.url }
+    {
+        self.head = match commit_id {
+            Some(id) => Some(Sha1Hex::from(id)),
+            None => None,
+        };
+    }
+
+    /// The commit of the head, as hex digits.
+    pub fn head_commit(&self) -> Option<&Sha1Hex>
+        ensures { option_map (λ id. id.now) result ≡ self.now.head }
+    {
+        match &self.head {
+            Some(id) => Some(id),
+            None => None,
+        }
+    }
+
+    /// The cache of the index.
+    pub fn cache(&self) -> &IndexCache
+        ensures { result.now ≡ self.now.cache }
+    {
+        &self.cache
+    }
+
+    /// The file of the cache of a crate; nothing where there is none. `Io(Failed)` where the disk
+    /// failed.
+    pub fn cached_krate<'l, D: CacheDisk>(
+        &self,
+        alloc: Global,
+        name: KrateName<'_>,
+        lock: &'l FileLock,
+        disk: &mut D,
+    ) -> Result<Option<IndexEntry<'static, 'l>>, Error>
+        ensures read { D.tells → (q : List ℕ) → cache_file_of self.now.cache.path (text_of name.entry) ≡ Some q → IfOk result (λ e. HandsOut e (reads (D.past disk.old q))) }
+        ensures same { D.tells → (q : List ℕ) → D.past disk.new q ≡ D.past disk.old q }
+        ensures calls { D.made disk.new ≤ D.made disk.old + 1 }
+        ensures cause { HasCause Error.NoMemory (D.faults disk.old) (D.faults disk.new) result }
+        ensures only { IfErr result (λ e. (e ≡ Error.NoMemory) ⊎ (e ≡ Error.Io IoKind.Failed)) }
+    {
+        self.cache.cached_krate(alloc, name, lock, disk)
+    }
+
+    /// Stores the versions of a crate, of which there has to be one, under the id of a blob, or
+    /// under that of the head; nothing is done where neither is known. `InvalidKrateName` where
+    /// the first version's name is none, `Io(Failed)` where the disk failed.
+    pub fn write_to_cache<D: CacheDisk>(
+        &self,
+        alloc: Global,
+        krate: &IndexKrate,
+        blob_id: Option<Sha1Hex>,
+        lock: &FileLock,
+        disk: &mut D,
+    ) -> Result<Option<Kept>, Error>
+        requires { 0 < length krate.now.versions }
+        // nothing without an id, or with a first name that is none
+        ensures none { (result ≡ Ok None) ↔ (stored_id blob_id self.now.head ≡ None) }
+        ensures nameless { (why : InvalidKrateName) → result ≡ Err (Error.InvalidKrateName why) → refusal_of (first_name krate.now.versions) ≡ Some (refusal why) }
+        ensures named { (kept : Kept) → result ≡ Ok (Some kept) → IsTrue (is_name (first_name krate.now.versions)) }
+        ensures uncalled { (result ≡ Ok None) ⊎ ((result ≡ Ok (Some Kept.NotStored)) ⊎ (result ≡ Err Error.NoMemory)) → disk.new ≡ disk.old }
+        ensures only { IfErr result (λ e. (e ≡ Error.NoMemory) ⊎ ((e ≡ Error.Io IoKind.Failed) ⊎ ((why : InvalidKrateName) × (e ≡ Error.InvalidKrateName why)))) }
+
+        // what is stored
+        ensures stored { D.tells → (id : List ℕ) → stored_id blob_id self.now.head ≡ Some id → (q : List ℕ) → cache_file_of self.now.cache.path (first_name krate.now.versions) ≡ Some q
+            → result ≡ Ok (Some Kept.Written) → IsStored (entry (Commit id) (version_pairs krate.now.versions)) (D.past disk.new q) }
+        ensures storable { (id : List ℕ) → stored_id blob_id self.now.head ≡ Some id
+            → IfOk result (λ kept. (kept ≡ Some Kept.Written) ↔ IsTrue (is_storable (Commit id) (version_pairs krate.now.versions))) }
+        ensures any_moment { D.tells → (id : List ℕ) → stored_id blob_id self.now.head ≡ Some id → (q : List ℕ) → cache_file_of self.now.cache.path (first_name krate.now.versions) ≡ Some q → IsOrderly (D.past disk.old q)
+            → EachMoment (D.past disk.old q) (D.past disk.new q) (λ file. may_leave (D.past disk.old q) file ⊎ (IsRefused file ⊎ (file ≡ Some (entry (Commit id) (version_pairs krate.now.versions))))) }
+        ensures others { D.tells → (q : List ℕ) → cache_file_of self.now.cache.path (first_name krate.now.versions) ≢ Some q → D.past disk.new q ≡ D.past disk.old q }
+        ensures kept { D.tells → (m : ServerMap) → IsKept m self.now.cache.path (D.past disk.old) → Keeps m self.now.cache.path (D.past disk.old) (D.past disk.new) }
+        ensures calls { D.made disk.new ≤ D.made disk.old + 13 }
+        ensures later { D.faults disk.old ≤ D.faults disk.new }
+        ensures rose { result ≡ Err (Error.Io IoKind.Failed) → Rose (D.faults disk.old) (D.faults disk.new) }
+    {
+        let Some(id) = self.stored_id(blob_id) else {
+            return Ok(None);
+        };
+        let name = match KrateName::try_from(first_name(krate)) {
+            Ok(name) => name,
+            Err(why) => return Err(Error::InvalidKrateName(why)),
+        };
+        match self.cache.write_to_cache(
+            alloc,
+            name,
+            CacheWrite::Krate(krate),
+            &Revision::Git(GitRevision::Hex(id)),
+            lock,
+            disk,
+        ) {
+            Ok(kept) => Ok(Some(kept)),
+            Err(CacheFault::Disk) => Err(Error::Io(IoKind::Failed)),
+            Err(CacheFault::NoMemory) => Err(Error::NoMemory),
+        }
+    }
+
+    /// The id of a blob, else that of the head.
+    fn stored_id(&self, blob_id: Option<Sha1Hex>) -> Option<Sha1Hex>
+        ensures { result ≡ stored_id blob_id self.now.head }
+    {
+        match blob_id {
+            Some(id) => Some(id),
+            None => self.head,
+        }
+    }
+}
+
+/// The name of the first version.
+fn first_name(krate: &IndexKrate) -> &str
+    requires { 0 < length krate.now.versions }
+    ensures { result.now ≡ first_name krate.now.versions }
+{
+    krate.name()
+}

@@ -1,0 +1,340 @@
+//! A sparse index with its cache.
+ghost use Rattle.std.specs.Prelude.{◌≡◌, ◌≢◌, ◌⊎◌, ◌≤◌, ◌+◌, ℕ, List, ◌++◌, true, false, map, Ok, Err, Some, None, IsTrue, IfOk, IfErr, OnOk};
+ghost use Rattle.tame_names.specs.Counts.{HasCause, IsQuiet, Rose};
+ghost use Rattle.tame_names.specs.KrateNames.{text_of};
+ghost use Rattle.tame_names.specs.Names.{path};
+ghost use Rattle.tame_entry.specs.Config.{config_of};
+ghost use Rattle.tame_entry.specs.Entry.{entry, is_storable, pair_of};
+ghost use Rattle.tame_entry.specs.Held.{ServerMap};
+ghost use Rattle.tame_entry.specs.JsonLines.{lines_of};
+ghost use Rattle.tame_entry.specs.Revision.{http_value, revision_value};
+ghost use Rattle.tame_entry.specs.declared.revisions.HttpRevision.{HttpRevision};
+ghost use Rattle.tame_cache.specs.CacheFiles.{HandsOut};
+ghost use Rattle.tame_cache.specs.Disk.{EachMoment, may_leave, reads};
+ghost use Rattle.tame_cache.specs.Gate.{IsOrderly, IsRefused, IsStored};
+ghost use Rattle.tame_cache.specs.Kept.{IsKept, IsWrittenFor, Keeps, cache_file_of};
+ghost use Rattle.tame_sparse.specs.Answered.{IsBodyTaken, IsTaken, IsToStore, Stores, StoresWhole, stored_under};
+ghost use Rattle.tame_sparse.specs.Named.{NamesKept, handed};
+ghost use Rattle.tame_sparse.specs.Urls.{IsConfigRead, config_file, crate_url, http_url, is_sparse_url};
+
+use crate::naming::{named_entry, named_handed};
+use crate::network::Request;
+use crate::responses::Response;
+use crate::urls::{http_url, is_sparse_url};
+use std::alloc::Global;
+use tame_cache::{CacheDisk, CacheFault, IndexCache};
+use tame_entry::{
+    CacheWrite, HttpRevision, IndexConfig, IndexEntry, JsonLines, OwnedRevision, Revision,
+};
+use tame_names::{
+    Error, FileFault, FileLock, Files, HttpError, InvalidUrl, InvalidUrlError, IoKind, KrateName,
+    NoMemory, ReadAnswer, Text, join,
+};
+use tame_records::LineFault;
+
+/// A registry's sparse index, and the cache of it (Cargo Book, "Registry Index").
+#[derive(Debug, Drop)]
+pub struct SparseIndex {
+    cache: IndexCache,
+    url: Text,
+}
+
+impl SparseIndex {
+    /// The index at a url, with its cache in the folder of a path. `InvalidUrl(MissingSparse)`
+    /// where the url doesn't begin with `sparse+http`.
+    pub fn at(alloc: Global, path: Text, url: &str) -> Result<SparseIndex, Error>
+        ensures ok { IfOk result (λ index. (is_sparse_url url.now ≡ true) × (index.cache.path ≡ path) × (index.url ≡ url.now)) }
+        ensures refused { IfErr result (λ e. (e ≡ Error.NoMemory)
+            ⊎ ((is_sparse_url url.now ≡ false) × (e ≡ Error.InvalidUrl (record { url = url.now; source = InvalidUrlError.MissingSparse })))) }
+    {
+        let copy = Text::of(alloc, url)?;
+        if !is_sparse_url(url) {
+            return Err(Error::InvalidUrl(InvalidUrl {
+                url: copy,
+                source: InvalidUrlError::MissingSparse,
+            }));
+        }
+        Ok(SparseIndex {
+            cache: IndexCache::at_path(path),
+            url: copy,
+        })
+    }
+
+    /// The configuration of the index, in the file `config.json` of its folder.
+    /// `IoPath(NotFound)` where nothing is there, `IoPath(Failed)` where it can't be read, and
+    /// `Json` of line 0 where it is no configuration.
+    pub fn index_config<F: Files>(&self, alloc: Global, files: &mut F) -> Result<IndexConfig, Error>
+        ensures read { F.tells → IsConfigRead (config_file self.now.cache.path) (F.stands files.old (config_file self.now.cache.path)) result }
+        ensures failed { (p : List ℕ) → result ≡ Err (Error.IoPath IoKind.Failed p) → Rose (F.faults files.old) (F.faults files.new) }
+        ensures later { F.faults files.old ≤ F.faults files.new }
+    {
+        let path = join(alloc, self.cache.path(), "config.json")?;
+        match files.read(alloc, path.as_str(), u64::MAX) {
+            Ok(ReadAnswer::Whole(bytes)) => config_of(alloc, bytes.as_slice()),
+            Ok(ReadAnswer::Absent) => Err(Error::IoPath(IoKind::NotFound, path)),
+            Ok(ReadAnswer::Over(_)) => unreachable!(),
+            Err(FileFault::Failed) => Err(Error::IoPath(IoKind::Failed, path)),
+            Err(FileFault::NoMemory) => Err(Error::NoMemory),
+        }
+    }
+
+    /// The url of a crate's file.
+    pub fn crate_url(&self, alloc: Global, name: KrateName<'_>) -> Result<Text, NoMemory>
+        ensures { IfOk result (λ url. crate_url self.now.url (text_of name.entry) ≡ Some url) }
+    {
+        let path = name.relative_path(alloc, None)?;
+        self.file_url(alloc, path.as_str())
+    }
+
+    /// The url of the file of a path.
+    fn file_url(&self, alloc: Global, path: &str) -> Result<Text, NoMemory>
+        ensures { IfOk result (λ url. url ≡ http_url self.now.url ++ path.now) }
+    {
+        let url = self.url();
+        let text = format!(in alloc; "{url}{path}")?;
+        Ok(Text::from_string(text))
+    }
+
+    /// The url of the index, without what marks it as sparse.
+    pub fn url(&self) -> &str
+        ensures { result.now ≡ http_url self.now.url }
+    {
+        http_url(self.url.as_str())
+    }
+
+    /// The cache of the index.
+    pub fn cache(&self) -> &IndexCache
+        ensures { result.now ≡ self.now.cache }
+    {
+        &self.cache
+    }
+
+    /// The file of the cache of a crate; nothing where there is none. `Io(Failed)` where the disk
+    /// failed.
+    pub fn cached_krate<'l, D: CacheDisk>(
+        &self,
+        alloc: Global,
+        name: KrateName<'_>,
+        lock: &'l FileLock,
+        disk: &mut D,
+    ) -> Result<Option<IndexEntry<'static, 'l>>, Error>
+        ensures read { D.tells → (q : List ℕ) → cache_file_of self.now.cache.path (text_of name.entry) ≡ Some q → IfOk result (λ e. HandsOut e (reads (D.past disk.old q))) }
+        ensures same { D.tells → (q : List ℕ) → D.past disk.new q ≡ D.past disk.old q }
+        ensures calls { D.made disk.new ≤ D.made disk.old + 1 }
+        ensures cause { HasCause Error.NoMemory (D.faults disk.old) (D.faults disk.new) result }
+        ensures only { IfErr result (λ e. (e ≡ Error.NoMemory) ⊎ (e ≡ Error.Io IoKind.Failed)) }
+    {
+        self.cache.cached_krate(alloc, name, lock, disk)
+    }
+
+    /// The request for a crate's file. A revision that is handed in is named where it isn't empty,
+    /// and no file is read; without one the HTTP revision of the cache's entry is named, where the
+    /// entry can be read and its revision be named. `Http(InvalidHeaderValue)` where the revision
+    /// handed in, trimmed of white space, has a byte that isn't tab or 32 to 126.
+    pub fn make_remote_request<D: CacheDisk>(
+        &self,
+        alloc: Global,
+        name: KrateName<'_>,
+        revision: Option<HttpRevision<'_>>,
+        lock: &FileLock,
+        disk: &mut D,
+    ) -> Result<Request, Error>
+        ensures path { IfOk result (λ request. path (text_of name.entry) ≡ Some request.path) }
+        ensures uri { IfOk result (λ request. request.uri ≡ http_url self.now.url ++ request.path) }
+        // what is named
+        ensures kept_named { D.tells → revision.entry ≡ None → (q : List ℕ) → cache_file_of self.now.cache.path (text_of name.entry) ≡ Some q
+            → IfOk result (λ request. NamesKept (reads (D.past disk.old q)) (D.faults disk.old) (D.faults disk.new) request.named) }
+        ensures handed { (r : HttpRevision) → revision.entry ≡ Some r → IfOk result (λ request. handed (http_value r) ≡ Ok request.named) }
+        ensures refused { IfErr result (λ e. (e ≡ Error.NoMemory) ⊎ ((r : HttpRevision) × (revision.entry ≡ Some r) × (handed (http_value r) ≡ Err e))) }
+        // no file changes, and none is read for a revision that is handed in
+        ensures same { D.tells → (q : List ℕ) → D.past disk.new q ≡ D.past disk.old q }
+        ensures kept { D.tells → (m : ServerMap) → IsKept m self.now.cache.path (D.past disk.old) → Keeps m self.now.cache.path (D.past disk.old) (D.past disk.new) }
+        ensures uncalled { (r : HttpRevision) → revision.entry ≡ Some r → disk.new ≡ disk.old }
+        ensures calls { D.made disk.new ≤ D.made disk.old + 1 }
+        ensures later { D.faults disk.old ≤ D.faults disk.new }
+    {
+        let path = name.relative_path(alloc, None)?;
+        let uri = self.file_url(alloc, path.as_str())?;
+        let named = self.named(alloc, name, revision, lock, disk)?;
+        Ok(Request { uri, path, named })
+    }
+
+    /// What a request names.
+    fn named<D: CacheDisk>(
+        &self,
+        alloc: Global,
+        name: KrateName<'_>,
+        revision: Option<HttpRevision<'_>>,
+        lock: &FileLock,
+        disk: &mut D,
+    ) -> Result<Option<OwnedRevision>, Error>
+        ensures kept_named { D.tells → revision.entry ≡ None → (q : List ℕ) → cache_file_of self.now.cache.path (text_of name.entry) ≡ Some q
+            → IfOk result (NamesKept (reads (D.past disk.old q)) (D.faults disk.old) (D.faults disk.new)) }
+        ensures handed { (r : HttpRevision) → revision.entry ≡ Some r → IfOk result (λ named. handed (http_value r) ≡ Ok named) }
+        ensures refused { IfErr result (λ e. (e ≡ Error.NoMemory) ⊎ ((r : HttpRevision) × (revision.entry ≡ Some r) × (handed (http_value r) ≡ Err e))) }
+        ensures same { D.tells → (q : List ℕ) → D.past disk.new q ≡ D.past disk.old q }
+        ensures uncalled { (r : HttpRevision) → revision.entry ≡ Some r → disk.new ≡ disk.old }
+        ensures calls { D.made disk.new ≤ D.made disk.old + 1 }
+        ensures later { D.faults disk.old ≤ D.faults disk.new }
+    {
+        match revision {
+            Some(revision) => named_handed(alloc, revision),
+            None => self.named_kept(alloc, name, lock, disk),
+        }
+    }
+
+    /// What may be named of the cache's entry; nothing where it can't be read.
+    fn named_kept<D: CacheDisk>(
+        &self,
+        alloc: Global,
+        name: KrateName<'_>,
+        lock: &FileLock,
+        disk: &mut D,
+    ) -> Result<Option<OwnedRevision>, Error>
+        ensures named { D.tells → (q : List ℕ) → cache_file_of self.now.cache.path (text_of name.entry) ≡ Some q
+            → IfOk result (NamesKept (reads (D.past disk.old q)) (D.faults disk.old) (D.faults disk.new)) }
+        ensures memory { IfErr result (λ e. e ≡ Error.NoMemory) }
+        ensures same { D.tells → (q : List ℕ) → D.past disk.new q ≡ D.past disk.old q }
+        ensures calls { D.made disk.new ≤ D.made disk.old + 1 }
+        ensures later { D.faults disk.old ≤ D.faults disk.new }
+    {
+        match self.cache.read_cache_file(alloc, name, lock, disk) {
+            Ok(Some(entry)) => match named_entry(alloc, &entry) {
+                Ok(named) => Ok(named),
+                Err(_) => Err(Error::NoMemory),
+            },
+            Ok(None) => Ok(None),
+            Err(Error::NoMemory) => Err(Error::NoMemory),
+            Err(_) => Ok(None),
+        }
+    }
+
+    /// Takes the answer for a crate. At 200 the lines of its body, which are stored under its
+    /// revision where that is wanted; a disk that fails then changes nothing of the answer. At 304
+    /// the file of the cache, `Io(Failed)` where it can't be read. At 404, 410 and 451 nothing.
+    /// `InvalidJsonLines` where the body isn't valid, `Http(StatusCode)` at any other status.
+    pub fn parse_remote_response<'r, 'l, D: CacheDisk>(
+        &self,
+        alloc: Global,
+        name: KrateName<'_>,
+        response: Response<'r>,
+        write_cache_entry: bool,
+        lock: &'l FileLock,
+        disk: &mut D,
+    ) -> Result<Option<IndexEntry<'r, 'l>>, Error>
+        // by the status; at 304 what a read of the file gave
+        ensures taken { IsTaken response.entry result }
+        ensures read { D.tells → response.entry.status ≡ 304 → (q : List ℕ) → cache_file_of self.now.cache.path (text_of name.entry) ≡ Some q
+            → IfOk result (λ e. HandsOut e (reads (D.past disk.old q))) }
+        ensures rose { result ≡ Err (Error.Io IoKind.Failed) → (response.entry.status ≡ 304) × Rose (D.faults disk.old) (D.faults disk.new) }
+        // what is stored
+        ensures stores { D.tells → Stores self.now.cache.path (text_of name.entry) response.entry write_cache_entry (D.past disk.old) (D.past disk.new) }
+        ensures stored { D.tells → IsQuiet (D.faults disk.old) (D.faults disk.new) → IsToStore response.entry write_cache_entry
+            → OnOk result (StoresWhole self.now.cache.path (text_of name.entry) response.entry (D.past disk.new)) }
+        ensures calls { D.made disk.new ≤ D.made disk.old + 13 }
+        ensures later { D.faults disk.old ≤ D.faults disk.new }
+    {
+        match response.status {
+            200 => self.take_body(alloc, name, response, write_cache_entry, lock, disk),
+            304 => self.cache.cached_krate(alloc, name, lock, disk),
+            404 | 410 | 451 => Ok(None),
+            401 => Err(Error::Http(HttpError::StatusCode {
+                code: 401,
+                msg: "the request was not authorized",
+            })),
+            code => Err(Error::Http(HttpError::StatusCode {
+                code,
+                msg: "the status code is invalid for this protocol",
+            })),
+        }
+    }
+
+    /// The lines of a body that was sent.
+    fn take_body<'r, 'l, D: CacheDisk>(
+        &self,
+        alloc: Global,
+        name: KrateName<'_>,
+        response: Response<'r>,
+        write_cache_entry: bool,
+        lock: &'l FileLock,
+        disk: &mut D,
+    ) -> Result<Option<IndexEntry<'r, 'l>>, Error>
+        requires { response.status ≡ 200 }
+        ensures taken { IsBodyTaken response.entry.body.now result }
+        ensures stores { D.tells → Stores self.now.cache.path (text_of name.entry) response.entry write_cache_entry (D.past disk.old) (D.past disk.new) }
+        ensures stored { D.tells → IsQuiet (D.faults disk.old) (D.faults disk.new) → IsToStore response.entry write_cache_entry
+            → OnOk result (StoresWhole self.now.cache.path (text_of name.entry) response.entry (D.past disk.new)) }
+        ensures calls { D.made disk.new ≤ D.made disk.old + 13 }
+        ensures later { D.faults disk.old ≤ D.faults disk.new }
+    {
+        let lines = match JsonLines::validate(response.body) {
+            Ok(lines) => lines,
+            Err(error) => return Err(Error::InvalidJsonLines(error)),
+        };
+        if write_cache_entry {
+            let revision = stored_under(response.revision);
+            match self.keep(alloc, name, lines, &revision, lock, disk) {
+                Ok(()) => {}
+                Err(_) => return Err(Error::NoMemory),
+            }
+        }
+        Ok(Some(IndexEntry::Remote(lines)))
+    }
+
+    /// Stores lines under a revision, where the disk does it.
+    fn keep<D: CacheDisk>(
+        &self,
+        alloc: Global,
+        name: KrateName<'_>,
+        lines: JsonLines<'_>,
+        revision: &Revision<'_>,
+        lock: &FileLock,
+        disk: &mut D,
+    ) -> Result<(), NoMemory>
+        ensures stored { D.tells → IsQuiet (D.faults disk.old) (D.faults disk.new) → IsTrue (is_storable (revision_value revision.now) (map pair_of (lines_of lines.entry)))
+            → (q : List ℕ) → cache_file_of self.now.cache.path (text_of name.entry) ≡ Some q → OnOk result (IsStored (entry (revision_value revision.now) (map pair_of (lines_of lines.entry))) (D.past disk.new q)) }
+        ensures unstored { D.tells → ¬ (IsTrue (is_storable (revision_value revision.now) (map pair_of (lines_of lines.entry)))) → (q : List ℕ) → D.past disk.new q ≡ D.past disk.old q }
+        ensures any_moment { D.tells → (q : List ℕ) → cache_file_of self.now.cache.path (text_of name.entry) ≡ Some q → IsOrderly (D.past disk.old q)
+            → EachMoment (D.past disk.old q) (D.past disk.new q) (λ file. may_leave (D.past disk.old q) file ⊎ (IsRefused file ⊎ (file ≡ Some (entry (revision_value revision.now) (map pair_of (lines_of lines.entry)))))) }
+        ensures orderly { D.tells → (q : List ℕ) → cache_file_of self.now.cache.path (text_of name.entry) ≡ Some q → IsOrderly (D.past disk.old q) → IsOrderly (D.past disk.new q) }
+        ensures others { D.tells → (q : List ℕ) → cache_file_of self.now.cache.path (text_of name.entry) ≢ Some q → D.past disk.new q ≡ D.past disk.old q }
+        ensures kept { D.tells → (m : ServerMap) → ((p : List ℕ) → path (text_of name.entry) ≡ Some p → IsTrue (is_storable (revision_value revision.now) (map pair_of (lines_of lines.entry))) → IsWrittenFor m p (revision_value revision.now) (map pair_of (lines_of lines.entry)))
+            → IsKept m self.now.cache.path (D.past disk.old) → Keeps m self.now.cache.path (D.past disk.old) (D.past disk.new) }
+        ensures calls { D.made disk.new ≤ D.made disk.old + 13 }
+        ensures later { D.faults disk.old ≤ D.faults disk.new }
+    {
+        match self.cache.write_to_cache(
+            alloc,
+            name,
+            CacheWrite::Remote(lines),
+            revision,
+            lock,
+            disk,
+        ) {
+            Ok(_) => Ok(()),
+            Err(CacheFault::Disk) => Ok(()),
+            Err(CacheFault::NoMemory) => Err(NoMemory),
+        }
+    }
+}
+
+/// The revision that a body is stored under.
+fn stored_under(revision: Option<HttpRevision<'_>>) -> Revision<'_>
+    ensures { revision_value result ≡ stored_under revision.entry }
+{
+    match revision {
+        Some(revision) => Revision::Http(revision),
+        None => Revision::Unknown,
+    }
+}
+
+fn config_of(alloc: Global, bytes: &[u8]) -> Result<IndexConfig, Error>
+    ensures ok { IfOk result (λ config. config_of bytes.now ≡ Some config) }
+    ensures refused { IfErr result (λ e. (e ≡ Error.NoMemory) ⊎ ((e ≡ Error.Json 0) × (config_of bytes.now ≡ None))) }
+{
+    match IndexConfig::from_slice(alloc, bytes) {
+        Ok(config) => Ok(config),
+        Err(LineFault::Json) => Err(Error::Json { line: 0 }),
+        Err(LineFault::NoMemory) => Err(Error::NoMemory),
+    }
+}
