@@ -1,6 +1,10 @@
-pub mod HeldLemmas
+pub mod Apart
+pub mod Exchanged
+pub mod HistoryLemmas
 pub mod Lists
-pub mod Rises
+pub mod Names
+pub mod Sound
 pub mod Steps
 pub mod Table
+pub mod TakenLemmas
 pub mod Whole

@@ -1,11 +1,12 @@
 -- Facts on lists, places and answers.
-use Rattle.std.proofs.Common.{◌≡◌, ℕ, suc, ◌+◌, ◌<◌, List, [], ◌∷◌, ◌++◌, length, drop, get_or, map, Bool, true, false, cond, Option, Some, None, option_map, Result, Ok, Err, Bor, refl, sym, ap, ◌∙◌, arith, rules, drop-cons}
-use Rattle.std.specs.Prelude.{option_and_then, is_some, slice_get, bytes_eq, OnOk, OnErr, find, ◌||◌}
+use Rattle.std.proofs.Common.{◌≡◌, ℕ, suc, ◌+◌, ◌<◌, List, [], ◌∷◌, ◌++◌, length, drop, get_or, map, Bool, true, false, cond, Option, Some, None, option_map, Result, Ok, Err, Bor, refl, sym, ap, ◌∙◌, arith, rules, drop-cons, append_assoc}
+use Rattle.std.specs.Prelude.{option_and_then, is_some, slice_get, bytes_eq, OnOk, OnErr, IfOk, find, ◌||◌}
 use Rattle.std.specs.Option.{option_or, option_copied}
 use Rattle.std.specs.Slice.{IsItemAt}
 use Rattle.std.specs.List.{position_from, list_any}
 use Rattle.std.proofs.lemmas.Option.{slice_get_past, slice_get_read}
 use Rattle.std.proofs.lemmas.Slice.Eq.{bytes_eq-Decides}
+use Rattle.tame_entry.proofs.Ahead.{before}
 
 pub on_err : {T E : Type 0} (r : Result T E) {P : Type 0} → P → OnErr r P
 on_err (Ok x) p = tt
@@ -88,3 +89,36 @@ cons_head x y xs ys h = cc
 
 pub cons_tail : {A : Type 0} (x y : A) (xs ys : List A) → x ∷ xs ≡ y ∷ ys → xs ≡ ys
 cons_tail x y xs ys h = cc
+
+-- ---- answers
+
+pub if_ok : {T E : Type 0} (r : Result T E) {P Q : T → Type 0} → ((x : T) → P x → Q x) → IfOk r P → IfOk r Q
+if_ok (Ok x) f p = f x p
+if_ok (Err e) f p = tt
+
+pub on_if_ok : {T E : Type 0} (r : Result T E) {P : T → Type 0} {Q : Type 0} → ((x : T) → P x → Q) → IfOk r P → OnOk r Q
+on_if_ok (Ok x) f p = f x p
+on_if_ok (Err e) f p = tt
+
+-- one more in front of what is left is one more behind what was read
+pub before_more : {A : Type 0} (xs : List A) (x : A) (o : Option (List A)) → before xs (option_map (λ ys. x ∷ ys) o) ≡ before (xs ++ x ∷ []) o
+before_more xs x None = refl
+before_more xs x (Some ys) = ap Some (sym (append_assoc xs (x ∷ []) ys))
+
+pub or_left : (a b : Bool) → a ≡ true → (a || b) ≡ true
+or_left a b h = rw h refl
+
+pub or_right : (a b : Bool) → b ≡ true → (a || b) ≡ true
+or_right true b h = refl
+or_right false b h = h
+
+-- as optional texts these are the same, so they are the same
+pub somes : {A B : Type 0} (f : A → B) (xs : List A) (ys : List B) → map (λ x. Some (f x)) xs ≡ map (λ y. Some y) ys → map f xs ≡ ys
+somes f [] [] h = refl
+somes f [] (y ∷ ys) h = cc
+somes f (x ∷ xs) [] h = cc
+somes f (x ∷ xs) (y ∷ ys) h =
+    let head : Some (f x) ≡ Some y = cons_head (Some (f x)) (Some y) (map (λ x. Some (f x)) xs) (map (λ y. Some y) ys) h in
+    let same : f x ≡ y = cc in
+    let more = somes f xs ys (cons_tail (Some (f x)) (Some y) (map (λ x. Some (f x)) xs) (map (λ y. Some y) ys) h) in
+    rw (same, more) refl

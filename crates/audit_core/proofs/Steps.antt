@@ -1,72 +1,149 @@
 -- One turn more.
-use Rattle.std.proofs.Common.{◌≡◌, ℕ, zero, suc, ◌<◌, List, [], ◌∷◌, ◌++◌, length, take, get_or, map, Option, refl, sym, ap, ◌∙◌, subst, append_assoc}
+use Rattle.std.proofs.Common.{◌≡◌, ◌≢◌, ℕ, zero, suc, ◌+◌, ◌<◌, List, [], ◌∷◌, ◌++◌, length, take, get_or, map, Option, Some, None, Bool, true, false, cond, IsTrue, refl, sym, ap, ◌∙◌, subst, append_assoc, arith}
+use Rattle.std.specs.List.{list_all}
 use Rattle.std.proofs.lemmas.List.{append-nil, map-append}
+use Rattle.std.proofs.lemmas.List.Folds.{list_all_at}
 use Rattle.std.proofs.Math.Seq.{take-suc}
-use Rattle.tame_entry.specs.declared.revisions.OwnedRevision.{OwnedRevision}
+use Rattle.tame_names.specs.Names.{is_name, path}
+use Rattle.tame_cache.specs.Disk.{Step, reads}
+use Rattle.tame_cache.specs.Kept.{Disk}
+use Rattle.tame_cache.proofs.KeptLemmas.{keeps_same, keeps_then}
 use Rattle.tame_sparse.specs.declared.network.Exchange.{Exchange}
-use Rattle.audit_core.proofs.Lists.{cons_head, cons_tail}
+use Rattle.audit_core.proofs.Lists.{cons_head, cons_tail, somes}
+use Rattle.audit_core.specs.Answers.{IsAnswer}
+use Rattle.audit_core.specs.Turns.{Adds, AddsNamed, AddsPart, AreCaused, Chains, IsExchanged, LeavesFile, Turned, index_file}
 use Rattle.audit_core.specs.declared.answers.PathAnswer.{PathAnswer}
 use Rattle.audit_core.specs.declared.asking.Heard.{Heard}
 use Rattle.audit_core.specs.declared.asking.Turn.{Turn}
-use Rattle.audit_core.specs.Turns.{Adds, AddsPart, AreCaused, Chains, LeavesDisk, heard, said}
 
-pub Adds-more : (ts us : List (List ℕ × PathAnswer)) (a b c : List Exchange) → Adds ts a b → Adds us b c → Adds (ts ++ us) a c
-Adds-more ts us a b c h k =
-    (h.0 ++ k.0, k.1 ∙ ap (λ x. x ++ k.0) h.1 ∙ append_assoc a h.0 k.0, simp map-append (rw (h.2, k.2)))
+-- ---- from a disk that is the same
 
-pub Chains-more : (a : ℕ) (ts us : List Turn) (b c : ℕ) → Chains a ts b → Chains b us c → Chains a (ts ++ us) c
-Chains-more a [] us b c h k = let P : ℕ → Type 0 = λ n. Chains n us c in subst P h k
-Chains-more a (t ∷ ts) us b c h k = (h.0, h.1, Chains-more t.wire_after ts us b c h.2 k)
+pub exchanged_from : (told : Type 0) (asked after : ℕ) (old mid new : Disk) (e : Exchange) (a : PathAnswer) → (told → (q : List ℕ) → mid q ≡ old q) → IsExchanged told asked after mid new e a → IsExchanged told asked after old new e a
+exchanged_from told asked after old mid new e a same x = record {
+  answer = λ t. subst (λ (s : List Step). IsAnswer (reads s) e.answer a) (same t (index_file e.path)) (x.answer t);
+  leaves = λ t. subst (λ (s : List Step). LeavesFile e.answer asked after s (new (index_file e.path))) (same t (index_file e.path)) (x.leaves t);
+  others = λ t q other. x.others t q other ∙ same t q;
+  keeps = λ t m honest kept. keeps_then m [] old mid new (keeps_same m [] old mid (same t) kept) (λ k. x.keeps t m honest k);
+}
+
+turned_from : (told : Type 0) (old mid new : Disk) (es : List Exchange) (hs : List Heard) → (told → (q : List ℕ) → mid q ≡ old q) → Turned told mid es hs new → Turned told old es hs new
+turned_from told old mid new [] [] same x = λ t q. x t q ∙ same t q
+turned_from told old mid new [] (h ∷ hs) same x = absurd x
+turned_from told old mid new (e ∷ es) [] same x = absurd x
+turned_from told old mid new (e ∷ es) (h ∷ hs) same x = (
+  x.0,
+  record {
+    place = x.1.place;
+    path = x.1.path;
+    named = λ t. subst (λ (s : List Step). Rattle.tame_sparse.specs.Named.NamesKept (reads s) h.turn.disk_before h.turn.disk_asked e.named) (same t (index_file e.path)) (x.1.named t);
+    exchanged = exchanged_from told h.turn.disk_asked h.turn.disk_after old mid x.0 e h.answer same x.1.exchanged;
+  },
+  x.2,
+)
+
+-- ---- one after another
+
+pub turned_more : (told : Type 0) (old mid new : Disk) (es fs : List Exchange) (hs ks : List Heard) → Turned told old es hs mid → Turned told mid fs ks new → Turned told old (es ++ fs) (hs ++ ks) new
+turned_more told old mid new [] fs [] ks x y = turned_from told old mid new fs ks x y
+turned_more told old mid new [] fs (h ∷ hs) ks x y = absurd x
+turned_more told old mid new (e ∷ es) fs [] ks x y = absurd x
+turned_more told old mid new (e ∷ es) fs (h ∷ hs) ks x y = (x.0, x.1, turned_more told x.0 mid new es fs hs ks x.2 y)
+
+pub Adds-more : (told : Type 0) (a b c : List Exchange) (old mid new : Disk) (hs ks : List Heard) → Adds told a b old hs mid → Adds told b c mid ks new → Adds told a c old (hs ++ ks) new
+Adds-more told a b c old mid new hs ks h k =
+    (h.0 ++ k.0, k.1 ∙ ap (λ (xs : List Exchange). xs ++ k.0) h.1 ∙ append_assoc a h.0 k.0, turned_more told old mid new h.0 k.0 hs ks h.2 k.2)
+
+pub Chains-more : (wire disk : ℕ) (ts us : List Turn) (mid_wire mid_disk last_wire last_disk : ℕ) → Chains wire disk ts mid_wire mid_disk → Chains mid_wire mid_disk us last_wire last_disk → Chains wire disk (ts ++ us) last_wire last_disk
+Chains-more wire disk [] us mw md lw ld h k =
+    let P : ℕ → ℕ → Type 0 = λ w d. Chains w d us lw ld in
+    subst (λ (w : ℕ). P w disk) h.0 (subst (λ (d : ℕ). P mw d) h.1 k)
+Chains-more wire disk (t ∷ ts) us mw md lw ld h k = (h.0, h.1, h.2, h.3, h.4, Chains-more t.wire_after t.disk_after ts us mw md lw ld h.5 k)
 
 pub AreCaused-more : (hs ks : List Heard) → AreCaused hs → AreCaused ks → AreCaused (hs ++ ks)
 AreCaused-more [] ks h k = k
 AreCaused-more (x ∷ hs) ks h k = (h.0, AreCaused-more hs ks h.1 k)
 
-pub LeavesDisk-more : (ts us : List Turn) → LeavesDisk ts → LeavesDisk us → LeavesDisk (ts ++ us)
-LeavesDisk-more [] us h k = k
-LeavesDisk-more (t ∷ ts) us h k = (h.0, h.1, h.2, LeavesDisk-more ts us h.3 k)
+-- ---- paths and names
 
-pub AddsPart-none : (paths : List (List ℕ)) (a : List Exchange) → AddsPart paths a a
-AddsPart-none paths a = ([], 0, sym (append-nil a), refl)
+pub turned_paths : (told : Type 0) (old new : Disk) (es : List Exchange) (hs : List Heard) → Turned told old es hs new → map (λ (e : Exchange). Some e.path) es ≡ map (λ (h : Heard). Some h.turn.path) hs
+turned_paths told old new [] [] x = refl
+turned_paths told old new [] (h ∷ hs) x = absurd x
+turned_paths told old new (e ∷ es) [] x = absurd x
+turned_paths told old new (e ∷ es) (h ∷ hs) x =
+    ap (λ (q : List ℕ). Some q ∷ map (λ (e : Exchange). Some e.path) es) x.1.path ∙ ap (λ (qs : List (Option (List ℕ))). Some h.turn.path ∷ qs) (turned_paths told x.0 new es hs x.2)
 
--- the paths of the exchanges are those of what was heard
-pub said_paths : (es : List Exchange) (asked : List (List ℕ × PathAnswer)) → map said es ≡ map heard asked → map (λ e. e.path) es ≡ map (λ p. p.0) asked
-said_paths [] [] h = refl
-said_paths [] (p ∷ ps) h = cc
-said_paths (e ∷ es) [] h = cc
-said_paths (e ∷ es) (p ∷ ps) h =
-    let same : e.path ≡ p.0 = ap (λ (t : List ℕ × (Option OwnedRevision × PathAnswer)). t.0) (cons_head (said e) (heard p) (map said es) (map heard ps) h) in
-    let more : map said es ≡ map heard ps = cons_tail (said e) (heard p) (map said es) (map heard ps) h in
-    rw (same, said_paths es ps more) refl
+pub map_take : {A B : Type 0} (f : A → B) (n : ℕ) (xs : List A) → map f (take n xs) ≡ take n (map f xs)
+map_take f zero xs = refl
+map_take f (suc n) [] = refl
+map_take f (suc n) (x ∷ xs) = ap (λ ys. f x ∷ ys) (map_take f n xs)
 
-take_none : (n : ℕ) → take n (let xs : List (List ℕ) = [] in xs) ≡ []
+next_names : (names : List (List ℕ)) (i : ℕ) (name : List ℕ) → i < length names → name ≡ get_or names i name → map path (take (suc i) names) ≡ map path (take i names) ++ path name ∷ []
+next_names names i name low is =
+    ap (map path) (take-suc names i name low ∙ ap (λ (n : List ℕ). take i names ++ n ∷ []) (sym is)) ∙ map-append path (take i names) (name ∷ [])
+
+pub paths_more : (names : List (List ℕ)) (i : ℕ) (name : List ℕ) (hs : List Heard) (h : Heard) → i < length names → name ≡ get_or names i name → map (λ (h : Heard). Some h.turn.path) hs ≡ map path (take i names) → path name ≡ Some h.turn.path
+    → map (λ (h : Heard). Some h.turn.path) (hs ++ h ∷ []) ≡ map path (take (i + 1) names)
+paths_more names i name hs h low is same at =
+    let next : suc i ≡ i + 1 = omega arith in
+    map-append (λ (h : Heard). Some h.turn.path) hs (h ∷ []) ∙ ap (λ (qs : List (Option (List ℕ))). qs ++ Some h.turn.path ∷ []) same
+    ∙ ap (λ (q : Option (List ℕ)). map path (take i names) ++ q ∷ []) (sym at) ∙ sym (next_names names i name low is) ∙ ap (λ n. map path (take n names)) next
+
+take_none : {A : Type 0} (n : ℕ) → take n (let xs : List A = [] in xs) ≡ []
 take_none zero = refl
 take_none (suc n) = refl
 
--- a part of one path more is a part of the paths
-one_more : (paths : List (List ℕ)) (i : ℕ) (p : List ℕ) (n : ℕ) → i < length paths → p ≡ get_or paths i p → (m : ℕ) × (take i paths ++ take n (p ∷ []) ≡ take m paths)
-one_more paths i p zero low is = (i, append-nil (take i paths))
-one_more paths i p (suc n) low is =
-    (suc i, rw (take_none n) (ap (λ q. take i paths ++ q ∷ []) is ∙ sym (take-suc paths i p low)))
+part_case : (names : List (List ℕ)) (i : ℕ) (name : List ℕ) (es fs : List Exchange) (k : ℕ) → i < length names → name ≡ get_or names i name → map (λ (e : Exchange). Some e.path) es ≡ map path (take i names)
+    → map (λ (e : Exchange). Some e.path) fs ≡ take k (path name ∷ []) → (n : ℕ) × (map (λ (e : Exchange). Some e.path) (es ++ fs) ≡ take n (map path names))
+part_case names i name es fs zero low is same more =
+    (i, map-append (λ (e : Exchange). Some e.path) es fs ∙ ap (λ (qs : List (Option (List ℕ))). map (λ (e : Exchange). Some e.path) es ++ qs) more ∙ append-nil _ ∙ same ∙ map_take path i names)
+part_case names i name es fs (suc k) low is same more = (
+  suc i,
+  map-append (λ (e : Exchange). Some e.path) es fs ∙ ap (λ (qs : List (Option (List ℕ))). map (λ (e : Exchange). Some e.path) es ++ qs) (more ∙ ap (λ (qs : List (Option (List ℕ))). path name ∷ qs) (take_none k))
+      ∙ ap (λ (qs : List (Option (List ℕ))). qs ++ path name ∷ []) same ∙ sym (next_names names i name low is) ∙ map_take path (suc i) names,
+)
 
-pub AddsPart-more : (paths : List (List ℕ)) (i : ℕ) (p : List ℕ) (asked : List (List ℕ × PathAnswer)) (a b c : List Exchange) → i < length paths → p ≡ get_or paths i p
-    → map (λ q. q.0) asked ≡ take i paths → Adds asked a b → AddsPart (p ∷ []) b c → AddsPart paths a c
-AddsPart-more paths i p asked a b c low is same h k =
-    let m = one_more paths i p k.1 low is in
-    (h.0 ++ k.0, m.0, k.2 ∙ ap (λ x. x ++ k.0) h.1 ∙ append_assoc a h.0 k.0, simp map-append (rw (said_paths h.0 asked h.2, same, k.3) m.1))
+pub AddsNamed-more : (names : List (List ℕ)) (i : ℕ) (name : List ℕ) (a b c : List Exchange) (es : List Exchange) → i < length names → name ≡ get_or names i name → b ≡ a ++ es → map (λ (e : Exchange). Some e.path) es ≡ map path (take i names)
+    → AddsNamed (name ∷ []) b c → AddsNamed names a c
+AddsNamed-more names i name a b c es low is first same k =
+    let n = part_case names i name es k.0 k.1 low is same k.3 in
+    (es ++ k.0, n.0, k.2 ∙ ap (λ (xs : List Exchange). xs ++ k.0) first ∙ append_assoc a es k.0, n.1)
+
+-- what was asked for a path is a part of what is asked by its name
+pub part_named : (name q : List ℕ) (before now : List Exchange) → path name ≡ Some q → AddsPart (q ∷ []) before now → AddsNamed (name ∷ []) before now
+part_named name q before now at k = (k.0, k.1, k.2, go k.0 k.1 k.3)
+  where
+    some : (es : List Exchange) (qs : List (List ℕ)) → map (λ (e : Exchange). e.path) es ≡ qs → map (λ (e : Exchange). Some e.path) es ≡ map (λ q. Some q) qs
+    some [] [] h = refl
+    some [] (q ∷ qs) h = cc
+    some (e ∷ es) [] h = cc
+    some (e ∷ es) (p ∷ qs) h =
+        let head : e.path ≡ p = cons_head e.path p (map (λ (e : Exchange). e.path) es) qs h in
+        let tail : map (λ (e : Exchange). e.path) es ≡ qs = cons_tail e.path p (map (λ (e : Exchange). e.path) es) qs h in
+        ap (λ (x : List ℕ). Some x ∷ map (λ (e : Exchange). Some e.path) es) head ∙ ap (λ (os : List (Option (List ℕ))). Some p ∷ os) (some es qs tail)
+
+    go : (es : List Exchange) (n : ℕ) → map (λ (e : Exchange). e.path) es ≡ take n (q ∷ []) → map (λ (e : Exchange). Some e.path) es ≡ take n (path name ∷ [])
+    go es zero h = some es [] h
+    go es (suc n) h = some es (q ∷ take n []) h ∙ ap (λ (o : Option (List ℕ)). o ∷ map (λ q. Some q) (take n [])) (sym at) ∙ ap (λ (qs : List (Option (List ℕ))). path name ∷ qs) (map_take (λ q. Some q) n [])
+
+-- a turn that was taken
+pub Adds-named : (told : Type 0) (name : List ℕ) (h : Heard) (before now : List Exchange) (old new : Disk) → path name ≡ Some h.turn.path → Adds told before now old (h ∷ []) new → AddsNamed (name ∷ []) before now
+Adds-named told name h before now old new at x = (x.0, 1, x.1, turned_paths told old new x.0 (h ∷ []) x.2 ∙ ap (λ (o : Option (List ℕ)). o ∷ []) (sym at))
+
+-- ---- names
+
+some_test : (b : Bool) → (b ≡ false → ⊥) → b ≡ true
+some_test true h = refl
+some_test false h = absurd (h refl)
+
+pub name_at : (names : List (List ℕ)) (i : ℕ) (name : List ℕ) → i < length names → name ≡ get_or names i name → list_all is_name names ≡ true → is_name name ≡ true
+name_at names i name low is whole =
+    ap is_name is ∙ some_test (is_name (get_or names i name)) (λ e. cc (whole, list_all_at is_name names i name low e))
 
 take_all : (xs : List (List ℕ)) → take (length xs) xs ≡ xs
 take_all [] = refl
 take_all (x ∷ xs) = ap (λ ys. x ∷ ys) (take_all xs)
 
 -- all of the paths are a part of them
-pub AddsPart-all : (paths : List (List ℕ)) (asked : List (List ℕ × PathAnswer)) (a b : List Exchange) → map (λ q. q.0) asked ≡ paths → Adds asked a b → AddsPart paths a b
-AddsPart-all paths asked a b same h = (h.0, length paths, h.1, said_paths h.0 asked h.2 ∙ same ∙ sym (take_all paths))
-
--- what was heard, as paths with their answers
-abbrev pub pair : Heard → List ℕ × PathAnswer
-pair h = (h.turn.path, h.answer)
-
-pub pair_paths : (hs : List Heard) → map (λ q. q.0) (map pair hs) ≡ map (λ h. h.turn.path) hs
-pair_paths [] = refl
-pair_paths (h ∷ hs) = ap (λ qs. h.turn.path ∷ qs) (pair_paths hs)
+pub Adds-part : (told : Type 0) (paths : List (List ℕ)) (hs : List Heard) (before now : List Exchange) (old new : Disk) → map (λ (h : Heard). Some h.turn.path) hs ≡ map (λ q. Some q) paths → Adds told before now old hs new → AddsPart paths before now
+Adds-part told paths hs before now old new same x =
+    (x.0, length paths, x.1, somes (λ (e : Exchange). e.path) x.0 paths (turned_paths told old new x.0 hs x.2 ∙ same) ∙ sym (take_all paths))

@@ -1,94 +1,28 @@
--- The verdicts by what was heard are those of the table, over what came.
-use Rattle.std.proofs.Common.{◌≡◌, ℕ, ◌+◌, List, [], ◌∷◌, ◌++◌, map, Bool, true, false, cond, Option, Some, None, option_map, refl, sym, ap, ◌∙◌, subst}
-use Rattle.std.specs.Prelude.{bytes_eq, find, filter, ◌||◌, ◌==◌}
+-- Verdicts by what was heard.
+use Rattle.std.proofs.Common.{◌≡◌, ℕ, ◌+◌, List, [], ◌∷◌, ◌++◌, map, Bool, true, false, cond, Option, Some, None, refl, sym, ap, ◌∙◌, subst}
+use Rattle.std.specs.Prelude.{bytes_eq, find, filter, ◌||◌}
 use Rattle.std.specs.List.{enumerate_from, cons_option}
 use Rattle.tame_names.specs.Names.{path}
-use Rattle.tame_entry.specs.Lines.{valid}
-use Rattle.tame_records.specs.Lines.{lines}
-use Rattle.tame_entry.specs.Says.{heads_of}
-use Rattle.tame_entry.specs.declared.revisions.OwnedRevision.{OwnedRevision}
-use Rattle.tame_sparse.specs.declared.network.Exchange.{Exchange}
-use Rattle.tame_sparse.specs.declared.network.WireAnswer.{WireAnswer}
 use Rattle.audit_lock.specs.declared.resolving.Package.{Package}
-use Rattle.audit_core.specs.Answers.{answer_of, verdict_by}
-use Rattle.audit_core.specs.Audits.{NamesNothing}
-use Rattle.audit_core.specs.Heard.{heard_at, heard_by, heard_judged, heard_verdict}
+use Rattle.audit_core.specs.Answers.{verdict_by}
+use Rattle.audit_core.specs.Heard.{heard_at, heard_by, heard_judged}
 use Rattle.audit_core.specs.Heard as told
 use Rattle.audit_core.specs.Paths.{asked_paths, default_path, default_paths, distinct_after, is_among, is_default}
-use Rattle.audit_core.specs.Turns.{heard, said}
-use Rattle.audit_core.specs.Verdicts.{answer_verdict, came_judged, exchange_of, lines_verdict, status_says_absent, verdict_at}
-use Rattle.audit_core.specs.declared.answers.PathAnswer.{PathAnswer}
-use Rattle.audit_core.specs.declared.answers.PathAnswer.TheVariants.{Settled, Lines}
+use Rattle.audit_core.specs.Verdicts.{AreVerdicts}
 use Rattle.audit_core.specs.declared.asking.Heard.{Heard}
 use Rattle.audit_core.specs.declared.verdicts.Cause.TheVariants as cause
+use Rattle.audit_core.specs.declared.verdicts.Judged.{Judged}
 use Rattle.audit_core.specs.declared.verdicts.Verdict.{Verdict}
 use Rattle.audit_core.specs.declared.verdicts.Verdict.TheVariants.{Unchecked}
-use Rattle.audit_core.proofs.Lists.{bytes_same, cons_head, cons_tail, get_place, same_bytes}
-use Rattle.audit_core.proofs.Steps.{pair}
-
--- ---- one answer
-
-body_same : (b : Bool) (body version : List ℕ) → verdict_by (cond b (Lines (heads_of (lines body))) (Settled cause.JsonLines)) version ≡ cond b (lines_verdict body version) (Unchecked cause.JsonLines)
-body_same true body version = refl
-body_same false body version = refl
-
-chosen : (a b c : Bool) (x y z w : PathAnswer) (p q r s : Verdict) (version : List ℕ) → verdict_by x version ≡ p → verdict_by y version ≡ q → verdict_by z version ≡ r → verdict_by w version ≡ s
-    → verdict_by (cond a x (cond b y (cond c z w))) version ≡ cond a p (cond b q (cond c r s))
-chosen true b c x y z w p q r s version hx hy hz hw = hx
-chosen false true c x y z w p q r s version hx hy hz hw = hy
-chosen false false true x y z w p q r s version hx hy hz hw = hz
-chosen false false false x y z w p q r s version hx hy hz hw = hw
-
-pub answer_same : (a : Option WireAnswer) (version : List ℕ) → verdict_by (answer_of a) version ≡ answer_verdict a version
-answer_same None version = refl
-answer_same (Some a) version =
-    chosen (status_says_absent a.status) (a.status == 200) (a.status == 304) _ _ _ _ _ _ _ _ version refl (body_same (valid a.body) a.body version) refl refl
-
--- ---- the answer of a path
-
-pick : (version : List ℕ) (a b : Bool) (e : Exchange) (x : Heard) (o : Option Exchange) (p : Option Heard) → a ≡ b → answer_verdict e.answer version ≡ verdict_by x.answer version
-    → option_map (λ (e : Exchange). answer_verdict e.answer version) o ≡ option_map (λ (h : Heard). verdict_by h.answer version) p
-    → option_map (λ (e : Exchange). answer_verdict e.answer version) (cond a (Some e) o) ≡ option_map (λ (h : Heard). verdict_by h.answer version) (cond b (Some x) p)
-pick version true true e x o p same verdict rest = ap Some verdict
-pick version false false e x o p same verdict rest = rest
-pick version true false e x o p same verdict rest = cc
-pick version false true e x o p same verdict rest = cc
-
-pub find_said : (q version : List ℕ) (hs : List Heard) (es : List Exchange) → map said es ≡ map heard (map pair hs)
-    → option_map (λ e. answer_verdict e.answer version) (exchange_of q es) ≡ option_map (λ h. verdict_by h.answer version) (find (λ h. bytes_eq h.turn.path q) hs)
-find_said q version [] [] h = refl
-find_said q version [] (e ∷ es) h = cc
-find_said q version (x ∷ hs) [] h = cc
-find_said q version (x ∷ hs) (e ∷ es) h =
-    let head = cons_head (said e) (heard (pair x)) (map said es) (map heard (map pair hs)) h in
-    let rest = find_said q version hs es (cons_tail (said e) (heard (pair x)) (map said es) (map heard (map pair hs)) h) in
-    let at : e.path ≡ x.turn.path = ap (λ (t : List ℕ × (Option OwnedRevision × PathAnswer)). t.0) head in
-    let answer : answer_of e.answer ≡ x.answer = ap (λ (t : List ℕ × (Option OwnedRevision × PathAnswer)). t.1.1) head in
-    let verdict : answer_verdict e.answer version ≡ verdict_by x.answer version = sym (answer_same e.answer version) ∙ ap (λ a. verdict_by a version) answer in
-    pick version (bytes_eq e.path q) (bytes_eq x.turn.path q) e x _ _ (ap (λ p. bytes_eq p q) at) verdict rest
-
-pub named_nothing : (asked : List (List ℕ × PathAnswer)) (es : List Exchange) → map said es ≡ map heard asked → NamesNothing es
-named_nothing asked [] h = tt
-named_nothing [] (e ∷ es) h = cc
-named_nothing (p ∷ ps) (e ∷ es) h = (
-  ap (λ (t : List ℕ × (Option OwnedRevision × PathAnswer)). t.1.0) (cons_head (said e) (heard p) (map said es) (map heard ps) h),
-  named_nothing ps es (cons_tail (said e) (heard p) (map said es) (map heard ps) h),
-)
+use Rattle.audit_core.proofs.Lists.{bytes_same, get_place, or_left, or_right, same_bytes}
 
 -- ---- each path that is asked for is heard of
 
-or_left : (a b : Bool) → a ≡ true → (a || b) ≡ true
-or_left a b h = rw h refl
-
-or_right : (a b : Bool) → b ≡ true → (a || b) ≡ true
-or_right true b h = refl
-or_right false b h = h
-
-or_cases : (a b : Bool) {P : Type 0} → (a || b) ≡ true → (a ≡ true → P) → (b ≡ true → P) → P
+pub or_cases : (a b : Bool) {P : Type 0} → (a || b) ≡ true → (a ≡ true → P) → (b ≡ true → P) → P
 or_cases true b h f g = f refl
 or_cases false b h f g = g h
 
-among_append : (q x : List ℕ) (seen : List (List ℕ)) → is_among q (seen ++ x ∷ []) ≡ true → (is_among q seen || bytes_eq x q) ≡ true
+pub among_append : (q x : List ℕ) (seen : List (List ℕ)) → is_among q (seen ++ x ∷ []) ≡ true → (is_among q seen || bytes_eq x q) ≡ true
 among_append q x [] h = or_cases (bytes_eq x q) false h (λ e. e) (λ e. cc)
 among_append q x (y ∷ ys) h =
     or_cases (bytes_eq y q) (is_among q (ys ++ x ∷ [])) h
@@ -138,15 +72,6 @@ all_heard hs ps same q h =
 pub at_path : (paths : List (List ℕ)) (hs : List Heard) (q : List ℕ) (h : Heard) → map (λ h. h.turn.path) hs ≡ paths → find (λ h. bytes_eq h.turn.path q) hs ≡ Some h → heard_at paths hs q ≡ Some h
 at_path paths hs q h same found = rw (← same) (get_place (λ p. bytes_eq p q) (λ (h : Heard). h.turn.path) hs ∙ found)
 
-one_verdict : (paths : List (List ℕ)) (hs : List Heard) (es : List Exchange) → map (λ h. h.turn.path) hs ≡ paths → map said es ≡ map heard (map pair hs)
-    → (o : Option (List ℕ)) (version : List ℕ) → ((q : List ℕ) → o ≡ Some q → (h : Heard) × (find (λ h. bytes_eq h.turn.path q) hs ≡ Some h))
-    → Some (told.verdict_at paths hs version o) ≡ verdict_at es version o
-one_verdict paths hs es same answers None version f = refl
-one_verdict paths hs es same answers (Some q) version f =
-    let found = f q refl in
-    ap (λ o. Some (heard_by version o)) (at_path paths hs q found.0 same found.1)
-    ∙ sym (find_said q version hs es answers ∙ ap (option_map (λ (h : Heard). verdict_by h.answer version)) found.1)
-
 pub first_path : (b : Bool) (name : Option (List ℕ)) (q : List ℕ) (qs : List (List ℕ)) → b ≡ true → name ≡ Some q → is_among q (cons_option (cond b name None) qs) ≡ true
 first_path b name q qs is named = rw (is, named) (or_left _ _ (bytes_same q))
 
@@ -154,17 +79,31 @@ pub later_path : (o : Option (List ℕ)) (q : List ℕ) (qs : List (List ℕ)) �
 later_path None q qs h = h
 later_path (Some p) q qs h = or_right _ _ h
 
-judged_case : (paths : List (List ℕ)) (hs : List Heard) (es : List Exchange) (b : Bool) (p : ℕ × Package) (rest : List (ℕ × Package)) → (b ≡ true → Some (heard_judged paths hs p) ≡ came_judged es p)
-    → map (λ j. Some j) (map (heard_judged paths hs) rest) ≡ map (came_judged es) rest
-    → map (λ j. Some j) (map (heard_judged paths hs) (cond b (p ∷ rest) rest)) ≡ map (came_judged es) (cond b (p ∷ rest) rest)
-judged_case paths hs es true p rest f h = rw (f refl, h) refl
-judged_case paths hs es false p rest f h = h
+-- the verdict of a package has what the verdicts of every version by what was heard of its path have
+one_verdict : (Is : List ℕ → Option (List ℕ) → Verdict → Type 0) (paths : List (List ℕ)) (hs : List Heard) → map (λ h. h.turn.path) hs ≡ paths
+    → ((version : List ℕ) → Is version None (Unchecked cause.Name))
+    → ((q version : List ℕ) (h : Heard) → find (λ h. bytes_eq h.turn.path q) hs ≡ Some h → Is version (Some q) (verdict_by h.answer version))
+    → (o : Option (List ℕ)) (version : List ℕ) → ((q : List ℕ) → o ≡ Some q → (h : Heard) × (find (λ h. bytes_eq h.turn.path q) hs ≡ Some h))
+    → Is version o (told.verdict_at paths hs version o)
+one_verdict Is paths hs same nameless named None version f = nameless version
+one_verdict Is paths hs same nameless named (Some q) version f =
+    let found = f q refl in
+    let P : Option Heard → Type 0 = λ o. Is version (Some q) (heard_by version o) in
+    subst P (sym (at_path paths hs q found.0 same found.1)) (named q version found.0 found.1)
 
-pub all_judged : (paths : List (List ℕ)) (hs : List Heard) (es : List Exchange) → map (λ h. h.turn.path) hs ≡ paths → map said es ≡ map heard (map pair hs)
+verdict_case : (Is : List ℕ → Option (List ℕ) → Verdict → Type 0) (paths : List (List ℕ)) (hs : List Heard) (b : Bool) (p : ℕ × Package) (rest : List (ℕ × Package))
+    → (b ≡ true → Is p.1.version (path p.1.name) (heard_judged paths hs p).verdict) → AreVerdicts Is rest (map (heard_judged paths hs) rest)
+    → AreVerdicts Is (cond b (p ∷ rest) rest) (map (heard_judged paths hs) (cond b (p ∷ rest) rest))
+verdict_case Is paths hs true p rest f h = (refl, f refl, h)
+verdict_case Is paths hs false p rest f h = h
+
+pub all_verdicts : (Is : List ℕ → Option (List ℕ) → Verdict → Type 0) (paths : List (List ℕ)) (hs : List Heard) → map (λ h. h.turn.path) hs ≡ paths
+    → ((version : List ℕ) → Is version None (Unchecked cause.Name))
+    → ((q version : List ℕ) (h : Heard) → find (λ h. bytes_eq h.turn.path q) hs ≡ Some h → Is version (Some q) (verdict_by h.answer version))
     → (n : ℕ) (ps : List Package) → AreHeard hs ps
-    → map (λ j. Some j) (map (heard_judged paths hs) (filter (λ p. is_default p.1) (enumerate_from n ps))) ≡ map (came_judged es) (filter (λ p. is_default p.1) (enumerate_from n ps))
-all_judged paths hs es same answers n [] f = refl
-all_judged paths hs es same answers n (p ∷ ps) f =
-    judged_case paths hs es (is_default p) (n, p) _
-    (λ is. ap (option_map (λ (v : Verdict). record { «package» = n; verdict = v })) (one_verdict paths hs es same answers (path p.name) p.version (λ q named. f q (first_path (is_default p) (path p.name) q (default_paths ps) is named))))
-    (all_judged paths hs es same answers (n + 1) ps (λ q h. f q (later_path (default_path p) q (default_paths ps) h)))
+    → AreVerdicts Is (filter (λ p. is_default p.1) (enumerate_from n ps)) (map (heard_judged paths hs) (filter (λ p. is_default p.1) (enumerate_from n ps)))
+all_verdicts Is paths hs same nameless named n [] f = tt
+all_verdicts Is paths hs same nameless named n (p ∷ ps) f =
+    verdict_case Is paths hs (is_default p) (n, p) _
+    (λ is. one_verdict Is paths hs same nameless named (path p.name) p.version (λ q at. f q (first_path (is_default p) (path p.name) q (default_paths ps) is at)))
+    (all_verdicts Is paths hs same nameless named (n + 1) ps (λ q h. f q (later_path (default_path p) q (default_paths ps) h)))

@@ -1,57 +1,67 @@
--- What an audit asked, and what it says of the packages.
-use Rattle.std.specs.Prelude.{◌≡◌, ℕ, List, [], ◌∷◌, ◌++◌, map, find, bytes_eq, Option, Some, None, IsSomeAnd}
+-- What an audit asked, what it kept, and what it says of the packages.
+use Rattle.std.specs.Prelude.{◌≡◌, ◌≢◌, ℕ, List, [], ◌∷◌, ◌++◌, map, IsTrue, Option, Some, None, IsSomeAnd}
 use Rattle.tame_names.specs.Counts.{Rose}
 use Rattle.tame_names.specs.Names.{path}
 use Rattle.tame_entry.specs.Held.{ServerMap}
+use Rattle.tame_cache.specs.Disk.{reads}
+use Rattle.tame_cache.specs.Kept.{Disk, IsKept}
 use Rattle.tame_sparse.specs.Honest.{AreHonest}
+use Rattle.tame_sparse.specs.Named.{NamesKept}
 use Rattle.tame_sparse.specs.declared.network.Exchange.{Exchange}
 use Rattle.audit_lock.specs.declared.resolving.Package.{Package}
-use Rattle.audit_core.specs.Paths.{asked_paths, defaults}
-use Rattle.audit_core.specs.Turns.{Chains, LeavesDisk}
-use Rattle.audit_core.specs.Verdicts.{AreHeldVerdicts, came_judged}
+use Rattle.audit_core.specs.Paths.{asked_paths, defaults, is_among}
+use Rattle.audit_core.specs.Turns.{Chains, LeavesFile, index_file}
+use Rattle.audit_core.specs.Verdicts.{AreVerdicts, IsCameAt, IsHeldAt, turn_of}
 use Rattle.audit_core.specs.declared.asking.Turn.{Turn}
 use Rattle.audit_core.specs.declared.verdicts.Cause.TheVariants as cause
 use Rattle.audit_core.specs.declared.verdicts.Judged.{Judged}
+use Rattle.audit_core.specs.declared.verdicts.Verdict.{Verdict}
 use Rattle.audit_core.specs.declared.verdicts.Verdict.TheVariants.{Unchecked}
 
-abbrev pub NamesNothing : List Exchange → Type 0
-NamesNothing [] = Unit {0}
-NamesNothing (e ∷ es) = (e.named ≡ None) × NamesNothing es
+-- ---- the turns, over the files at the audit's entry and at its exit
 
--- one exchange for each path that is asked for, in their order, and a verdict for each package of the default registry, by the table over what came
-pub record IsAudit (packages : List Package) (added : List Exchange) (verdicts : List Judged) : Type 0 where
+-- the request names what the file's revision allows, or nothing; and what its turn leaves of the file stands at the end
+pub record IsTurned (old new : Disk) (e : Exchange) (t : Turn) : Type 0 where
+  pub path : e.path ≡ t.path
+  pub named : NamesKept (reads (old (index_file e.path))) t.disk_before t.disk_asked e.named
+  pub leaves : LeavesFile e.answer t.disk_asked t.disk_after (old (index_file e.path)) (new (index_file e.path))
+
+abbrev pub AreTurned : Disk → Disk → List Exchange → List Turn → Type 0
+AreTurned old new [] [] = Unit {0}
+AreTurned old new (e ∷ es) (t ∷ ts) = IsTurned old new e t × AreTurned old new es ts
+AreTurned old new _ _ = ⊥
+
+-- ---- the audit
+
+-- one exchange for each path that is asked for, in their order; a verdict for each package of the default registry, by the table over what came; and no other files change
+pub record IsAudit (told : Type 0) (old new : Disk) (packages : List Package) (added : List Exchange) (turns : List Turn) (verdicts : List Judged) : Type 0 where
   pub asked : map (λ e. e.path) added ≡ asked_paths packages
-  pub named : NamesNothing added
-  pub judged : map (λ j. Some j) verdicts ≡ map (came_judged added) (defaults packages)
+  pub judged : told → AreVerdicts (IsCameAt (λ q. reads (old (index_file q))) added) (defaults packages) verdicts
+  pub turned : told → AreTurned old new added turns
+  pub others : told → (q : List ℕ) → ((p : List ℕ) → IsTrue (is_among p (asked_paths packages)) → q ≢ index_file p) → new q ≡ old q
 
 -- exactly these exchanges follow the list
-abbrev pub AddsAudit : List Package → List Exchange → List Exchange → List Judged → Type 0
-AddsAudit packages before now verdicts = (added : List Exchange) × (now ≡ before ++ added) × IsAudit packages added verdicts
+abbrev pub AddsAudit : Type 0 → Disk → Disk → List Package → List Exchange → List Exchange → List Turn → List Judged → Type 0
+AddsAudit told old new packages before now turns verdicts = (added : List Exchange) × (now ≡ before ++ added) × IsAudit told old new packages added turns verdicts
 
--- over an honest server the verdicts are those of the table over what it held when asked
-abbrev pub HeldDecides : List Package → List Exchange → List Exchange → List Judged → Type 0
-HeldDecides packages before now verdicts =
-    (m : ServerMap) (added : List Exchange) → now ≡ before ++ added → AreHonest m added → AreHeldVerdicts added (defaults packages) verdicts
+-- over an honest server, and a disk that is kept for what it held, the verdicts are those of the table over what it held when asked
+abbrev pub HeldDecides : List Package → List Exchange → List Exchange → Disk → List Turn → List Judged → Type 0
+HeldDecides packages before now disk turns verdicts =
+    (m : ServerMap) (added : List Exchange) → now ≡ before ++ added → AreHonest m added → IsKept m [] disk → AreVerdicts (IsHeldAt added turns) (defaults packages) verdicts
 
--- one turn for each path that is asked for, in their order; the counts go on from the first number to the last
-pub record AreTurns (packages : List Package) (first last : ℕ) (turns : List Turn) : Type 0 where
+-- one turn for each path that is asked for, in their order; the counts go on from the first numbers to the last
+pub record AreTurns (packages : List Package) (wire disk last_wire last_disk : ℕ) (turns : List Turn) : Type 0 where
   pub paths : map (λ t. t.path) turns ≡ asked_paths packages
-  pub counts : Chains first turns last
-  pub disk : LeavesDisk turns
+  pub counts : Chains wire disk turns last_wire last_disk
 
--- the turn of a path
-abbrev pub turn_of : List ℕ → List Turn → Option Turn
-turn_of q turns = find (λ t. bytes_eq t.path q) turns
+-- a package that is unchecked by the wire or the store has a turn in which that count rose
+pub record IsRoseFor (turns : List Turn) (q : List ℕ) (verdict : Verdict) : Type 0 where
+  pub wire : verdict ≡ Unchecked cause.Wire → IsSomeAnd (turn_of q turns) (λ t. Rose t.wire_before t.wire_after)
+  pub store : verdict ≡ Unchecked cause.Store → IsSomeAnd (turn_of q turns) (λ t. Rose t.disk_asked t.disk_after)
 
-abbrev pub RoseFor : List Turn → Option (List ℕ) → Type 0
-RoseFor turns None = ⊥
-RoseFor turns (Some q) = IsSomeAnd (turn_of q turns) (λ t. Rose t.wire_before t.wire_after)
+abbrev pub IsCausedAt : List Turn → List ℕ → Option (List ℕ) → Verdict → Type 0
+IsCausedAt turns version None verdict = verdict ≡ Unchecked cause.Name
+IsCausedAt turns version (Some q) verdict = IsRoseFor turns q verdict
 
-abbrev pub AreWireCaused : List Turn → List (ℕ × Package) → List Judged → Type 0
-AreWireCaused turns [] [] = Unit {0}
-AreWireCaused turns (p ∷ ps) (j ∷ js) = (j.verdict ≡ Unchecked cause.Wire → RoseFor turns (path p.1.name)) × AreWireCaused turns ps js
-AreWireCaused turns _ _ = ⊥
-
--- where a package is unchecked by the wire, the wire's count rose in the turn of its path
-abbrev pub WireCaused : List Package → List Turn → List Judged → Type 0
-WireCaused packages turns verdicts = AreWireCaused turns (defaults packages) verdicts
+abbrev pub Caused : List Package → List Turn → List Judged → Type 0
+Caused packages turns verdicts = AreVerdicts (IsCausedAt turns) (defaults packages) verdicts

@@ -1,7 +1,9 @@
 pub mod Answers
 pub mod Audits
 pub mod Heard
+pub mod Histories
 pub mod Paths
 pub mod Plans
+pub mod Taken
 pub mod Turns
 pub mod Verdicts

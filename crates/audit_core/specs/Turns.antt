@@ -1,41 +1,103 @@
 -- The turns of an audit: one for each path, one exchange each, their counts chained.
-use Rattle.std.specs.Prelude.{◌≡◌, ◌≤◌, ℕ, List, [], ◌∷◌, ◌++◌, map, take, Option, None}
+use Rattle.std.specs.Prelude.{◌≡◌, ◌≢◌, ◌≤◌, ℕ, List, [], ◌∷◌, ◌++◌, map, take, IsTrue, Option, Some, None, IfSome, IsSomeAnd}
+use Rattle.tame_names.specs.Counts.{IsQuiet, Rose}
+use Rattle.tame_names.specs.Names.{IsIndexPath, path}
+use Rattle.tame_entry.specs.Entry.{entry, is_storable, pairs}
+use Rattle.tame_entry.specs.Held.{ServerMap}
+use Rattle.tame_entry.specs.Lines.{invalid}
+use Rattle.tame_entry.specs.Revision.{EntryRevision, Http, Unknown}
 use Rattle.tame_entry.specs.declared.revisions.OwnedRevision.{OwnedRevision}
-use Rattle.tame_names.specs.Counts.{Rose}
+use Rattle.tame_cache.specs.Disk.{Step, reads}
+use Rattle.tame_cache.specs.Gate.{IsStored}
+use Rattle.tame_cache.specs.Kept.{Disk, IsKept, Keeps, cache_file}
+use Rattle.tame_sparse.specs.Honest.{AreHonest, IsHonest}
+use Rattle.tame_sparse.specs.Named.{NamesKept}
 use Rattle.tame_sparse.specs.declared.network.Exchange.{Exchange}
-use Rattle.audit_core.specs.Answers.{answer_of}
+use Rattle.tame_sparse.specs.declared.network.WireAnswer.{WireAnswer}
+use Rattle.audit_core.specs.Answers.{IsAnswer}
 use Rattle.audit_core.specs.declared.answers.PathAnswer.{PathAnswer}
 use Rattle.audit_core.specs.declared.answers.PathAnswer.TheVariants.{Settled}
 use Rattle.audit_core.specs.declared.asking.Heard.{Heard}
 use Rattle.audit_core.specs.declared.asking.Turn.{Turn}
 use Rattle.audit_core.specs.declared.verdicts.Cause.TheVariants as cause
 
--- the counts of the first turn begin at the first number, those of each go on where the one before ended, and the last end at the last
-abbrev pub Chains : ℕ → List Turn → ℕ → Type 0
-Chains first [] last = last ≡ first
-Chains first (t ∷ ts) last = (t.wire_before ≡ first) × (t.wire_before ≤ t.wire_after) × Chains t.wire_after ts last
+-- the file of a path, in the folder `.cache`
+abbrev pub index_file : List ℕ → List ℕ
+index_file p = cache_file [] p
 
--- no cache yet: the counts of the disk are 0
-abbrev pub LeavesDisk : List Turn → Type 0
-LeavesDisk [] = Unit {0}
-LeavesDisk (t ∷ ts) = (t.disk_before ≡ 0) × (t.disk_asked ≡ 0) × (t.disk_after ≡ 0) × LeavesDisk ts
+-- ---- counts
 
--- a failed exchange raised the wire's count in its turn
+-- the counts of the wire and of the disk at the first turn are the first numbers, each turn goes on where the one before ended, and the last ends at the last; within a turn they never fall
+abbrev pub Chains : ℕ → ℕ → List Turn → ℕ → ℕ → Type 0
+Chains wire disk [] last_wire last_disk = (last_wire ≡ wire) × (last_disk ≡ disk)
+Chains wire disk (t ∷ ts) last_wire last_disk =
+    (t.wire_before ≡ wire) × (t.wire_before ≤ t.wire_after) × (t.disk_before ≡ disk) × (t.disk_before ≤ t.disk_asked) × (t.disk_asked ≤ t.disk_after)
+    × Chains t.wire_after t.disk_after ts last_wire last_disk
+
+-- a failed exchange raised the wire's count in its turn, and a file that couldn't be read the disk's after the exchange
+pub record IsCaused (h : Heard) : Type 0 where
+  pub wire : h.answer ≡ Settled cause.Wire → Rose h.turn.wire_before h.turn.wire_after
+  pub store : h.answer ≡ Settled cause.Store → Rose h.turn.disk_asked h.turn.disk_after
+
 abbrev pub AreCaused : List Heard → Type 0
 AreCaused [] = Unit {0}
-AreCaused (h ∷ hs) = (h.answer ≡ Settled cause.Wire → Rose h.turn.wire_before h.turn.wire_after) × AreCaused hs
+AreCaused (h ∷ hs) = IsCaused h × AreCaused hs
 
--- the path that an exchange asked for, that it named nothing, and what its answer says
-abbrev pub said : Exchange → List ℕ × (Option OwnedRevision × PathAnswer)
-said e = (e.path, (e.named, answer_of e.answer))
+-- ---- what a turn keeps of an answer
 
-abbrev pub heard : List ℕ × PathAnswer → List ℕ × (Option OwnedRevision × PathAnswer)
-heard p = (p.0, (None, p.1))
+abbrev pub sent_under : Option OwnedRevision → EntryRevision
+sent_under None = Unknown
+sent_under (Some r) = Http r
 
--- exactly these exchanges follow the list: one for each path, naming nothing, answered so
-abbrev pub Adds : List (List ℕ × PathAnswer) → List Exchange → List Exchange → Type 0
-Adds asked before now = (es : List Exchange) × (now ≡ before ++ es) × (map said es ≡ map heard asked)
+-- the entry of a body that was sent
+abbrev pub sent_entry : WireAnswer → List ℕ
+sent_entry a = entry (sent_under a.revision) (pairs a.body)
+
+-- an answer is kept: a valid body was sent, and no zero byte stands in its entry
+pub record IsToKeep (a : WireAnswer) : Type 0 where
+  pub sent : a.status ≡ 200
+  pub valid : invalid a.body ≡ None
+  pub storable : IsTrue (is_storable (sent_under a.revision) (pairs a.body))
+
+-- where the disk's count is quiet the file is the entry of an answer that is kept, and a crash leaves no other; after any other answer it is as it was
+pub record LeavesFile (came : Option WireAnswer) (asked after : ℕ) (old new : List Step) : Type 0 where
+  pub stored : IfSome came (λ a. IsToKeep a → IsQuiet asked after → IsStored (sent_entry a) new)
+  pub unstored : ¬ (IsSomeAnd came IsToKeep) → new ≡ old
+
+-- ---- turns with their exchanges, from one state of the cache's files to the next
+
+-- what an exchange does, by the disk's counts before it and after the response
+pub record IsExchanged (told : Type 0) (asked after : ℕ) (old new : Disk) (e : Exchange) (a : PathAnswer) : Type 0 where
+  pub answer : told → IsAnswer (reads (old (index_file e.path))) e.answer a
+  pub leaves : told → LeavesFile e.answer asked after (old (index_file e.path)) (new (index_file e.path))
+  pub others : told → (q : List ℕ) → q ≢ index_file e.path → new q ≡ old q
+  pub keeps : told → (m : ServerMap) → IsHonest m e → IsKept m [] old → Keeps m [] old new
+
+pub record IsTurn (told : Type 0) (old new : Disk) (e : Exchange) (h : Heard) : Type 0 where
+  pub place : IsIndexPath e.path
+  pub path : e.path ≡ h.turn.path
+  pub named : told → NamesKept (reads (old (index_file e.path))) h.turn.disk_before h.turn.disk_asked e.named
+  pub exchanged : IsExchanged told h.turn.disk_asked h.turn.disk_after old new e h.answer
+
+abbrev pub Turned : Type 0 → Disk → List Exchange → List Heard → Disk → Type 0
+Turned told old [] [] new = told → (q : List ℕ) → new q ≡ old q
+Turned told old (e ∷ es) (h ∷ hs) new = (mid : Disk) × IsTurn told old mid e h × Turned told mid es hs new
+Turned told old _ _ new = ⊥
+
+-- exactly these exchanges follow the list: one for each turn
+abbrev pub Adds : Type 0 → List Exchange → List Exchange → Disk → List Heard → Disk → Type 0
+Adds told before now old hs new = (es : List Exchange) × (now ≡ before ++ es) × Turned told old es hs new
 
 -- exchanges for a part of these paths, from the front, follow the list
 abbrev pub AddsPart : List (List ℕ) → List Exchange → List Exchange → Type 0
 AddsPart paths before now = (es : List Exchange) × (k : ℕ) × (now ≡ before ++ es) × (map (λ e. e.path) es ≡ take k paths)
+
+-- the same by the names of these paths
+abbrev pub AddsNamed : List (List ℕ) → List Exchange → List Exchange → Type 0
+AddsNamed names before now = (es : List Exchange) × (k : ℕ) × (now ≡ before ++ es) × (map (λ e. Some e.path) es ≡ take k (map path names))
+
+-- ---- kept all the time
+
+-- where the exchanges that follow the list are honest for a map for which the disk was kept, it was kept all the time
+abbrev pub KeepsHonest : List Exchange → List Exchange → Disk → Disk → Type 0
+KeepsHonest before now old new = (m : ServerMap) (added : List Exchange) → now ≡ before ++ added → AreHonest m added → IsKept m [] old → Keeps m [] old new

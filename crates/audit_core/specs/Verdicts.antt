@@ -1,16 +1,21 @@
 -- What an audit says of a package.
-use Rattle.std.specs.Prelude.{◌≡◌, ◌≢◌, ℕ, List, [], ◌∷◌, Bool, true, false, ◌==◌, ◌||◌, Option, Some, None, option_map, bytes_eq, find, if◌then◌else◌, MatchOption, IsSomeAnd}
+use Rattle.std.specs.Prelude.{◌≡◌, ◌≢◌, ◌⊎◌, ℕ, List, [], ◌∷◌, Bool, true, false, ◌==◌, ◌||◌, Option, Some, None, bytes_eq, find, if◌then◌else◌, MatchOption, IsSomeAnd, Result, Ok, Err}
 use Rattle.tame_names.specs.Names.{path}
+use Rattle.tame_names.specs.Counts.{Rose}
+use Rattle.tame_names.specs.declared.errors.CacheError.{CacheError}
+use Rattle.tame_entry.specs.Entry.{ReadEntry, lines_in, read_entry}
 use Rattle.tame_entry.specs.Lines.{valid}
 use Rattle.tame_records.specs.Lines.{lines}
 use Rattle.tame_entry.specs.Says.{says}
 use Rattle.tame_entry.specs.declared.said.Said.{Said}
 use Rattle.tame_entry.specs.declared.said.Said.TheVariants as said
+use Rattle.tame_cache.specs.Disk.{File}
 use Rattle.tame_sparse.specs.Honest.{SaysAbsent}
 use Rattle.tame_sparse.specs.declared.network.Exchange.{Exchange}
 use Rattle.tame_sparse.specs.declared.network.Held.{Held}
 use Rattle.tame_sparse.specs.declared.network.WireAnswer.{WireAnswer}
 use Rattle.audit_lock.specs.declared.resolving.Package.{Package}
+use Rattle.audit_core.specs.declared.asking.Turn.{Turn}
 use Rattle.audit_core.specs.declared.verdicts.Cause.TheVariants as cause
 use Rattle.audit_core.specs.declared.verdicts.Judged.{Judged}
 use Rattle.audit_core.specs.declared.verdicts.Verdict.{Verdict}
@@ -35,55 +40,66 @@ body_verdict body version = if valid body then lines_verdict body version else U
 abbrev pub status_says_absent : ℕ → Bool
 status_says_absent status = status == 404 || status == 410 || status == 451
 
--- nothing is named yet, so a not-modified has nothing that it could confirm
-abbrev pub answer_verdict : Option WireAnswer → List ℕ → Verdict
-answer_verdict None version = Unchecked cause.Wire
-answer_verdict (Some a) version =
+abbrev pub IsNotModified : Option WireAnswer → Type 0
+IsNotModified None = ⊥
+IsNotModified (Some a) = a.status ≡ 304
+
+-- by the lines of a readable entry; a refused file is as good as none
+abbrev pub read_verdict : Result ReadEntry CacheError → List ℕ → Verdict
+read_verdict (Ok e) version = verdict_said (says (lines_in e.versions) version)
+read_verdict (Err f) version = Unchecked cause.Absent
+
+-- by the file of the cache
+abbrev pub file_verdict : File → List ℕ → Verdict
+file_verdict None version = Unchecked cause.Absent
+file_verdict (Some bytes) version = read_verdict (read_entry bytes) version
+
+abbrev pub answer_verdict : File → Option WireAnswer → List ℕ → Verdict
+answer_verdict file None version = Unchecked cause.Wire
+answer_verdict file (Some a) version =
     if status_says_absent a.status then Unchecked cause.Absent
     else if a.status == 200 then body_verdict a.body version
-    else if a.status == 304 then Unchecked cause.Absent
+    else if a.status == 304 then file_verdict file version
     else Unchecked (cause.Status a.status)
+
+-- at not-modified it may be that the file couldn't be read
+abbrev pub IsCameVerdict : File → Option WireAnswer → List ℕ → Verdict → Type 0
+IsCameVerdict file came version verdict = (verdict ≡ answer_verdict file came version) ⊎ (IsNotModified came × (verdict ≡ Unchecked cause.Store))
 
 -- ---- the table, over what the server held
 
-pub record IsAnswerVerdict (held : Option Held) (status : ℕ) (version : List ℕ) (verdict : Verdict) : Type 0 where
+pub record IsAnswerVerdict (held : Option Held) (asked after : ℕ) (status : ℕ) (version : List ℕ) (verdict : Verdict) : Type 0 where
   pub absent : SaysAbsent status → verdict ≡ Unchecked cause.Absent
   pub sent : status ≡ 200 → IsSomeAnd held (λ h. verdict ≡ body_verdict h.body version)
-  pub not_modified : status ≡ 304 → IsSomeAnd held (λ h. verdict ≡ lines_verdict h.body version)
+  pub not_modified : status ≡ 304 → (Rose asked after × (verdict ≡ Unchecked cause.Store)) ⊎ IsSomeAnd held (λ h. verdict ≡ lines_verdict h.body version)
   pub other : ¬ (SaysAbsent status) → status ≢ 200 → status ≢ 304 → verdict ≡ Unchecked (cause.Status status)
 
--- what the server held decides; no word of a file, of an earlier audit or of a write
-abbrev pub IsVerdict : Exchange → List ℕ → Verdict → Type 0
-IsVerdict e version verdict = MatchOption e.answer (verdict ≡ Unchecked cause.Wire) (λ a. IsAnswerVerdict e.held a.status version verdict)
+-- what the server held decides, and the disk's count of faults where the store is blamed; no word of a file, of an earlier audit or of a write
+abbrev pub IsVerdict : Exchange → Turn → List ℕ → Verdict → Type 0
+IsVerdict e t version verdict = MatchOption e.answer (verdict ≡ Unchecked cause.Wire) (λ a. IsAnswerVerdict e.held t.disk_asked t.disk_after a.status version verdict)
 
 -- ---- of a package
 
--- the exchange of a path
+-- the exchange of a path, and its turn
 abbrev pub exchange_of : List ℕ → List Exchange → Option Exchange
 exchange_of q exchanges = find (λ e. bytes_eq e.path q) exchanges
 
--- no path: nothing is asked; else by the exchange of the path, over what came
-abbrev pub verdict_at : List Exchange → List ℕ → Option (List ℕ) → Option Verdict
-verdict_at exchanges version None = Some (Unchecked cause.Name)
-verdict_at exchanges version (Some q) = option_map (λ e. answer_verdict e.answer version) (exchange_of q exchanges)
+abbrev pub turn_of : List ℕ → List Turn → Option Turn
+turn_of q turns = find (λ t. bytes_eq t.path q) turns
 
-abbrev pub came_verdict : List Exchange → Package → Option Verdict
-came_verdict exchanges p = verdict_at exchanges p.version (path p.name)
+-- no path: nothing is asked; else by the exchange of the path, over what came and what a read of its file gives
+abbrev pub IsCameAt : (List ℕ → File) → List Exchange → List ℕ → Option (List ℕ) → Verdict → Type 0
+IsCameAt files exchanges version None verdict = verdict ≡ Unchecked cause.Name
+IsCameAt files exchanges version (Some q) verdict = IsSomeAnd (exchange_of q exchanges) (λ e. IsCameVerdict (files q) e.answer version verdict)
 
 -- the same over what the server held
-abbrev pub IsVerdictAt : List Exchange → List ℕ → Option (List ℕ) → Verdict → Type 0
-IsVerdictAt exchanges version None verdict = verdict ≡ Unchecked cause.Name
-IsVerdictAt exchanges version (Some q) verdict = IsSomeAnd (exchange_of q exchanges) (λ e. IsVerdict e version verdict)
-
-abbrev pub IsHeldVerdict : List Exchange → Package → Verdict → Type 0
-IsHeldVerdict exchanges p verdict = IsVerdictAt exchanges p.version (path p.name) verdict
+abbrev pub IsHeldAt : List Exchange → List Turn → List ℕ → Option (List ℕ) → Verdict → Type 0
+IsHeldAt exchanges turns version None verdict = verdict ≡ Unchecked cause.Name
+IsHeldAt exchanges turns version (Some q) verdict = IsSomeAnd (exchange_of q exchanges) (λ e. IsSomeAnd (turn_of q turns) (λ t. IsVerdict e t version verdict))
 
 -- ---- of a lockfile: one verdict for each package of the default registry, in their order
 
-abbrev pub came_judged : List Exchange → ℕ × Package → Option Judged
-came_judged exchanges p = option_map (λ verdict. record { «package» = p.0; verdict = verdict }) (came_verdict exchanges p.1)
-
-abbrev pub AreHeldVerdicts : List Exchange → List (ℕ × Package) → List Judged → Type 0
-AreHeldVerdicts exchanges [] [] = Unit {0}
-AreHeldVerdicts exchanges (p ∷ ps) (j ∷ js) = (j.package ≡ p.0) × IsHeldVerdict exchanges p.1 j.verdict × AreHeldVerdicts exchanges ps js
-AreHeldVerdicts exchanges _ _ = ⊥
+abbrev pub AreVerdicts : (List ℕ → Option (List ℕ) → Verdict → Type 0) → List (ℕ × Package) → List Judged → Type 0
+AreVerdicts Is [] [] = Unit {0}
+AreVerdicts Is (p ∷ ps) (j ∷ js) = (j.package ≡ p.0) × Is p.1.version (path p.1.name) j.verdict × AreVerdicts Is ps js
+AreVerdicts Is _ _ = ⊥

@@ -1,15 +1,18 @@
-//! What an answer says of every version of a crate.
-ghost use Rattle.std.specs.Prelude.{◌≡◌, IfOk, Some};
-ghost use Rattle.tame_entry.specs.Lines.{invalid, valid};
-ghost use Rattle.tame_records.specs.Lines.{lines};
-ghost use Rattle.audit_core.specs.Answers.{answer_of, body_answer, verdict_by};
+//! What came for a path, as an answer for every version.
+ghost use Rattle.std.specs.Prelude.{◌≡◌, ◌≢◌, ℕ, List, map, IfOk, Ok, Err, Some, None};
+ghost use Rattle.tame_entry.specs.Says.{heads_of};
+ghost use Rattle.tame_entry.specs.declared.index_entries.IndexEntry.{IndexEntry};
+ghost use Rattle.tame_names.specs.declared.errors.Error.{Error};
+ghost use Rattle.tame_names.specs.declared.errors.InvalidJsonLines.{InvalidJsonLines};
+ghost use Rattle.tame_sparse.specs.Answered.{status_fault};
+ghost use Rattle.audit_core.specs.Answers.{entry_answer, verdict_by};
+ghost use Rattle.audit_core.specs.Taken.{IsAnswerTaken};
 
 use crate::verdicts::{Cause, Verdict};
 use std::alloc::Global;
-use tame_entry::{JsonLines, Said, read_heads, said_of};
-use tame_names::{Items, NoMemory};
+use tame_entry::{IndexEntry, IndexEntryIter, Said, said_of};
+use tame_names::{Error, HttpError, IoKind, Items, NoMemory};
 use tame_records::VersionHead;
-use tame_sparse::WireAnswer;
 
 /// What an answer says of every version of its crate.
 #[derive(Debug, Drop)]
@@ -20,24 +23,50 @@ pub enum PathAnswer {
     Lines(Option<Items<VersionHead>>),
 }
 
-fn body_answer(alloc: Global, body: &[u8]) -> Result<PathAnswer, NoMemory>
-    ensures { IfOk result (λ a. a ≡ body_answer body.now) }
+/// Version and flag of each line; nothing where some line has no record.
+fn read_items(
+    alloc: Global,
+    items: IndexEntryIter<'_>,
+) -> Result<Option<Items<VersionHead>>, NoMemory>
+    ensures { IfOk result (λ heads. heads ≡ heads_of (map (λ i. i.1) items.entry)) }
 {
-    match JsonLines::validate(body) {
-        Ok(lines) => Ok(PathAnswer::Lines(read_heads(alloc, lines)?)),
-        Err(_) => Ok(PathAnswer::Settled(Cause::JsonLines)),
+    let mut heads = Items::new(alloc);
+    for item in items {
+        match item.deserialize(alloc) {
+            Ok(version) => heads.add(version.into_head())?,
+            Err(Error::NoMemory) => return Err(NoMemory),
+            Err(_) => return Ok(None),
+        }
+    }
+    Ok(Some(heads))
+}
+
+/// By the lines of an index entry; a file that is refused is as good as none.
+fn entry_answer(alloc: Global, entry: &IndexEntry<'_, '_>) -> Result<PathAnswer, NoMemory>
+    ensures { IfOk result (λ a. a ≡ entry_answer entry.now) }
+{
+    match entry.iter() {
+        Ok(items) => Ok(PathAnswer::Lines(read_items(alloc, items)?)),
+        Err(_) => Ok(PathAnswer::Settled(Cause::Absent)),
     }
 }
 
-/// What came, as an answer for every version.
-pub fn answer_of(alloc: Global, answer: &WireAnswer) -> Result<PathAnswer, NoMemory>
-    ensures { IfOk result (λ a. a ≡ answer_of (Some answer.now)) }
+/// By what the index made of a response.
+pub fn answer_taken(
+    alloc: Global,
+    taken: Result<Option<IndexEntry<'_, '_>>, Error>,
+) -> Result<PathAnswer, NoMemory>
+    ensures { IfOk result (IsAnswerTaken taken.entry) }
 {
-    match answer.status {
-        404 | 410 | 451 => Ok(PathAnswer::Settled(Cause::Absent)),
-        200 => body_answer(alloc, answer.body.as_slice()),
-        304 => Ok(PathAnswer::Settled(Cause::Absent)),
-        status => Ok(PathAnswer::Settled(Cause::Status(status))),
+    match taken {
+        Ok(Some(entry)) => entry_answer(alloc, &entry),
+        Ok(None) => Ok(PathAnswer::Settled(Cause::Absent)),
+        Err(Error::InvalidJsonLines(_)) => Ok(PathAnswer::Settled(Cause::JsonLines)),
+        Err(Error::Http(HttpError::StatusCode { code, .. })) => {
+            Ok(PathAnswer::Settled(Cause::Status(code)))
+        }
+        Err(Error::Io(IoKind::Failed)) => Ok(PathAnswer::Settled(Cause::Store)),
+        Err(_) => Err(NoMemory),
     }
 }
 

@@ -1,13 +1,23 @@
-//! One exchange for each path.
-ghost use Rattle.std.specs.Prelude.{◌≡◌, ◌≢◌, ◌∷◌, [], ◌≤◌, ℕ, List, map, IfOk, OnErr};
+//! One turn for each path: a request, one exchange, and what is kept of the answer.
+ghost use Rattle.std.specs.Prelude.{◌≡◌, ◌≢◌, ◌∷◌, [], ◌++◌, ◌≤◌, ℕ, List, map, Some, IsTrue, IfOk, IfSome, OnOk, OnErr, option_map};
+ghost use Rattle.std.specs.List.{list_all};
 ghost use Rattle.tame_names.specs.Counts.{Rose};
-ghost use Rattle.audit_core.specs.Turns.{Adds, AddsPart, AreCaused, Chains, LeavesDisk};
+ghost use Rattle.tame_names.specs.KrateNames.{text_of};
+ghost use Rattle.tame_names.specs.Names.{IsIndexPath, is_name, path};
+ghost use Rattle.tame_entry.specs.Held.{Maps, ServerMap};
+ghost use Rattle.tame_entry.specs.Revision.{http_value};
+ghost use Rattle.tame_cache.specs.Disk.{reads};
+ghost use Rattle.tame_cache.specs.Kept.{IsKept, Keeps, cache_file_of};
+ghost use Rattle.tame_sparse.specs.declared.network.Exchange.{Exchange};
+ghost use Rattle.audit_core.specs.Answers.{IsAnswer};
+ghost use Rattle.audit_core.specs.Turns.{Adds, AddsNamed, AddsPart, AreCaused, Chains, IsExchanged, KeepsHonest, LeavesFile};
 
-use crate::answers::{PathAnswer, answer_of};
+use crate::answers::{PathAnswer, answer_taken};
 use crate::verdicts::Cause;
 use std::alloc::Global;
-use tame_names::{Items, NoMemory, Text};
-use tame_sparse::{Wire, WireFault, crates_io_request};
+use tame_cache::CacheDisk;
+use tame_names::{FileLock, Items, KrateName, NoMemory, Text};
+use tame_sparse::{Request, Response, SparseIndex, Wire, WireAnswer, WireFault};
 
 /// The turn of a path: the counts of faults of the wire before and after its exchange, and those
 /// of the disk before the request, before the exchange and after the response.
@@ -28,57 +38,149 @@ pub struct Heard {
     pub answer: PathAnswer,
 }
 
-/// What came for a path.
-fn ask_for<W: Wire>(alloc: Global, wire: &mut W, path: &Text) -> Result<PathAnswer, NoMemory>
-    ensures later { W.faults wire.old ≤ W.faults wire.new }
-    ensures cause { IfOk result (λ a. a ≡ PathAnswer.Settled Cause.Wire → Rose (W.faults wire.old) (W.faults wire.new)) }
-    ensures said { W.tells → IfOk result (λ a. Adds ((path.now, a) ∷ []) (W.exchanges wire.old) (W.exchanges wire.new)) }
-    ensures part { W.tells → OnErr result (AddsPart (path.now ∷ []) (W.exchanges wire.old) (W.exchanges wire.new)) }
+/// What came, as the index takes it.
+fn response_of(answer: &WireAnswer) -> Response<'_>
+    ensures status { result.status ≡ answer.now.status }
+    ensures revision { option_map http_value result.revision ≡ answer.now.revision }
+    ensures body { result.body.now ≡ answer.now.body }
 {
-    let request = crates_io_request(alloc, path.as_str())?;
-    match wire.exchange(alloc, &request) {
-        Ok(answer) => answer_of(alloc, &answer),
+    let revision = match &answer.revision {
+        Some(revision) => Some(revision.as_http()),
+        None => None,
+    };
+    Response {
+        status: answer.status,
+        revision,
+        body: answer.body.as_slice(),
+    }
+}
+
+/// Takes an answer, and keeps a body that was sent.
+fn take_answer<D: CacheDisk>(
+    alloc: Global,
+    index: &SparseIndex,
+    lock: &FileLock,
+    disk: &mut D,
+    name: KrateName<'_>,
+    answer: &WireAnswer,
+) -> Result<PathAnswer, NoMemory>
+    requires { index.now.cache.path ≡ [] }
+    ensures answer { D.tells → (q : List ℕ) → cache_file_of [] (text_of name.entry) ≡ Some q → IfOk result (IsAnswer (reads (D.past disk.old q)) (Some answer.now)) }
+    ensures leaves { D.tells → (q : List ℕ) → cache_file_of [] (text_of name.entry) ≡ Some q
+        → OnOk result (LeavesFile (Some answer.now) (D.faults disk.old) (D.faults disk.new) (D.past disk.old q) (D.past disk.new q)) }
+    ensures others { D.tells → (q : List ℕ) → cache_file_of [] (text_of name.entry) ≢ Some q → D.past disk.new q ≡ D.past disk.old q }
+    ensures kept { D.tells → (m : ServerMap) → ((p : List ℕ) → path (text_of name.entry) ≡ Some p → answer.now.status ≡ 200 → IfSome answer.now.revision (λ r. Maps m p r answer.now.body))
+        → IsKept m [] (D.past disk.old) → Keeps m [] (D.past disk.old) (D.past disk.new) }
+    ensures store { IfOk result (λ a. a ≡ PathAnswer.Settled Cause.Store → Rose (D.faults disk.old) (D.faults disk.new)) }
+    ensures not_wire { IfOk result (λ a. a ≢ PathAnswer.Settled Cause.Wire) }
+    ensures later { D.faults disk.old ≤ D.faults disk.new }
+{
+    let response = response_of(answer);
+    let taken = index.parse_remote_response(alloc, name, response, true, lock, disk);
+    answer_taken(alloc, taken)
+}
+
+/// Makes the exchange of a request, and takes its answer.
+fn hear<W: Wire, D: CacheDisk>(
+    alloc: Global,
+    index: &SparseIndex,
+    lock: &FileLock,
+    wire: &mut W,
+    disk: &mut D,
+    name: KrateName<'_>,
+    request: &Request,
+) -> Result<PathAnswer, NoMemory>
+    requires root { index.now.cache.path ≡ [] }
+    requires place { path (text_of name) ≡ Some request.now.path }
+    ensures heard { W.tells → IfOk result (λ a. (e : Exchange) × (W.exchanges wire.new ≡ W.exchanges wire.old ++ e ∷ []) × (e.path ≡ request.now.path) × (e.named ≡ request.now.named)
+        × IsExchanged D.tells (D.faults disk.old) (D.faults disk.new) (D.past disk.old) (D.past disk.new) e a) }
+    ensures part { W.tells → OnErr result (AddsPart (request.now.path ∷ []) (W.exchanges wire.old) (W.exchanges wire.new)) }
+    ensures kept { W.tells → D.tells → KeepsHonest (W.exchanges wire.old) (W.exchanges wire.new) (D.past disk.old) (D.past disk.new) }
+    ensures wire { IfOk result (λ a. a ≡ PathAnswer.Settled Cause.Wire → Rose (W.faults wire.old) (W.faults wire.new)) }
+    ensures store { IfOk result (λ a. a ≡ PathAnswer.Settled Cause.Store → Rose (D.faults disk.old) (D.faults disk.new)) }
+    ensures later_wire { W.faults wire.old ≤ W.faults wire.new }
+    ensures later_disk { D.faults disk.old ≤ D.faults disk.new }
+{
+    match wire.exchange(alloc, request) {
+        Ok(answer) => take_answer(alloc, index, lock, disk, name, &answer),
         Err(WireFault::Failed) => Ok(PathAnswer::Settled(Cause::Wire)),
         Err(WireFault::NoMemory) => Err(NoMemory),
     }
 }
 
-fn take_turn<W: Wire>(alloc: Global, wire: &mut W, path: &Text) -> Result<Heard, NoMemory>
-    ensures path { IfOk result (λ h. h.turn.path ≡ path.now) }
-    ensures counts { IfOk result (λ h. Chains (W.faults wire.old) (h.turn ∷ []) (W.faults wire.new)) }
-    ensures disk { IfOk result (λ h. LeavesDisk (h.turn ∷ [])) }
-    ensures cause { IfOk result (λ h. AreCaused (h ∷ [])) }
-    ensures said { W.tells → IfOk result (λ h. Adds ((h.turn.path, h.answer) ∷ []) (W.exchanges wire.old) (W.exchanges wire.new)) }
-    ensures part { W.tells → OnErr result (AddsPart (path.now ∷ []) (W.exchanges wire.old) (W.exchanges wire.new)) }
+/// The name that a text is.
+fn krate_name(text: &Text) -> KrateName<'_>
+    requires { IsTrue (is_name text.now) }
+    ensures { text_of result ≡ text.now }
+{
+    match KrateName::try_from(text.as_str()) {
+        Ok(name) => name,
+        Err(_) => unreachable!(),
+    }
+}
+
+/// The turn of a name.
+fn take_turn<W: Wire, D: CacheDisk>(
+    alloc: Global,
+    index: &SparseIndex,
+    lock: &FileLock,
+    wire: &mut W,
+    disk: &mut D,
+    name: &Text,
+) -> Result<Heard, NoMemory>
+    requires root { index.now.cache.path ≡ [] }
+    requires named { IsTrue (is_name name.now) }
+    ensures path { IfOk result (λ h. path name.now ≡ Some h.turn.path) }
+    ensures counts { IfOk result (λ h. Chains (W.faults wire.old) (D.faults disk.old) (h.turn ∷ []) (W.faults wire.new) (D.faults disk.new)) }
+    ensures caused { IfOk result (λ h. AreCaused (h ∷ [])) }
+    ensures said { W.tells → IfOk result (λ h. Adds D.tells (W.exchanges wire.old) (W.exchanges wire.new) (D.past disk.old) (h ∷ []) (D.past disk.new)) }
+    ensures part { W.tells → OnErr result (AddsNamed (name.now ∷ []) (W.exchanges wire.old) (W.exchanges wire.new)) }
+    ensures kept { W.tells → D.tells → KeepsHonest (W.exchanges wire.old) (W.exchanges wire.new) (D.past disk.old) (D.past disk.new) }
 {
     let wire_before = wire.wire_faults();
-    let copy = path.try_clone(alloc)?;
-    let answer = ask_for(alloc, wire, path)?;
+    let disk_before = disk.disk_faults();
+    let krate = krate_name(name);
+    let request = match index.make_remote_request(alloc, krate, None, lock, disk) {
+        Ok(request) => request,
+        Err(_) => return Err(NoMemory),
+    };
+    let disk_asked = disk.disk_faults();
+    let answer = hear(alloc, index, lock, wire, disk, krate, &request)?;
+    let Request { path, .. } = request;
     Ok(Heard {
         turn: Turn {
-            path: copy,
+            path,
             wire_before,
             wire_after: wire.wire_faults(),
-            disk_before: 0,
-            disk_asked: 0,
-            disk_after: 0,
+            disk_before,
+            disk_asked,
+            disk_after: disk.disk_faults(),
         },
         answer,
     })
 }
 
-/// One exchange for each path, in their order; a part of them from the front where memory runs out.
-pub fn ask<W: Wire>(alloc: Global, wire: &mut W, paths: &[Text]) -> Result<Items<Heard>, NoMemory>
-    ensures paths { IfOk result (λ hs. map (λ h. h.turn.path) hs ≡ paths.now) }
-    ensures counts { IfOk result (λ hs. Chains (W.faults wire.old) (map (λ h. h.turn) hs) (W.faults wire.new)) }
-    ensures disk { IfOk result (λ hs. LeavesDisk (map (λ h. h.turn) hs)) }
-    ensures cause { IfOk result AreCaused }
-    ensures said { W.tells → IfOk result (λ hs. Adds (map (λ h. (h.turn.path, h.answer)) hs) (W.exchanges wire.old) (W.exchanges wire.new)) }
-    ensures part { W.tells → OnErr result (AddsPart paths.now (W.exchanges wire.old) (W.exchanges wire.new)) }
+/// One turn for each name, in their order; for a part of them from the front where memory runs out.
+pub fn ask<W: Wire, D: CacheDisk>(
+    alloc: Global,
+    index: &SparseIndex,
+    lock: &FileLock,
+    wire: &mut W,
+    disk: &mut D,
+    names: &[Text],
+) -> Result<Items<Heard>, NoMemory>
+    requires root { index.now.cache.path ≡ [] }
+    requires named { IsTrue (list_all is_name names.now) }
+    ensures paths { IfOk result (λ hs. map (λ h. Some h.turn.path) hs ≡ map path names.now) }
+    ensures counts { IfOk result (λ hs. Chains (W.faults wire.old) (D.faults disk.old) (map (λ h. h.turn) hs) (W.faults wire.new) (D.faults disk.new)) }
+    ensures caused { IfOk result AreCaused }
+    ensures said { W.tells → IfOk result (λ hs. Adds D.tells (W.exchanges wire.old) (W.exchanges wire.new) (D.past disk.old) hs (D.past disk.new)) }
+    ensures part { W.tells → OnErr result (AddsNamed names.now (W.exchanges wire.old) (W.exchanges wire.new)) }
+    ensures kept { W.tells → D.tells → KeepsHonest (W.exchanges wire.old) (W.exchanges wire.new) (D.past disk.old) (D.past disk.new) }
 {
     let mut heard = Items::new(alloc);
-    for path in paths {
-        let turn = take_turn(alloc, wire, path)?;
+    for name in names {
+        let turn = take_turn(alloc, index, lock, wire, disk, name)?;
         heard.add(turn)?;
     }
     Ok(heard)

@@ -1,9 +1,9 @@
 //! The audit of a lockfile's text.
-ghost use Rattle.std.specs.Prelude.{◌≡◌, ◌≢◌, ◌≤◌, List, map, IfOk, OnErr, Ok, Err};
+ghost use Rattle.std.specs.Prelude.{◌≡◌, ◌≢◌, ◌≤◌, [], List, codes, map, IfOk, OnErr, Ok, Err};
 ghost use Rattle.audit_lock.specs.Locked.{locked};
-ghost use Rattle.audit_core.specs.Audits.{AddsAudit, AreTurns, HeldDecides, WireCaused};
+ghost use Rattle.audit_core.specs.Audits.{AddsAudit, AreTurns, Caused, HeldDecides};
 ghost use Rattle.audit_core.specs.Paths.{asked_paths};
-ghost use Rattle.audit_core.specs.Turns.{AddsPart};
+ghost use Rattle.audit_core.specs.Turns.{AddsPart, KeepsHonest};
 ghost use Rattle.audit_lock.specs.declared.lockfiles.LockfileFault.{LockfileFault};
 ghost use Rattle.audit_lock.specs.declared.resolving.Package.{Package};
 
@@ -13,8 +13,9 @@ use crate::planning::plan_turns;
 use crate::verdicts::Judged;
 use audit_lock::{Lockfile, LockfileFault, Package};
 use std::alloc::Global;
-use tame_names::{Items, NoMemory};
-use tame_sparse::Wire;
+use tame_cache::CacheDisk;
+use tame_names::{FileLock, Items, NoMemory, Text};
+use tame_sparse::{CRATES_IO_HTTP_INDEX, SparseIndex, Wire};
 
 /// An audit that was made.
 #[derive(Drop)]
@@ -63,39 +64,68 @@ fn turns_of(alloc: Global, heard: Items<Heard>) -> Result<Items<Turn>, NoMemory>
     Ok(turns)
 }
 
-/// Asks for the packages of the default registry, and judges them.
-fn check<W: Wire>(alloc: Global, packages: &[Package], wire: &mut W) -> Result<Checked, NoMemory>
-    ensures audited { W.tells → IfOk result (λ c. AddsAudit packages.now (W.exchanges wire.old) (W.exchanges wire.new) c.verdicts) }
-    ensures held { W.tells → IfOk result (λ c. HeldDecides packages.now (W.exchanges wire.old) (W.exchanges wire.new) c.verdicts) }
-    ensures turns { IfOk result (λ c. AreTurns packages.now (W.faults wire.old) (W.faults wire.new) c.turns) }
-    ensures caused { IfOk result (λ c. WireCaused packages.now c.turns c.verdicts) }
-    ensures part { W.tells → OnErr result (AddsPart (asked_paths packages.now) (W.exchanges wire.old) (W.exchanges wire.new)) }
+/// The sparse index of crates.io, with its cache in the folder `.cache`.
+fn crates_io(alloc: Global) -> Result<SparseIndex, NoMemory>
+    ensures root { IfOk result (λ index. index.cache.path ≡ []) }
+    ensures url { IfOk result (λ index. index.url ≡ codes "sparse+https://index.crates.io/") }
 {
+    match SparseIndex::at(alloc, Text::of(alloc, "")?, CRATES_IO_HTTP_INDEX) {
+        Ok(index) => Ok(index),
+        Err(_) => Err(NoMemory),
+    }
+}
+
+/// Asks for the packages of the default registry, and judges them.
+fn check<W: Wire, D: CacheDisk>(
+    alloc: Global,
+    packages: &[Package],
+    lock: &FileLock,
+    wire: &mut W,
+    disk: &mut D,
+) -> Result<Checked, NoMemory>
+    ensures audited { W.tells → IfOk result (λ c. AddsAudit D.tells (D.past disk.old) (D.past disk.new) packages.now (W.exchanges wire.old) (W.exchanges wire.new) c.turns c.verdicts) }
+    ensures held { W.tells → D.tells → IfOk result (λ c. HeldDecides packages.now (W.exchanges wire.old) (W.exchanges wire.new) (D.past disk.old) c.turns c.verdicts) }
+    ensures turns { IfOk result (λ c. AreTurns packages.now (W.faults wire.old) (D.faults disk.old) (W.faults wire.new) (D.faults disk.new) c.turns) }
+    ensures caused { IfOk result (λ c. Caused packages.now c.turns c.verdicts) }
+    ensures part { W.tells → OnErr result (AddsPart (asked_paths packages.now) (W.exchanges wire.old) (W.exchanges wire.new)) }
+    ensures kept { W.tells → D.tells → KeepsHonest (W.exchanges wire.old) (W.exchanges wire.new) (D.past disk.old) (D.past disk.new) }
+{
+    let index = crates_io(alloc)?;
     let plan = plan_turns(alloc, packages)?;
-    let heard = ask(alloc, wire, plan.paths.as_slice())?;
+    let heard = ask(alloc, &index, lock, wire, disk, plan.names.as_slice())?;
     let verdicts = judge(alloc, &plan, heard.as_slice(), packages)?;
     let turns = turns_of(alloc, heard)?;
     Ok(Checked { verdicts, turns })
 }
 
 /// Audits a lockfile's text: one exchange for each distinct path of its packages of the default
-/// registry, and a verdict for each of these packages.
-pub fn audit_text<W: Wire>(alloc: Global, text: &str, wire: &mut W) -> Result<Audited, AuditError>
+/// registry, which names what the cache's entry allows and whose body is kept, and a verdict for
+/// each of these packages.
+pub fn audit_text<W: Wire, D: CacheDisk>(
+    alloc: Global,
+    text: &str,
+    lock: &FileLock,
+    wire: &mut W,
+    disk: &mut D,
+) -> Result<Audited, AuditError>
     // which packages: those of the text, or why it is no lockfile
     ensures lockfile { IfOk result (λ a. locked text.now ≡ Ok a.lockfile) }
     ensures refused { (f : LockfileFault) → result ≡ Err (AuditError.Lockfile f) → locked text.now ≡ Err f }
     ensures no_memory { result ≢ Err (AuditError.Lockfile LockfileFault.NoMemory) }
-    ensures uncalled { W.tells → (f : LockfileFault) → locked text.now ≡ Err f → W.exchanges wire.new ≡ W.exchanges wire.old }
+    ensures uncalled { (f : LockfileFault) → locked text.now ≡ Err f → (wire.new ≡ wire.old) × (disk.new ≡ disk.old) }
 
-    // what was asked, and the verdicts by the table over what came
-    ensures audited { W.tells → IfOk result (λ a. AddsAudit a.lockfile (W.exchanges wire.old) (W.exchanges wire.new) a.verdicts) }
+    // over an honest server, and a disk that is kept for what it held, each verdict is the table's over what the server held when asked
+    ensures headline { W.tells → D.tells → IfOk result (λ a. HeldDecides a.lockfile (W.exchanges wire.old) (W.exchanges wire.new) (D.past disk.old) a.turns a.verdicts) }
 
-    // over an honest server each verdict is the table's over what the server held when asked
-    ensures headline { W.tells → IfOk result (λ a. HeldDecides a.lockfile (W.exchanges wire.old) (W.exchanges wire.new) a.verdicts) }
+    // for every server and every disk: what was asked and named, the verdicts by the table over what came, and what is kept
+    ensures audited { W.tells → IfOk result (λ a. AddsAudit D.tells (D.past disk.old) (D.past disk.new) a.lockfile (W.exchanges wire.old) (W.exchanges wire.new) a.turns a.verdicts) }
+
+    // whatever the answer, a kept disk is kept at every moment where the exchanges were honest
+    ensures kept { W.tells → D.tells → KeepsHonest (W.exchanges wire.old) (W.exchanges wire.new) (D.past disk.old) (D.past disk.new) }
 
     // the counts of the turns go on from the call's entry to its exit, and one fault licenses one turn
-    ensures turns { IfOk result (λ a. AreTurns a.lockfile (W.faults wire.old) (W.faults wire.new) a.turns) }
-    ensures caused { IfOk result (λ a. WireCaused a.lockfile a.turns a.verdicts) }
+    ensures turns { IfOk result (λ a. AreTurns a.lockfile (W.faults wire.old) (D.faults disk.old) (W.faults wire.new) (D.faults disk.new) a.turns) }
+    ensures caused { IfOk result (λ a. Caused a.lockfile a.turns a.verdicts) }
 
     // where memory runs out, a part of the paths was asked for
     ensures part { W.tells → (packages : List Package) → locked text.now ≡ Ok packages
@@ -107,7 +137,7 @@ pub fn audit_text<W: Wire>(alloc: Global, text: &str, wire: &mut W) -> Result<Au
         Err(LockfileFault::NoMemory) => return Err(AuditError::NoMemory),
         Err(fault) => return Err(AuditError::Lockfile(fault)),
     };
-    let checked = check(alloc, lockfile.packages(), wire)?;
+    let checked = check(alloc, lockfile.packages(), lock, wire, disk)?;
     Ok(Audited {
         lockfile,
         verdicts: checked.verdicts,

@@ -5,9 +5,9 @@ ghost use Rattle.tame_names.specs.Output.{AddsPrefix};
 ghost use Rattle.tame_names.specs.declared.host.FailedCall.{FailedCall};
 ghost use Rattle.tame_names.specs.declared.host.FileCall.TheVariants as FileCall;
 ghost use Rattle.audit_lock.specs.declared.resolving.Package.{Package};
-ghost use Rattle.audit_core.specs.Audits.{AddsAudit, AreTurns, HeldDecides, WireCaused};
+ghost use Rattle.audit_core.specs.Audits.{AddsAudit, AreTurns, Caused, HeldDecides};
 ghost use Rattle.audit_core.specs.Paths.{asked_paths};
-ghost use Rattle.audit_core.specs.Turns.{AddsPart};
+ghost use Rattle.audit_core.specs.Turns.{AddsPart, KeepsHonest};
 ghost use Rattle.audit_program.specs.Causes.{Accepts, CauseOf, IsPrintFault, fault_status, is_early};
 ghost use Rattle.audit_program.specs.Printed.{verdict_lines};
 ghost use Rattle.audit_program.specs.Words.{command};
@@ -18,7 +18,8 @@ use crate::words::read_words;
 use audit_core::{AuditError, Audited, audit_text};
 use audit_lock::LockfileFault;
 use std::alloc::Global;
-use tame_names::{Files, Sink, Text};
+use tame_cache::CacheDisk;
+use tame_names::{FileLock, Files, Sink, Text};
 use tame_sparse::Wire;
 
 /// The largest lockfile that is read, in bytes: 64 MiB.
@@ -64,11 +65,13 @@ fn fault_status(fault: &RunFault) -> u8
 }
 
 /// The audit that the words ask for.
-fn audit<F: Files, W: Wire>(
+fn audit<F: Files, W: Wire, D: CacheDisk>(
     alloc: Global,
     words: &[String],
     files: &mut F,
+    lock: &FileLock,
     wire: &mut W,
+    disk: &mut D,
 ) -> Result<Audited, RunFault>
     ensures accepted { IfOk result (λ a. Accepts F.tells (map string_bytes words.now) (F.stands files.old) a.lockfile) }
     ensures cause { IfErr result (CauseOf F.tells (map string_bytes words.now) (F.stands files.old)) }
@@ -77,11 +80,12 @@ fn audit<F: Files, W: Wire>(
         → F.failed files.new ≡ F.failed files.old ++ record { call = FileCall.Read; path = Some p } ∷ [] }
     ensures usage { (place : ℕ) → command (map string_bytes words.now) ≡ Err place → result ≡ Err (RunFault.Usage place) }
     ensures no_print { result ≢ Err RunFault.Print }
-    ensures audited { W.tells → IfOk result (λ a. AddsAudit a.lockfile (W.exchanges wire.old) (W.exchanges wire.new) a.verdicts) }
-    ensures headline { W.tells → IfOk result (λ a. HeldDecides a.lockfile (W.exchanges wire.old) (W.exchanges wire.new) a.verdicts) }
-    ensures turns { IfOk result (λ a. AreTurns a.lockfile (W.faults wire.old) (W.faults wire.new) a.turns) }
-    ensures caused { IfOk result (λ a. WireCaused a.lockfile a.turns a.verdicts) }
-    ensures unasked { W.tells → IfErr result (λ f. IsTrue (is_early f) → W.exchanges wire.new ≡ W.exchanges wire.old) }
+    ensures audited { W.tells → IfOk result (λ a. AddsAudit D.tells (D.past disk.old) (D.past disk.new) a.lockfile (W.exchanges wire.old) (W.exchanges wire.new) a.turns a.verdicts) }
+    ensures headline { W.tells → D.tells → IfOk result (λ a. HeldDecides a.lockfile (W.exchanges wire.old) (W.exchanges wire.new) (D.past disk.old) a.turns a.verdicts) }
+    ensures kept { W.tells → D.tells → KeepsHonest (W.exchanges wire.old) (W.exchanges wire.new) (D.past disk.old) (D.past disk.new) }
+    ensures turns { IfOk result (λ a. AreTurns a.lockfile (W.faults wire.old) (D.faults disk.old) (W.faults wire.new) (D.faults disk.new) a.turns) }
+    ensures caused { IfOk result (λ a. Caused a.lockfile a.turns a.verdicts) }
+    ensures unasked { IfErr result (λ f. IsTrue (is_early f) → (wire.new ≡ wire.old) × (disk.new ≡ disk.old)) }
     ensures part { F.tells → W.tells → (packages : List Package) → Accepts F.tells (map string_bytes words.now) (F.stands files.old) packages
         → OnErr result (AddsPart (asked_paths packages) (W.exchanges wire.old) (W.exchanges wire.new)) }
     ensures exit { IfOk result (λ a. a.exit ≡ 0) }
@@ -91,7 +95,7 @@ fn audit<F: Files, W: Wire>(
         Err(place) => return Err(RunFault::Usage { place }),
     };
     let text = read_lockfile(alloc, files, path)?;
-    match audit_text(alloc, text.as_str(), wire) {
+    match audit_text(alloc, text.as_str(), lock, wire, disk) {
         Ok(audited) => Ok(audited),
         Err(AuditError::Lockfile(fault)) => Err(RunFault::Lockfile(fault)),
         Err(AuditError::NoMemory) => Err(RunFault::NoMemory),
@@ -120,12 +124,15 @@ fn print<O: Sink>(alloc: Global, audited: &Audited, out: &mut O) -> Result<(), R
 }
 
 /// Runs the command: reads the words and the lockfile, asks the server for each distinct path,
-/// and prints a verdict line for each package of the default registry.
-pub fn run<F: Files, W: Wire, O: Sink, E: Sink>(
+/// naming what the cache has of it and keeping what comes, and prints a verdict line for each
+/// package of the default registry.
+pub fn run<F: Files, W: Wire, D: CacheDisk, O: Sink, E: Sink>(
     alloc: Global,
     words: &[String],
     files: &mut F,
+    lock: &FileLock,
     wire: &mut W,
+    disk: &mut D,
     out: &mut O,
     err: &mut E,
 ) -> Outcome
@@ -143,13 +150,16 @@ pub fn run<F: Files, W: Wire, O: Sink, E: Sink>(
 
     // which lockfile an audit is of, what it asked, and what it says
     ensures accepted { IfSome result.audited (λ a. Accepts F.tells (map string_bytes words.now) (F.stands files.old) a.lockfile) }
-    ensures audited { W.tells → IfSome result.audited (λ a. AddsAudit a.lockfile (W.exchanges wire.old) (W.exchanges wire.new) a.verdicts) }
-    ensures headline { W.tells → IfSome result.audited (λ a. HeldDecides a.lockfile (W.exchanges wire.old) (W.exchanges wire.new) a.verdicts) }
-    ensures turns { IfSome result.audited (λ a. AreTurns a.lockfile (W.faults wire.old) (W.faults wire.new) a.turns) }
-    ensures caused { IfSome result.audited (λ a. WireCaused a.lockfile a.turns a.verdicts) }
+    ensures headline { W.tells → D.tells → IfSome result.audited (λ a. HeldDecides a.lockfile (W.exchanges wire.old) (W.exchanges wire.new) (D.past disk.old) a.turns a.verdicts) }
+    ensures audited { W.tells → IfSome result.audited (λ a. AddsAudit D.tells (D.past disk.old) (D.past disk.new) a.lockfile (W.exchanges wire.old) (W.exchanges wire.new) a.turns a.verdicts) }
+    ensures turns { IfSome result.audited (λ a. AreTurns a.lockfile (W.faults wire.old) (D.faults disk.old) (W.faults wire.new) (D.faults disk.new) a.turns) }
+    ensures caused { IfSome result.audited (λ a. Caused a.lockfile a.turns a.verdicts) }
+
+    // however the run ends, a kept disk is kept at every moment where the exchanges were honest
+    ensures kept { W.tells → D.tells → KeepsHonest (W.exchanges wire.old) (W.exchanges wire.new) (D.past disk.old) (D.past disk.new) }
 
     // what is asked without an audit: nothing, or a part of the paths where memory ran out
-    ensures unasked { W.tells → IfSome result.fault (λ f. IsTrue (is_early f) → W.exchanges wire.new ≡ W.exchanges wire.old) }
+    ensures unasked { IfSome result.fault (λ f. IsTrue (is_early f) → (wire.new ≡ wire.old) × (disk.new ≡ disk.old)) }
     ensures asked_part { F.tells → W.tells → (packages : List Package) → Accepts F.tells (map string_bytes words.now) (F.stands files.old) packages
         → IfNone result.audited (AddsPart (asked_paths packages) (W.exchanges wire.old) (W.exchanges wire.new)) }
 
@@ -160,7 +170,7 @@ pub fn run<F: Files, W: Wire, O: Sink, E: Sink>(
     ensures err_same { E.tells → E.holds err.new ≡ E.holds err.old }
 {
     let _err = err;
-    let audited = match audit(alloc, words, files, wire) {
+    let audited = match audit(alloc, words, files, lock, wire, disk) {
         Ok(audited) => audited,
         Err(fault) => {
             return Outcome {

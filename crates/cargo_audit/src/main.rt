@@ -1,15 +1,19 @@
 //! The program `cargo_audit`: makes the real outside and runs the command over it.
 #![tactic(auto)]
 
-use audit_edges::{MirrorWire, StdFiles, StdSink};
+use audit_edges::{FileCacheDisk, MirrorWire, StdFiles, StdSink};
 use audit_program::run;
 use std::env::VarError;
 use std::io::ErrorKind;
 use std::process::ExitCode;
 use std::{env, io};
+use tame_names::FileLock;
 
 /// The folder of the mirror, where `CARGO_AUDIT_MIRROR` names none.
 const DEFAULT_MIRROR: &str = "index-mirror";
+
+/// The folder of the cache, where `CARGO_AUDIT_INDEX` names none.
+const DEFAULT_CACHE: &str = "index-cache";
 
 /// The words behind the program's own path.
 fn words(rt: &HostRuntime) -> io::Result<Vec<String>> {
@@ -20,11 +24,11 @@ fn words(rt: &HostRuntime) -> io::Result<Vec<String>> {
     Ok(words)
 }
 
-/// The folder of the mirror.
-fn mirror(rt: &HostRuntime) -> io::Result<String> {
-    match env::var(rt, "CARGO_AUDIT_MIRROR") {
+/// The folder that a variable names, or else the default.
+fn folder(rt: &HostRuntime, variable: &str, default: &str) -> io::Result<String> {
+    match env::var(rt, variable) {
         Ok(folder) => Ok(folder),
-        Err(VarError::NotPresent) => Ok(String::from_str(rt.alloc(), DEFAULT_MIRROR)?),
+        Err(VarError::NotPresent) => Ok(String::from_str(rt.alloc(), default)?),
         Err(VarError::NotUnicode) => Err(io::Error::from(ErrorKind::InvalidData)),
         Err(VarError::OutOfMemory) => Err(io::Error::from(ErrorKind::OutOfMemory)),
     }
@@ -32,16 +36,21 @@ fn mirror(rt: &HostRuntime) -> io::Result<String> {
 
 fn audit(rt: &HostRuntime) -> io::Result<u8> {
     let words = words(rt)?;
-    let folder = mirror(rt)?;
+    let mirror = folder(rt, "CARGO_AUDIT_MIRROR", DEFAULT_MIRROR)?;
+    let cache = folder(rt, "CARGO_AUDIT_INDEX", DEFAULT_CACHE)?;
+    let lock = FileLock::unlocked();
     let mut files = StdFiles::new(rt);
-    let mut wire = MirrorWire::new(rt, folder.as_str());
+    let mut wire = MirrorWire::new(rt, mirror.as_str());
+    let mut disk = FileCacheDisk::new(rt, cache.as_str());
     let mut out = StdSink::new(io::writer(rt));
     let mut err = StdSink::new(rt.stderr());
     let outcome = run(
         rt.alloc(),
         words.as_slice(),
         &mut files,
+        &lock,
         &mut wire,
+        &mut disk,
         &mut out,
         &mut err,
     );

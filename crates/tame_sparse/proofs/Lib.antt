@@ -1,5 +1,6 @@
 mod Configs
 mod Fields
 mod Visible
-mod Stored
+pub mod Stored
 mod Firsts
+pub mod TrimLemmas

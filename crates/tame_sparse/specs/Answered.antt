@@ -1,9 +1,10 @@
 -- What an index makes of an answer (Cargo Book, "Registry Index", sparse protocol; RFC 9110, section 15), and what it stores of it.
-use Rattle.std.specs.Prelude.{◌≡◌, ◌≢◌, ◌⊎◌, ℕ, codes, List, Bool, true, IsTrue, Option, Some, None, IfSome, Result, Ok, Err, IfErr}
+use Rattle.std.specs.Prelude.{◌≡◌, ◌≢◌, ◌⊎◌, ℕ, codes, List, Bool, true, IsTrue, Option, Some, None, IfSome, Result, Ok, Err, IfOk, IfErr}
 use Rattle.tame_names.specs.Names.{path}
 use Rattle.tame_names.specs.declared.errors.Error.{Error}
 use Rattle.tame_names.specs.declared.errors.Error.TheVariants as error
 use Rattle.tame_names.specs.declared.errors.HttpError.TheVariants as http_error
+use Rattle.tame_names.specs.declared.errors.InvalidJsonLines.{InvalidJsonLines}
 use Rattle.tame_names.specs.declared.errors.IoKind.TheVariants as io_kind
 use Rattle.tame_records.specs.Lines.{lines}
 use Rattle.tame_entry.specs.Entry.{entry, is_storable, pairs}
@@ -25,16 +26,23 @@ use Rattle.tame_sparse.specs.declared.responses.Response.{Response}
 abbrev pub Taken : Type 0
 Taken = Result (Option IndexEntry) Error
 
--- the lines of a valid body, or why it isn't valid
-abbrev pub IsBodyTaken : List ℕ → Taken → Type 0
-IsBodyTaken body (Ok (Some (Remote json_lines))) = (lines_of json_lines ≡ lines body) × (invalid body ≡ None)
-IsBodyTaken body (Err (error.InvalidJsonLines why)) = invalid body ≡ Some why
-IsBodyTaken body (Err error.NoMemory) = Unit {0}
-IsBodyTaken body _ = ⊥
+-- the lines of a valid body
+abbrev pub AreSentLines : List ℕ → Option IndexEntry → Type 0
+AreSentLines body (Some (Remote json_lines)) = (lines_of json_lines ≡ lines body) × (invalid body ≡ None)
+AreSentLines body _ = ⊥
+
+-- they, or why the body isn't valid
+pub record IsBodyTaken (body : List ℕ) (taken : Taken) : Type 0 where
+  pub lines : IfOk taken (AreSentLines body)
+  pub refused : IfErr taken (λ e. (e ≡ error.NoMemory) ⊎ ((why : InvalidJsonLines) × (e ≡ error.InvalidJsonLines why) × (invalid body ≡ Some why)))
+
+-- the status that is refused, and the words for it
+abbrev pub status_fault : Error → Option (ℕ × List ℕ)
+status_fault (error.Http (http_error.StatusCode code msg)) = Some (code, msg.now)
+status_fault _ = None
 
 abbrev pub IsStatusFault : ℕ → List ℕ → Taken → Type 0
-IsStatusFault status text (Err (error.Http (http_error.StatusCode code msg))) = (code ≡ status) × (msg.now ≡ text)
-IsStatusFault status text _ = ⊥
+IsStatusFault status text taken = (e : Error) × (taken ≡ Err e) × (status_fault e ≡ Some (status, text))
 
 -- by the status; what comes at 304 is said beside it, over the file of the cache
 pub record IsTaken (response : Response) (taken : Taken) : Type 0 where

@@ -2,7 +2,7 @@
 ghost use Rattle.std.specs.Prelude.{◌≡◌, ◌≢◌, ◌⊎◌, ◌≤◌, ◌+◌, ℕ, List, ◌++◌, true, false, map, Ok, Err, Some, None, IsTrue, IfOk, IfErr, OnOk};
 ghost use Rattle.tame_names.specs.Counts.{HasCause, IsQuiet, Rose};
 ghost use Rattle.tame_names.specs.KrateNames.{text_of};
-ghost use Rattle.tame_names.specs.Names.{path};
+ghost use Rattle.tame_names.specs.Names.{IsIndexPath, path};
 ghost use Rattle.tame_entry.specs.Config.{config_of};
 ghost use Rattle.tame_entry.specs.Entry.{entry, is_storable, pair_of};
 ghost use Rattle.tame_entry.specs.Held.{ServerMap};
@@ -140,6 +140,7 @@ impl SparseIndex {
         disk: &mut D,
     ) -> Result<Request, Error>
         ensures path { IfOk result (λ request. path (text_of name.entry) ≡ Some request.path) }
+        ensures index_path { IfOk result (λ request. IsIndexPath request.path) }
         ensures uri { IfOk result (λ request. request.uri ≡ http_url self.now.url ++ request.path) }
         // what is named
         ensures kept_named { D.tells → revision.entry ≡ None → (q : List ℕ) → cache_file_of self.now.cache.path (text_of name.entry) ≡ Some q

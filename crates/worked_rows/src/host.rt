@@ -1,8 +1,9 @@
 //! Runs of the command over memory.
 use audit_program::{Outcome, run};
 use std::test::Fail;
+use tame_cache::MemCacheDisk;
 use tame_entry::OwnedRevision;
-use tame_names::{Items, MemFile, MemFiles, MemSink, Text};
+use tame_names::{FileLock, Items, MemFile, MemFiles, MemSink, Text};
 use tame_sparse::{Held, MemWire, Scripted, WireAnswer};
 
 /// A run that has ended, with what it left.
@@ -11,6 +12,7 @@ pub struct Ran {
     pub outcome: Outcome,
     pub files: MemFiles,
     pub wire: MemWire,
+    pub disk: MemCacheDisk,
     pub out: MemSink,
     pub err: MemSink,
 }
@@ -85,13 +87,31 @@ pub fn lockfile(rt: &HostRuntime, packages: &[(&str, &str)]) -> Result<String, F
     Ok(text)
 }
 
-/// Runs words over a host with one file, or none, and a server that gives these answers.
+/// A disk without files, of which the calls with these numbers fail, counted from 0.
+pub fn disk_failing(rt: &HostRuntime, failing: &[u64]) -> Result<MemCacheDisk, Fail> {
+    let failing = Vec::from_slice(rt.alloc(), failing)?;
+    Ok(MemCacheDisk::new(rt.alloc(), failing))
+}
+
+/// Runs words over a host with one file, or none, a server that gives these answers, and no cache.
 pub fn run_words(
     rt: &HostRuntime,
     words: &[&str],
     file: Option<(&str, &[u8])>,
     script: Items<Scripted>,
     failing: Failing<'_>,
+) -> Result<Ran, Fail> {
+    run_over(rt, words, file, script, failing, disk_failing(rt, &[])?)
+}
+
+/// Runs words over a host with one file, or none, a server that gives these answers, and a disk.
+pub fn run_over(
+    rt: &HostRuntime,
+    words: &[&str],
+    file: Option<(&str, &[u8])>,
+    script: Items<Scripted>,
+    failing: Failing<'_>,
+    mut disk: MemCacheDisk,
 ) -> Result<Ran, Fail> {
     let alloc = rt.alloc();
     let mut list = Vec::new(alloc);
@@ -109,11 +129,14 @@ pub fn run_words(
     let mut wire = MemWire::new(alloc, script);
     let mut out = MemSink::new(alloc, numbers(rt, failing.puts)?);
     let mut err = MemSink::new(alloc, Items::new(alloc));
+    let lock = FileLock::unlocked();
     let outcome = run(
         alloc,
         list.as_slice(),
         &mut files,
+        &lock,
         &mut wire,
+        &mut disk,
         &mut out,
         &mut err,
     );
@@ -121,19 +144,31 @@ pub fn run_words(
         outcome,
         files,
         wire,
+        disk,
         out,
         err,
     })
 }
 
-/// Audits a lockfile with the command's four words.
+/// Audits a lockfile with the command's four words, without a cache.
 pub fn audit(rt: &HostRuntime, text: &str, script: Items<Scripted>) -> Result<Ran, Fail> {
-    run_words(
+    audit_over(rt, text, script, disk_failing(rt, &[])?)
+}
+
+/// Audits a lockfile with the command's four words, over a disk.
+pub fn audit_over(
+    rt: &HostRuntime,
+    text: &str,
+    script: Items<Scripted>,
+    disk: MemCacheDisk,
+) -> Result<Ran, Fail> {
+    run_over(
         rt,
         &["audit", "--verdicts", "-f", "Cargo.lock"],
         Some(("Cargo.lock", text.as_bytes())),
         script,
         NOTHING,
+        disk,
     )
 }
 

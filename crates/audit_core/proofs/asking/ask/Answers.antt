@@ -1,39 +1,73 @@
-use Rattle.std.proofs.Common.{◌≡◌, ◌∷◌, [], ◌++◌, map, ap, ◌∙◌, arith}
-use Rattle.std.proofs.lemmas.List.{map-append}
-use Rattle.std.proofs.lemmas.Grind.{common_steps}
+use Rattle.std.proofs.Common.{◌≡◌, ◌∷◌, [], ◌++◌, List, ℕ, Some, map, ap, sym, ◌∙◌, refl}
+use Rattle.std.proofs.lemmas.List.{append-nil, map-append}
 use Rattle.audit_core.specs.declared.asking.Heard.{Heard}
+use Rattle.audit_core.specs.declared.asking.Turn.{Turn}
+use Rattle.audit_core.proofs.Exchanged.{keeps_more, keeps_nothing}
 use Rattle.audit_core.proofs.Lists.{on_err}
-use Rattle.audit_core.proofs.Steps.{Adds-more, AddsPart-more, AddsPart-all, AreCaused-more, Chains-more, LeavesDisk-more, pair, pair_paths}
+use Rattle.audit_core.proofs.Steps.{Adds-more, Adds-named, AddsNamed-more, AreCaused-more, Chains-more, paths_more, turned_paths}
 use Rattle.audit_core.proofs.asking.ask.Goals as goal
 
-pub returns-in_err-turn-clause-part : goal.returns-in_err-turn-clause-part
-returns-in_err-turn-clause-part g c = λ told.
+pub loop-name-init : goal.loop-name-init
+loop-name-init g c =
+    rw c.new-heard.ensures record {
+      paths = refl;
+      counts = (refl, refl);
+      caused = tt;
+      said = λ told. ([], sym (append-nil _), λ t q. refl);
+      kept = λ told_wire told. keeps_nothing _ _ _;
+    }
+
+pub loop-name-preserved : goal.loop-name-preserved
+loop-name-preserved g c =
     let exchanges = g.W.Wire.exchanges in
-    on_err _ (AddsPart-more c.args.paths.now c.loop-path.path-index c.path-item.result (map pair c.loop-path.heard)
-    (exchanges c.args.wire.now) (exchanges c.loop-path.wire) (exchanges c.take_turn.new.wire) c.loop-path-test.true c.path-item.is
-    (pair_paths c.loop-path.heard ∙ c.loop-path.invariant.paths) (c.loop-path.invariant.said told) (c.in_err-turn.ensures.part told))
+    let past = g.D.CacheDisk.past in
+    let inv = c.loop-name.invariant in
+    let turn = c.in_ok-turn in
+    let turns : map (λ (h : Heard). h.turn) (c.loop-name.heard ++ turn.turn ∷ []) ≡ map (λ (h : Heard). h.turn) c.loop-name.heard ++ turn.turn.turn ∷ [] = map-append _ c.loop-name.heard _ in
+    rw c.in_ok-add.ensures.ok record {
+      paths = paths_more c.args.names.now c.loop-name.name-index c.name-item.result c.loop-name.heard turn.turn c.loop-name-test.true c.name-item.is inv.paths turn.ensures.path;
+      counts = rw turns (Chains-more _ _ (map (λ (h : Heard). h.turn) c.loop-name.heard) (turn.turn.turn ∷ []) _ _ _ _ inv.counts turn.ensures.counts);
+      caused = AreCaused-more _ _ inv.caused turn.ensures.caused;
+      said = λ told. Adds-more g.D.CacheDisk.tells (exchanges c.args.wire.now) (exchanges c.loop-name.wire) (exchanges c.take_turn.new.wire) (past c.args.disk.now) (past c.loop-name.disk) (past c.take_turn.new.disk) c.loop-name.heard (turn.turn ∷ [])
+          (inv.said told) (turn.ensures.said told);
+      kept = λ told_wire told. keeps_more (exchanges c.args.wire.now) (exchanges c.loop-name.wire) (exchanges c.take_turn.new.wire) (past c.args.disk.now) (past c.loop-name.disk) (past c.take_turn.new.disk)
+          (inv.said told_wire).0 (turn.ensures.said told_wire).0 (inv.said told_wire).1 (turn.ensures.said told_wire).1 (inv.kept told_wire told) (c.take_turn.ensures.kept told_wire told);
+    }
+
+pub returns-in_err-turn-clause-part : goal.returns-in_err-turn-clause-part
+returns-in_err-turn-clause-part g c told =
+    let exchanges = g.W.Wire.exchanges in
+    let past = g.D.CacheDisk.past in
+    let inv = c.loop-name.invariant in
+    let said = inv.said told in
+    on_err _ (AddsNamed-more c.args.names.now c.loop-name.name-index c.name-item.result (exchanges c.args.wire.now) (exchanges c.loop-name.wire) (exchanges c.take_turn.new.wire) said.0 c.loop-name-test.true c.name-item.is said.1
+    (turned_paths g.D.CacheDisk.tells (past c.args.disk.now) (past c.loop-name.disk) said.0 c.loop-name.heard said.2 ∙ inv.paths) (c.in_err-turn.ensures.part told))
+
+pub returns-in_err-turn-clause-kept : goal.returns-in_err-turn-clause-kept
+returns-in_err-turn-clause-kept g c told_wire told =
+    let exchanges = g.W.Wire.exchanges in
+    let past = g.D.CacheDisk.past in
+    let inv = c.loop-name.invariant in
+    let part = c.in_err-turn.ensures.part told_wire in
+    keeps_more (exchanges c.args.wire.now) (exchanges c.loop-name.wire) (exchanges c.take_turn.new.wire) (past c.args.disk.now) (past c.loop-name.disk) (past c.take_turn.new.disk)
+    (inv.said told_wire).0 part.0 (inv.said told_wire).1 part.2 (inv.kept told_wire told) (c.take_turn.ensures.kept told_wire told)
 
 pub returns-in_err-add-clause-part : goal.returns-in_err-add-clause-part
-returns-in_err-add-clause-part g c = λ told.
+returns-in_err-add-clause-part g c told =
     let exchanges = g.W.Wire.exchanges in
-    on_err _ (AddsPart-more c.args.paths.now c.loop-path.path-index c.path-item.result (map pair c.loop-path.heard)
-    (exchanges c.args.wire.now) (exchanges c.loop-path.wire) (exchanges c.take_turn.new.wire) c.loop-path-test.true c.path-item.is
-    (pair_paths c.loop-path.heard ∙ c.loop-path.invariant.paths) (c.loop-path.invariant.said told)
-    (AddsPart-all (c.path-item.result ∷ []) (pair c.in_ok-turn.turn ∷ []) (exchanges c.loop-path.wire) (exchanges c.take_turn.new.wire)
-    (ap (λ q. q ∷ []) c.in_ok-turn.ensures.path) (c.in_ok-turn.ensures.said told)))
+    let past = g.D.CacheDisk.past in
+    let inv = c.loop-name.invariant in
+    let said = inv.said told in
+    let turn = c.in_ok-turn in
+    on_err _ (AddsNamed-more c.args.names.now c.loop-name.name-index c.name-item.result (exchanges c.args.wire.now) (exchanges c.loop-name.wire) (exchanges c.take_turn.new.wire) said.0 c.loop-name-test.true c.name-item.is said.1
+    (turned_paths g.D.CacheDisk.tells (past c.args.disk.now) (past c.loop-name.disk) said.0 c.loop-name.heard said.2 ∙ inv.paths)
+    (Adds-named g.D.CacheDisk.tells c.name-item.result turn.turn (exchanges c.loop-name.wire) (exchanges c.take_turn.new.wire) (past c.loop-name.disk) (past c.take_turn.new.disk) turn.ensures.path (turn.ensures.said told)))
 
-pub loop-path-preserved : goal.loop-path-preserved
-loop-path-preserved g c =
+pub returns-in_err-add-clause-kept : goal.returns-in_err-add-clause-kept
+returns-in_err-add-clause-kept g c told_wire told =
     let exchanges = g.W.Wire.exchanges in
-    let faults = g.W.Wire.faults in
-    let turn : map (λ (h : Heard). h.turn) (c.loop-path.heard ++ c.in_ok-turn.turn ∷ []) ≡ map (λ (h : Heard). h.turn) c.loop-path.heard ++ c.in_ok-turn.turn.turn ∷ [] = map-append _ c.loop-path.heard _ in
-    let asked : map pair (c.loop-path.heard ++ c.in_ok-turn.turn ∷ []) ≡ map pair c.loop-path.heard ++ pair c.in_ok-turn.turn ∷ [] = map-append _ c.loop-path.heard _ in
-    rw c.in_ok-add.ensures.ok record {
-      paths = grind (arith, common_steps);
-      counts = rw turn (Chains-more (faults c.args.wire.now) (map (λ (h : Heard). h.turn) c.loop-path.heard) (c.in_ok-turn.turn.turn ∷ []) (faults c.loop-path.wire) (faults c.take_turn.new.wire)
-          c.loop-path.invariant.counts c.in_ok-turn.ensures.counts);
-      disk = rw turn (LeavesDisk-more (map (λ (h : Heard). h.turn) c.loop-path.heard) (c.in_ok-turn.turn.turn ∷ []) c.loop-path.invariant.disk c.in_ok-turn.ensures.disk);
-      caused = AreCaused-more _ _ c.loop-path.invariant.caused c.in_ok-turn.ensures.cause;
-      said = λ told. rw asked (Adds-more (map pair c.loop-path.heard) (pair c.in_ok-turn.turn ∷ []) (exchanges c.args.wire.now) (exchanges c.loop-path.wire) (exchanges c.take_turn.new.wire)
-          (c.loop-path.invariant.said told) (c.in_ok-turn.ensures.said told));
-    }
+    let past = g.D.CacheDisk.past in
+    let inv = c.loop-name.invariant in
+    let turn = c.in_ok-turn in
+    keeps_more (exchanges c.args.wire.now) (exchanges c.loop-name.wire) (exchanges c.take_turn.new.wire) (past c.args.disk.now) (past c.loop-name.disk) (past c.take_turn.new.disk)
+    (inv.said told_wire).0 (turn.ensures.said told_wire).0 (inv.said told_wire).1 (turn.ensures.said told_wire).1 (inv.kept told_wire told) (c.take_turn.ensures.kept told_wire told)

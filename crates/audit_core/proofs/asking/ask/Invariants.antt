@@ -1,12 +1,14 @@
-use Rattle.std.proofs.Common.{◌≡◌, map, take}
-use Rattle.audit_core.specs.Turns.{Adds, AreCaused, Chains, LeavesDisk}
+use Rattle.std.proofs.Common.{◌≡◌, List, Some, map, take}
+use Rattle.tame_names.specs.Names.{path}
+use Rattle.audit_core.specs.Turns.{Adds, AreCaused, Chains, KeepsHonest}
+use Rattle.audit_core.specs.declared.asking.Heard.{Heard}
 use Rattle.audit_core.proofs.asking.ask.Given as goal
 
-abbrev pub invariant-loop-path : goal.invariant-loop-path
-invariant-loop-path g l = record {
-  paths : map (λ h. h.turn.path) l.heard ≡ take l.path-index l.paths;
-  counts : Chains (g.W.Wire.faults l.initial.wire) (map (λ h. h.turn) l.heard) (g.W.Wire.faults l.wire);
-  disk : LeavesDisk (map (λ h. h.turn) l.heard);
+abbrev pub invariant-loop-name : goal.invariant-loop-name
+invariant-loop-name g l = record {
+  paths : map (λ (h : Heard). Some h.turn.path) l.heard ≡ map path (take l.name-index l.names);
+  counts : Chains (g.W.Wire.faults l.initial.wire) (g.D.CacheDisk.faults l.initial.disk) (map (λ (h : Heard). h.turn) l.heard) (g.W.Wire.faults l.wire) (g.D.CacheDisk.faults l.disk);
   caused : AreCaused l.heard;
-  said : g.W.Wire.tells → Adds (map (λ h. (h.turn.path, h.answer)) l.heard) (g.W.Wire.exchanges l.initial.wire) (g.W.Wire.exchanges l.wire);
+  said : g.W.Wire.tells → Adds g.D.CacheDisk.tells (g.W.Wire.exchanges l.initial.wire) (g.W.Wire.exchanges l.wire) (g.D.CacheDisk.past l.initial.disk) l.heard (g.D.CacheDisk.past l.disk);
+  kept : g.W.Wire.tells → g.D.CacheDisk.tells → KeepsHonest (g.W.Wire.exchanges l.initial.wire) (g.W.Wire.exchanges l.wire) (g.D.CacheDisk.past l.initial.disk) (g.D.CacheDisk.past l.disk);
 }

@@ -1,6 +1,61 @@
+use Rattle.std.proofs.Common.{◌≡◌, ◌∷◌, [], ◌++◌, List, ℕ, Some, None, option_map, ap, sym, ◌∙◌, refl, subst}
+use Rattle.std.proofs.lemmas.List.{append-nil}
+use Rattle.tame_names.specs.KrateNames.{text_of}
+use Rattle.tame_names.specs.Names.{IsIndexPath, path}
+use Rattle.tame_cache.specs.Kept.{cache_file, cache_file_of}
+use Rattle.audit_core.proofs.Exchanged.{keeps_from, keeps_unchanged}
 use Rattle.audit_core.proofs.Lists.{on_err}
-use Rattle.audit_core.proofs.Steps.{AddsPart-none}
+use Rattle.audit_core.proofs.Steps.{exchanged_from, part_named}
 use Rattle.audit_core.proofs.asking.take_turn.Goals as goal
 
-pub returns-in_err-copy-clause-part : goal.returns-in_err-copy-clause-part
-returns-in_err-copy-clause-part g c = λ told. on_err _ (AddsPart-none _ _)
+pub returns-in-Err-clause-part : goal.returns-in-Err-clause-part
+returns-in-Err-clause-part g c told = ([], 0, sym (append-nil _), refl)
+
+pub returns-in-Err-clause-kept : goal.returns-in-Err-clause-kept
+returns-in-Err-clause-kept g c told_wire told =
+    let past = g.D.CacheDisk.past in
+    let exchanges = g.W.Wire.exchanges in
+    keeps_unchanged (exchanges c.args.wire.now) (exchanges c.args.wire.now) (past c.args.disk.now) (past c.make_remote_request.new.disk) (c.make_remote_request.ensures.same told)
+
+pub returns-in_err-answer-clause-part : goal.returns-in_err-answer-clause-part
+returns-in_err-answer-clause-part g c told =
+    let exchanges = g.W.Wire.exchanges in
+    let at : path c.args.name.now ≡ Some c.in-Ok.request.path = ap path (sym c.krate_name-krate.ensures) ∙ c.in-Ok.ensures.path in
+    on_err _ (part_named c.args.name.now c.in-Ok.request.path (exchanges c.args.wire.now) (exchanges c.hear.new.wire) at (c.in_err-answer.ensures.part told))
+
+pub returns-in_err-answer-clause-kept : goal.returns-in_err-answer-clause-kept
+returns-in_err-answer-clause-kept g c told_wire told =
+    let past = g.D.CacheDisk.past in
+    let exchanges = g.W.Wire.exchanges in
+    keeps_from (exchanges c.args.wire.now) (exchanges c.hear.new.wire) (past c.args.disk.now) (past c.make_remote_request.new.disk) (past c.hear.new.disk) (c.make_remote_request.ensures.same told) (c.hear.ensures.kept told_wire told)
+
+pub returns-clause-kept : goal.returns-clause-kept
+returns-clause-kept g c told_wire told =
+    let past = g.D.CacheDisk.past in
+    let exchanges = g.W.Wire.exchanges in
+    keeps_from (exchanges c.args.wire.now) (exchanges c.hear.new.wire) (past c.args.disk.now) (past c.make_remote_request.new.disk) (past c.hear.new.disk) (c.make_remote_request.ensures.same told) (c.hear.ensures.kept told_wire told)
+
+pub returns-clause-said : goal.returns-clause-said
+returns-clause-said g c told_wire =
+    let past = g.D.CacheDisk.past in
+    let faults = g.D.CacheDisk.faults in
+    let x = c.in_ok-answer.ensures.heard told_wire in
+    let e = x.0 in
+    let at : path (text_of c.krate_name-krate.result) ≡ Some c.in-Ok.request.path = c.in-Ok.ensures.path in
+    let there : cache_file_of c.args.index.now.cache.path (text_of c.krate_name-krate.result) ≡ Some (cache_file [] c.in-Ok.request.path) =
+    ap (λ root. cache_file_of root (text_of c.krate_name-krate.result)) c.requires.root ∙ ap (λ o. option_map (cache_file []) o) at in (
+      e ∷ [],
+      x.1,
+      (
+        past c.hear.new.disk,
+        record {
+          place = subst IsIndexPath (sym x.2) c.in-Ok.ensures.index_path;
+          path = x.2;
+          named = λ told. rw (x.2, x.3, c.disk_faults-disk_before.ensures, c.disk_faults-disk_asked.ensures) (c.in-Ok.ensures.kept_named told refl _ there);
+          exchanged = rw (c.disk_faults-disk_asked.ensures, c.disk_faults.ensures)
+              (exchanged_from g.D.CacheDisk.tells (faults c.make_remote_request.new.disk) (faults c.hear.new.disk) (past c.args.disk.now) (past c.make_remote_request.new.disk) (past c.hear.new.disk) e c.in_ok-answer.answer
+              c.make_remote_request.ensures.same x.4);
+        },
+        λ told q. refl,
+      ),
+    )

@@ -1,5 +1,24 @@
-use Rattle.audit_core.proofs.Steps.{AddsPart-none}
+use Rattle.std.proofs.Common.{refl, rules}
+use Rattle.audit_core.proofs.Exchanged.{keeps_nothing, part_none}
 use Rattle.audit_core.proofs.auditing.audit_text.Goals as goal
 
 pub returns-in-Err-NoMemory-clause-part : goal.returns-in-Err-NoMemory-clause-part
-returns-in-Err-NoMemory-clause-part g c = λ told packages is. AddsPart-none _ _
+returns-in-Err-NoMemory-clause-part g c told packages is = part_none _ _ _ refl
+
+pub returns-in-Err-NoMemory-clause-kept : goal.returns-in-Err-NoMemory-clause-kept
+returns-in-Err-NoMemory-clause-kept g c told_wire told = keeps_nothing (g.W.Wire.exchanges c.args.wire.now) (g.W.Wire.exchanges c.args.wire.now) (g.D.CacheDisk.past c.args.disk.now)
+
+pub returns-in-Err : goal.returns-in-Err
+returns-in-Err g c = record {
+  lockfile = tt;
+  refused = search rules;
+  no_memory = search rules;
+  uncalled = λ f is. (refl, refl);
+  headline = λ told_wire told. tt;
+  audited = λ told. tt;
+  kept = λ told_wire told. keeps_nothing (g.W.Wire.exchanges c.args.wire.now) (g.W.Wire.exchanges c.args.wire.now) (g.D.CacheDisk.past c.args.disk.now);
+  turns = tt;
+  caused = tt;
+  part = λ told packages is. part_none _ _ _ refl;
+  exit = tt;
+}

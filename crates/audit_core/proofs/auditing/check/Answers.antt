@@ -1,60 +1,91 @@
-use Rattle.std.proofs.Common.{map, ◌∙◌}
-use Rattle.audit_core.proofs.Lists.{on_err}
-use Rattle.audit_core.proofs.Steps.{AddsPart-all, AddsPart-none, pair, pair_paths}
+use Rattle.std.proofs.Common.{◌≡◌, List, ℕ, [], Some, map, ap, sym, ◌∙◌, refl}
+use Rattle.audit_core.specs.declared.asking.Heard.{Heard}
+use Rattle.tame_names.specs.Names.{path}
+use Rattle.audit_core.proofs.Exchanged.{keeps_nothing, part_none}
+use Rattle.audit_core.proofs.Lists.{on_err, somes}
+use Rattle.audit_core.proofs.Names.{named_part, names_valid}
+use Rattle.audit_core.proofs.Steps.{Adds-part}
 use Rattle.audit_core.proofs.Whole.{IsDone, audit_done, caused_done, held_done, turns_done}
 use Rattle.audit_core.proofs.auditing.check.Goals as goal
 
+pub returns-in_err-index-clause-part : goal.returns-in_err-index-clause-part
+returns-in_err-index-clause-part g c told = on_err _ (part_none _ _ _ refl)
+
+pub returns-in_err-index-clause-kept : goal.returns-in_err-index-clause-kept
+returns-in_err-index-clause-kept g c told_wire told = keeps_nothing (g.W.Wire.exchanges c.args.wire.now) (g.W.Wire.exchanges c.args.wire.now) (g.D.CacheDisk.past c.args.disk.now)
+
 pub returns-in_err-plan-clause-part : goal.returns-in_err-plan-clause-part
-returns-in_err-plan-clause-part g c = λ told. on_err _ (AddsPart-none _ _)
+returns-in_err-plan-clause-part g c told = on_err _ (part_none _ _ _ refl)
+
+pub returns-in_err-plan-clause-kept : goal.returns-in_err-plan-clause-kept
+returns-in_err-plan-clause-kept g c told_wire told = keeps_nothing (g.W.Wire.exchanges c.args.wire.now) (g.W.Wire.exchanges c.args.wire.now) (g.D.CacheDisk.past c.args.disk.now)
+
+pub ask-requires-clause-named : goal.ask-requires-clause-named
+ask-requires-clause-named g c = rw c.as_slice.ensures (names_valid c.in_ok-plan.plan.names c.in_ok-plan.plan.paths c.in_ok-plan.ensures.named)
+
+pub returns-in_err-heard-clause-part : goal.returns-in_err-heard-clause-part
+returns-in_err-heard-clause-part g c told =
+    let exchanges = g.W.Wire.exchanges in
+    let plan = c.in_ok-plan in
+    on_err _ (rw plan.ensures.paths at (named_part plan.plan.names plan.plan.paths (exchanges c.args.wire.now) (exchanges c.ask.new.wire) plan.ensures.named (rw c.as_slice.ensures at (c.in_err-heard.ensures.part told))))
 
 pub returns-in_err-verdicts-clause-part : goal.returns-in_err-verdicts-clause-part
-returns-in_err-verdicts-clause-part g c = λ told.
+returns-in_err-verdicts-clause-part g c told =
     let exchanges = g.W.Wire.exchanges in
-    on_err _ (AddsPart-all _ (map pair c.in_ok-heard.heard) (exchanges c.args.wire.now) (exchanges c.ask.new.wire)
-    (pair_paths c.in_ok-heard.heard ∙ c.in_ok-heard.ensures.paths ∙ c.as_slice.ensures ∙ c.in_ok-plan.ensures.paths) (c.in_ok-heard.ensures.said told))
+    let past = g.D.CacheDisk.past in
+    let plan = c.in_ok-plan in
+    let heard : map (λ (h : Heard). Some h.turn.path) c.in_ok-heard.heard ≡ map (λ q. Some q) plan.plan.paths = c.in_ok-heard.ensures.paths ∙ ap (map path) c.as_slice.ensures ∙ plan.ensures.named in
+    on_err _ (rw plan.ensures.paths at (Adds-part g.D.CacheDisk.tells plan.plan.paths c.in_ok-heard.heard (exchanges c.args.wire.now) (exchanges c.ask.new.wire) (past c.args.disk.now) (past c.ask.new.disk) heard (c.in_ok-heard.ensures.said told)))
 
 pub returns-in_err-turns-clause-part : goal.returns-in_err-turns-clause-part
-returns-in_err-turns-clause-part g c = λ told.
+returns-in_err-turns-clause-part g c told =
     let exchanges = g.W.Wire.exchanges in
-    on_err _ (AddsPart-all _ (map pair c.in_ok-heard.heard) (exchanges c.args.wire.now) (exchanges c.ask.new.wire)
-    (pair_paths c.in_ok-heard.heard ∙ c.in_ok-heard.ensures.paths ∙ c.as_slice.ensures ∙ c.in_ok-plan.ensures.paths) (c.in_ok-heard.ensures.said told))
+    let past = g.D.CacheDisk.past in
+    let plan = c.in_ok-plan in
+    let heard : map (λ (h : Heard). Some h.turn.path) c.in_ok-heard.heard ≡ map (λ q. Some q) plan.plan.paths = c.in_ok-heard.ensures.paths ∙ ap (map path) c.as_slice.ensures ∙ plan.ensures.named in
+    on_err _ (rw plan.ensures.paths at (Adds-part g.D.CacheDisk.tells plan.plan.paths c.in_ok-heard.heard (exchanges c.args.wire.now) (exchanges c.ask.new.wire) (past c.args.disk.now) (past c.ask.new.disk) heard (c.in_ok-heard.ensures.said told)))
 
 pub returns-clause-audited : goal.returns-clause-audited
-returns-clause-audited g c = λ told.
+returns-clause-audited g c told =
+    let exchanges = g.W.Wire.exchanges in
+    let past = g.D.CacheDisk.past in
     let done : IsDone c.args.packages.now c.in_ok-heard.heard c.in_ok-verdicts.verdicts = record {
       paths = c.in_ok-plan.plan.paths;
       asked = c.in_ok-plan.ensures.paths;
-      heard = c.in_ok-heard.ensures.paths ∙ c.as_slice.ensures;
+      heard = somes (λ (h : Heard). h.turn.path) c.in_ok-heard.heard c.in_ok-plan.plan.paths (c.in_ok-heard.ensures.paths ∙ ap (map path) c.as_slice.ensures ∙ c.in_ok-plan.ensures.named);
       judged = rw c.as_slice-2.ensures at c.in_ok-verdicts.ensures;
     } in
-    audit_done _ c.in_ok-heard.heard c.in_ok-verdicts.verdicts (g.W.Wire.exchanges c.args.wire.now) (g.W.Wire.exchanges c.ask.new.wire) done (c.in_ok-heard.ensures.said told)
+    rw c.in_ok-turns.ensures (audit_done g.D.CacheDisk.tells c.args.packages.now c.in_ok-heard.heard c.in_ok-verdicts.verdicts (exchanges c.args.wire.now) (exchanges c.ask.new.wire) (past c.args.disk.now) (past c.ask.new.disk) done (c.in_ok-heard.ensures.said told))
 
 pub returns-clause-held : goal.returns-clause-held
-returns-clause-held g c = λ told.
+returns-clause-held g c told_wire told =
+    let exchanges = g.W.Wire.exchanges in
+    let past = g.D.CacheDisk.past in
     let done : IsDone c.args.packages.now c.in_ok-heard.heard c.in_ok-verdicts.verdicts = record {
       paths = c.in_ok-plan.plan.paths;
       asked = c.in_ok-plan.ensures.paths;
-      heard = c.in_ok-heard.ensures.paths ∙ c.as_slice.ensures;
+      heard = somes (λ (h : Heard). h.turn.path) c.in_ok-heard.heard c.in_ok-plan.plan.paths (c.in_ok-heard.ensures.paths ∙ ap (map path) c.as_slice.ensures ∙ c.in_ok-plan.ensures.named);
       judged = rw c.as_slice-2.ensures at c.in_ok-verdicts.ensures;
     } in
-    held_done _ c.in_ok-heard.heard c.in_ok-verdicts.verdicts (g.W.Wire.exchanges c.args.wire.now) (g.W.Wire.exchanges c.ask.new.wire) done (c.in_ok-heard.ensures.said told)
+    rw c.in_ok-turns.ensures (held_done g.D.CacheDisk.tells told c.args.packages.now c.in_ok-heard.heard c.in_ok-verdicts.verdicts (exchanges c.args.wire.now) (exchanges c.ask.new.wire) (past c.args.disk.now) (past c.ask.new.disk) done
+    c.in_ok-heard.ensures.caused (c.in_ok-heard.ensures.said told_wire))
 
 pub returns-clause-turns : goal.returns-clause-turns
 returns-clause-turns g c =
     let done : IsDone c.args.packages.now c.in_ok-heard.heard c.in_ok-verdicts.verdicts = record {
       paths = c.in_ok-plan.plan.paths;
       asked = c.in_ok-plan.ensures.paths;
-      heard = c.in_ok-heard.ensures.paths ∙ c.as_slice.ensures;
+      heard = somes (λ (h : Heard). h.turn.path) c.in_ok-heard.heard c.in_ok-plan.plan.paths (c.in_ok-heard.ensures.paths ∙ ap (map path) c.as_slice.ensures ∙ c.in_ok-plan.ensures.named);
       judged = rw c.as_slice-2.ensures at c.in_ok-verdicts.ensures;
     } in
-    rw c.in_ok-turns.ensures (turns_done _ c.in_ok-heard.heard c.in_ok-verdicts.verdicts _ _ done c.in_ok-heard.ensures.counts c.in_ok-heard.ensures.disk)
+    rw c.in_ok-turns.ensures (turns_done c.args.packages.now c.in_ok-heard.heard c.in_ok-verdicts.verdicts _ _ _ _ done c.in_ok-heard.ensures.counts)
 
 pub returns-clause-caused : goal.returns-clause-caused
 returns-clause-caused g c =
     let done : IsDone c.args.packages.now c.in_ok-heard.heard c.in_ok-verdicts.verdicts = record {
       paths = c.in_ok-plan.plan.paths;
       asked = c.in_ok-plan.ensures.paths;
-      heard = c.in_ok-heard.ensures.paths ∙ c.as_slice.ensures;
+      heard = somes (λ (h : Heard). h.turn.path) c.in_ok-heard.heard c.in_ok-plan.plan.paths (c.in_ok-heard.ensures.paths ∙ ap (map path) c.as_slice.ensures ∙ c.in_ok-plan.ensures.named);
       judged = rw c.as_slice-2.ensures at c.in_ok-verdicts.ensures;
     } in
-    rw c.in_ok-turns.ensures (caused_done _ c.in_ok-heard.heard c.in_ok-verdicts.verdicts done c.in_ok-heard.ensures.cause)
+    rw c.in_ok-turns.ensures (caused_done c.args.packages.now c.in_ok-heard.heard c.in_ok-verdicts.verdicts done c.in_ok-heard.ensures.caused)

@@ -1,0 +1,104 @@
+-- One exchange, and what is kept all the time.
+use Rattle.std.proofs.Common.{◌≡◌, ◌≢◌, inl, inr, ℕ, List, [], ◌∷◌, ◌++◌, map, take, Option, Some, None, Result, Ok, Err, refl, sym, ap, ◌∙◌, subst, append_assoc}
+use Rattle.std.specs.Prelude.{IfOk, IfSome, OnOk, OnErr, IsSomeAnd}
+use Rattle.std.proofs.lemmas.List.{append-nil}
+use Rattle.tame_names.specs.declared.errors.NoMemory.{NoMemory}
+use Rattle.tame_entry.specs.Held.{Maps, ServerMap, body_at}
+use Rattle.tame_entry.specs.declared.revisions.OwnedRevision.{OwnedRevision}
+use Rattle.tame_cache.specs.Disk.{reads}
+use Rattle.tame_cache.specs.Kept.{Disk, IsKept, Keeps}
+use Rattle.tame_cache.proofs.KeptLemmas.{keeps_none, keeps_same, keeps_then}
+use Rattle.tame_sparse.specs.Honest.{AreHonest, IsHonest, IsHonestAnswer, IsMapped}
+use Rattle.tame_sparse.specs.declared.network.Exchange.{Exchange}
+use Rattle.tame_sparse.specs.declared.network.Held.{Held}
+use Rattle.tame_sparse.specs.declared.network.WireAnswer.{WireAnswer}
+use Rattle.audit_core.specs.Answers.{IsAnswer}
+use Rattle.audit_core.specs.Turns.{AddsPart, IsExchanged, KeepsHonest, LeavesFile, index_file}
+use Rattle.audit_core.specs.declared.answers.PathAnswer.{PathAnswer}
+use Rattle.audit_core.specs.declared.answers.PathAnswer.TheVariants.{Settled}
+use Rattle.audit_core.specs.declared.verdicts.Cause.TheVariants as cause
+use Rattle.audit_core.proofs.Lists.{cons_tail}
+
+-- ---- lists of exchanges
+
+pub cancel : (xs ys zs : List Exchange) → xs ++ ys ≡ xs ++ zs → ys ≡ zs
+cancel [] ys zs h = h
+cancel (x ∷ xs) ys zs h = cancel xs ys zs (cons_tail x x (xs ++ ys) (xs ++ zs) h)
+
+pub honest_front : (m : ServerMap) (xs ys : List Exchange) → AreHonest m (xs ++ ys) → AreHonest m xs
+honest_front m [] ys h = tt
+honest_front m (x ∷ xs) ys h = (h.0, honest_front m xs ys h.1)
+
+pub honest_back : (m : ServerMap) (xs ys : List Exchange) → AreHonest m (xs ++ ys) → AreHonest m ys
+honest_back m [] ys h = h
+honest_back m (x ∷ xs) ys h = honest_back m xs ys h.1
+
+-- ---- kept all the time
+
+pub keeps_nothing : (before now : List Exchange) (old : Disk) → KeepsHonest before now old old
+keeps_nothing before now old m added is honest kept = keeps_none m [] old kept
+
+pub keeps_unchanged : (before now : List Exchange) (old new : Disk) → ((q : List ℕ) → new q ≡ old q) → KeepsHonest before now old new
+keeps_unchanged before now old new same m added is honest kept = keeps_same m [] old new same kept
+
+pub keeps_more : (before mid now : List Exchange) (old between new : Disk) (es fs : List Exchange) → mid ≡ before ++ es → now ≡ mid ++ fs → KeepsHonest before mid old between → KeepsHonest mid now between new → KeepsHonest before now old new
+keeps_more before mid now old between new es fs first second one two m added is honest kept =
+    let whole : added ≡ es ++ fs = cancel before added (es ++ fs) (sym is ∙ second ∙ ap (λ (xs : List Exchange). xs ++ fs) first ∙ append_assoc before es fs) in
+    let P : List Exchange → Type 0 = λ xs. AreHonest m xs in
+    let both = subst P whole honest in
+    keeps_then m [] old between new (one m es first (honest_front m es fs both) kept) (two m fs second (honest_back m es fs both))
+
+-- ---- an honest answer carries what the map gives
+
+mapped_body : (m : ServerMap) (p : List ℕ) (h : Held) (a : WireAnswer) → IsMapped m p h → a.revision ≡ h.revision → a.body ≡ h.body → IfSome a.revision (λ r. Maps m p r a.body)
+mapped_body m p h a mapped revision body =
+    let P : Option OwnedRevision → Type 0 = λ o. IfSome o (λ r. Maps m p r a.body) in
+    subst P (sym revision) (go h.revision mapped)
+  where
+    go : (o : Option OwnedRevision) → IfSome o (λ r. Maps m p r h.body) → IfSome o (λ r. Maps m p r a.body)
+    go None is = tt
+    go (Some r) is = subst (λ (bytes : List ℕ). Maps m p r bytes) (sym body) is
+
+sent_body : (m : ServerMap) (p : List ℕ) (o : Option Held) (a : WireAnswer) → IfSome o (IsMapped m p) → IsSomeAnd o (λ h. (a.revision ≡ h.revision) × (a.body ≡ h.body)) → IfSome a.revision (λ r. Maps m p r a.body)
+sent_body m p None a mapped is = absurd is
+sent_body m p (Some h) a mapped is = mapped_body m p h a mapped is.0 is.1
+
+pub honest_sent : (m : ServerMap) (p : List ℕ) (named : Option OwnedRevision) (held : Option Held) (a : WireAnswer) → IfSome held (IsMapped m p) → IsHonestAnswer named held a → a.status ≡ 200 → IfSome a.revision (λ r. Maps m p r a.body)
+honest_sent m p named held a mapped honest is = sent_body m p held a mapped (honest.sent is)
+
+-- ---- one exchange
+
+pub heard_ok : (told : Type 0) (r : Result PathAnswer NoMemory) (asked after : ℕ) (old new : Disk) (before now : List Exchange) (path : List ℕ) (named : Option OwnedRevision) (e : Exchange)
+    → now ≡ before ++ e ∷ [] → e.path ≡ path → e.named ≡ named
+    → (told → IfOk r (IsAnswer (reads (old (index_file e.path))) e.answer))
+    → (told → OnOk r (LeavesFile e.answer asked after (old (index_file e.path)) (new (index_file e.path))))
+    → (told → (q : List ℕ) → q ≢ index_file e.path → new q ≡ old q)
+    → (told → (m : ServerMap) → IsHonest m e → IsKept m [] old → Keeps m [] old new)
+    → IfOk r (λ a. (x : Exchange) × (now ≡ before ++ x ∷ []) × (x.path ≡ path) × (x.named ≡ named) × IsExchanged told asked after old new x a)
+heard_ok told (Ok a) asked after old new before now path named e follows at names answer leaves others keeps =
+    (e, follows, at, names, record { answer = answer; leaves = leaves; others = others; keeps = keeps })
+heard_ok told (Err x) asked after old new before now path named e follows at names answer leaves others keeps = tt
+
+-- a failed exchange
+pub heard_none : (told : Type 0) (asked after : ℕ) (old : Disk) (e : Exchange) → e.answer ≡ None → IsExchanged told asked after old old e (Settled cause.Wire)
+heard_none told asked after old e none =
+    let P : Option WireAnswer → Type 0 = λ o. IsAnswer (reads (old (index_file e.path))) o (Settled cause.Wire) in
+    let Q : Option WireAnswer → Type 0 = λ o. LeavesFile o asked after (old (index_file e.path)) (old (index_file e.path)) in
+    record {
+      answer = λ told. subst P (sym none) (inl refl);
+      leaves = λ told. subst Q (sym none) (record { stored = tt; unstored = λ other. refl });
+      others = λ told q other. refl;
+      keeps = λ told m honest kept. keeps_none m [] old kept;
+    }
+
+-- an exchange of this path is a part of what is asked
+pub part_one : (path : List ℕ) (before now : List Exchange) (e : Exchange) → now ≡ before ++ e ∷ [] → e.path ≡ path → AddsPart (path ∷ []) before now
+part_one path before now e follows at = (e ∷ [], 1, follows, ap (λ (q : List ℕ). q ∷ []) at)
+
+pub part_none : (paths : List (List ℕ)) (before now : List Exchange) → now ≡ before → AddsPart paths before now
+part_none paths before now same = ([], 0, same ∙ sym (append-nil before), refl)
+
+-- from a disk that is the same
+pub keeps_from : (before now : List Exchange) (old mid new : Disk) → ((q : List ℕ) → mid q ≡ old q) → KeepsHonest before now mid new → KeepsHonest before now old new
+keeps_from before now old mid new same h m added is honest kept =
+    keeps_then m [] old mid new (keeps_same m [] old mid same kept) (λ k. h m added is honest k)

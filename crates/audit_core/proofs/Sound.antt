@@ -1,0 +1,142 @@
+-- Over an honest server and a kept disk, what was heard is what the server held.
+use Rattle.std.proofs.Common.{◌≡◌, ◌≢◌, ◌⊎◌, inl, inr, ℕ, List, [], ◌∷◌, ◌++◌, map, Bool, true, false, cond, Option, Some, None, Result, Ok, Err, IsTrue, refl, sym, ap, ◌∙◌, subst, arith}
+use Rattle.std.specs.Prelude.{IfSome, IsSomeAnd, MatchOption, flat_map}
+use Rattle.tame_names.specs.Counts.{Rose}
+use Rattle.tame_names.specs.Names.{IsIndexPath}
+use Rattle.tame_names.specs.declared.errors.CacheError.{CacheError}
+use Rattle.tame_records.specs.Lines.{lines}
+use Rattle.tame_entry.specs.Entry.{ReadEntry, entry, lines_in, pair_bytes, pairs, read_entry}
+use Rattle.tame_entry.specs.Held.{Maps, ServerMap, body_at}
+use Rattle.tame_entry.specs.Lines.{plain, valid}
+use Rattle.tame_entry.specs.Revision.{EntryRevision, Http, Commit, Unknown, IsRevision, entry_text, is_honest_text, revision_text}
+use Rattle.tame_entry.specs.Says.{heads_of}
+use Rattle.tame_entry.specs.declared.revisions.OwnedRevision.{OwnedRevision}
+use Rattle.tame_entry.specs.declared.revisions.OwnedRevision.TheVariants.{Etag, LastModified}
+use Rattle.tame_entry.proofs.EntryLemmas.{body_read, honest_utf8, honest_zero, lines_back}
+use Rattle.tame_entry.proofs.Zeros.{NoZero, zero_free}
+use Rattle.tame_cache.specs.Disk.{File, reads}
+use Rattle.tame_cache.specs.Kept.{Disk, IsGood, IsGoodRead, IsGoodUnder, IsKept}
+use Rattle.tame_cache.proofs.KeptLemmas.{kept_after}
+use Rattle.tame_cache.proofs.Moments.{reads_left}
+use Rattle.tame_sparse.specs.Honest.{AreHonest, IsHonest, IsHonestAnswer, IsMapped, SaysAbsent}
+use Rattle.tame_sparse.specs.Named.{NamesKept, named, named_file, named_http, named_read}
+use Rattle.tame_sparse.specs.declared.network.Exchange.{Exchange}
+use Rattle.tame_sparse.specs.declared.network.Held.{Held}
+use Rattle.tame_sparse.specs.declared.network.WireAnswer.{WireAnswer}
+use Rattle.tame_sparse.proofs.TrimLemmas.{honest_named}
+use Rattle.audit_core.specs.Answers.{IsAnswer, answer_of, body_answer, file_answer, read_answer, verdict_by}
+use Rattle.audit_core.specs.Turns.{AreCaused, IsCaused, Turned, index_file}
+use Rattle.audit_core.specs.Verdicts.{IsAnswerVerdict, IsVerdict, body_verdict, lines_verdict}
+use Rattle.audit_core.specs.declared.answers.PathAnswer.{PathAnswer}
+use Rattle.audit_core.specs.declared.answers.PathAnswer.TheVariants.{Settled, Lines}
+use Rattle.audit_core.specs.declared.asking.Heard.{Heard}
+use Rattle.audit_core.specs.declared.verdicts.Cause.TheVariants as cause
+use Rattle.audit_core.specs.declared.verdicts.Verdict.{Verdict}
+use Rattle.audit_core.specs.declared.verdicts.Verdict.TheVariants.{Unchecked}
+use Rattle.audit_core.proofs.Apart.{Paired}
+use Rattle.audit_core.proofs.TakenLemmas.{choose_absent, choose_other, choose_same, choose_sent}
+
+-- ---- a kept file that was confirmed has the lines that the server held
+
+text_whole : (r : OwnedRevision) → is_honest_text (revision_text r) ≡ true → NoZero (entry_text (Http r))
+text_whole (Etag text) h = zero_free (entry_text (Http (Etag []))) text refl (honest_zero text h)
+text_whole (LastModified text) h = zero_free (entry_text (Http (LastModified []))) text refl (honest_zero text h)
+
+formed : (r : OwnedRevision) → is_honest_text (revision_text r) ≡ true → IsRevision (Http r)
+formed (Etag text) h = honest_utf8 text h
+formed (LastModified text) h = honest_utf8 text h
+
+http_lines : (m : ServerMap) (p bytes body : List ℕ) (e : ReadEntry) (r0 r : OwnedRevision) → read_entry bytes ≡ Ok e → IsGoodUnder m p bytes (Http r0) → named_http r0 ≡ Some r → body_at m p r ≡ Some body
+    → lines_in e.versions ≡ lines body
+http_lines m p bytes body e r0 r is good names held =
+    let honest = good.1.0 in
+    let same : r0 ≡ r = cc (honest_named r0 honest, names) in
+    let P : OwnedRevision → Type 0 = λ x. body_at m p x ≡ Some body in
+    let at : body_at m p r0 ≡ Some body = subst P (sym same) held in
+    let held_same : good.0 ≡ body = cc (good.1.1, at) in
+    let read : read_entry bytes ≡ Ok (record { revision = Http r0; versions = flat_map pair_bytes (pairs good.0) }) =
+    ap read_entry good.3 ∙ body_read (Http r0) good.0 (formed r0 honest) (text_whole r0 honest) good.2 in
+    let R : ReadEntry = record { revision = Http r0; versions = flat_map pair_bytes (pairs good.0) } in
+    let entry_same : e ≡ R = cc (is, read) in
+    ap (λ (x : ReadEntry). lines_in x.versions) entry_same ∙ lines_back good.0 good.2 ∙ ap lines held_same
+
+under_lines : (m : ServerMap) (p bytes body : List ℕ) (e : ReadEntry) (x : EntryRevision) (r : OwnedRevision) → read_entry bytes ≡ Ok e → IsGoodUnder m p bytes x → named x ≡ Some r → body_at m p r ≡ Some body
+    → lines_in e.versions ≡ lines body
+under_lines m p bytes body e (Http r0) r is good names held = http_lines m p bytes body e r0 r is good names held
+under_lines m p bytes body e (Commit digits) r is good names held = cc
+under_lines m p bytes body e Unknown r is good names held = cc
+
+read_lines : (m : ServerMap) (p bytes body : List ℕ) (o : Result ReadEntry CacheError) (r : OwnedRevision) → read_entry bytes ≡ o → IsGoodRead m p bytes o → named_read o ≡ Some r → body_at m p r ≡ Some body
+    → read_answer o ≡ Lines (heads_of (lines body))
+read_lines m p bytes body (Ok e) r is good names held = ap (λ ls. Lines (heads_of ls)) (under_lines m p bytes body e e.revision r is good names held)
+read_lines m p bytes body (Err f) r is good names held = cc
+
+file_lines : (m : ServerMap) (p body : List ℕ) (file : File) (r : OwnedRevision) → IsGood m p file → named_file file ≡ Some r → body_at m p r ≡ Some body → file_answer file ≡ Lines (heads_of (lines body))
+file_lines m p body None r good names held = cc
+file_lines m p body (Some bytes) r good names held = read_lines m p bytes body (read_entry bytes) r refl good names held
+
+confirmed : (m : ServerMap) (p : List ℕ) (file : File) (n : Option OwnedRevision) (h : Held) (o : Option OwnedRevision) → IsGood m p file → (n ≡ None) ⊎ (n ≡ named_file file)
+    → IfSome o (λ r. IsTrue (is_honest_text (revision_text r)) × (body_at m p r ≡ Some h.body)) → IsSomeAnd o (λ r. n ≡ Some r) → file_answer file ≡ Lines (heads_of (lines h.body))
+confirmed m p file n h None good names mapped is = absurd is
+confirmed m p file n h (Some r) good (inl none) mapped is = cc
+confirmed m p file n h (Some r) good (inr same) mapped is = file_lines m p h.body file r good (sym same ∙ is) mapped.1
+
+kept_lines : (m : ServerMap) (p version : List ℕ) (file : File) (n : Option OwnedRevision) (a : PathAnswer) (o : Option Held) → IsGood m p file → (n ≡ None) ⊎ (n ≡ named_file file)
+    → IfSome o (IsMapped m p) → IsSomeAnd o (λ h. IsSomeAnd h.revision (λ r. n ≡ Some r)) → a ≡ file_answer file → IsSomeAnd o (λ h. verdict_by a version ≡ lines_verdict h.body version)
+kept_lines m p version file n a None good names mapped is same = absurd is
+kept_lines m p version file n a (Some h) good names mapped is same = ap (λ x. verdict_by x version) (same ∙ confirmed m p file n h h.revision good names mapped is)
+
+-- ---- one answer
+
+body_same : (b : Bool) (body version : List ℕ) → verdict_by (cond b (Lines (heads_of (lines body))) (Settled cause.JsonLines)) version ≡ cond b (lines_verdict body version) (Unchecked cause.JsonLines)
+body_same true body version = refl
+body_same false body version = refl
+
+sent_held : (version : List ℕ) (w : WireAnswer) (a : PathAnswer) (o : Option Held) → a ≡ body_answer w.body → IsSomeAnd o (λ h. (w.revision ≡ h.revision) × (w.body ≡ h.body)) → IsSomeAnd o (λ h. verdict_by a version ≡ body_verdict h.body version)
+sent_held version w a None same is = absurd is
+sent_held version w a (Some h) same is = ap (λ x. verdict_by x version) same ∙ body_same (valid w.body) w.body version ∙ ap (λ (b : List ℕ). body_verdict b version) is.1
+
+absent_304 : (s : ℕ) → s ≡ 304 → SaysAbsent s → ⊥
+absent_304 s is (inl x) = omega (arith, is, x)
+absent_304 s is (inr (inl x)) = omega (arith, is, x)
+absent_304 s is (inr (inr x)) = omega (arith, is, x)
+
+answer_sound : (m : ServerMap) (p version : List ℕ) (file : File) (n : Option OwnedRevision) (held : Option Held) (came : Option WireAnswer) (a : PathAnswer) (asked after : ℕ)
+    → IsGood m p file → (n ≡ None) ⊎ (n ≡ named_file file) → IfSome held (IsMapped m p) → IfSome came (IsHonestAnswer n held) → IsAnswer file came a → (a ≡ Settled cause.Store → Rose asked after)
+    → MatchOption came (verdict_by a version ≡ Unchecked cause.Wire) (λ w. IsAnswerVerdict held asked after w.status version (verdict_by a version))
+answer_sound m p version file n held None a asked after good names mapped honest (inl is) rose = ap (λ x. verdict_by x version) is
+answer_sound m p version file n held None a asked after good names mapped honest (inr store) rose = absurd store.0
+answer_sound m p version file n held (Some w) a asked after good names mapped honest (inl is) rose = record {
+  absent = λ s. ap (λ x. verdict_by x version) (is ∙ choose_absent w.status _ _ _ _ s);
+  sent = λ s. sent_held version w a held (is ∙ choose_sent w.status _ _ _ _ s) (honest.sent s);
+  not_modified = λ s. inr (kept_lines m p version file n a held good names mapped (honest.not_modified s) (is ∙ choose_same w.status _ _ _ _ s));
+  other = λ x y z. ap (λ x. verdict_by x version) (is ∙ choose_other w.status _ _ _ _ x y z);
+}
+answer_sound m p version file n held (Some w) a asked after good names mapped honest (inr store) rose = record {
+  absent = λ s. absurd (absent_304 w.status store.0 s);
+  sent = λ s. absurd (omega (arith, s, store.0));
+  not_modified = λ s. inl (rose store.1, ap (λ x. verdict_by x version) store.1);
+  other = λ x y z. absurd (z store.0);
+}
+
+-- ---- all of them
+
+pub record IsSound (e : Exchange) (h : Heard) : Type 0 where
+  pub path : e.path ≡ h.turn.path
+  pub verdict : (version : List ℕ) → IsVerdict e h.turn version (verdict_by h.answer version)
+
+pub turned_sound : (told : Type 0) (t : told) (m : ServerMap) (old new : Disk) (es : List Exchange) (hs : List Heard) → Turned told old es hs new → AreHonest m es → AreCaused hs → IsKept m [] old → Paired IsSound es hs
+turned_sound told t m old new [] [] x honest caused kept = tt
+turned_sound told t m old new [] (h ∷ hs) x honest caused kept = absurd x
+turned_sound told t m old new (e ∷ es) [] x honest caused kept = absurd x
+turned_sound told t m old new (e ∷ es) (h ∷ hs) x honest caused kept =
+    let turn = x.1 in
+    let f = index_file e.path in
+    let good : IsGood m e.path (reads (old f)) = kept.all_good e.path turn.place (reads (old f)) (reads_left (old f)) in (
+      record {
+        path = turn.path;
+        verdict = λ version. answer_sound m e.path version (reads (old f)) e.named e.held e.answer h.answer h.turn.disk_asked h.turn.disk_after
+            good (turn.named t).else_nothing honest.0.mapped honest.0.answered (turn.exchanged.answer t) caused.0.store;
+      },
+      turned_sound told t m x.0 new es hs x.2 honest.1 caused.1 (kept_after m [] old x.0 (turn.exchanged.keeps t m honest.0 kept)),
+    )
