@@ -33,12 +33,16 @@ AreTurned old new _ _ = ⊥
 
 -- ---- the audit
 
--- one exchange for each path that is asked for, in their order; a verdict for each package of the default registry, by the table over what came; and no other files change
+-- a file that is that of no path that is asked for stays as it was
+abbrev pub KeepsOthers : List Package → Disk → Disk → Type 0
+KeepsOthers packages old new = (q : List ℕ) → ((p : List ℕ) → IsTrue (is_among p (asked_paths packages)) → q ≢ index_file p) → new q ≡ old q
+
+-- one exchange for each path that is asked for, in their order; and a verdict for each package of the default registry, by the table over what came
 pub record IsAudit (told : Type 0) (old new : Disk) (packages : List Package) (added : List Exchange) (turns : List Turn) (verdicts : List Judged) : Type 0 where
   pub asked : map (λ e. e.path) added ≡ asked_paths packages
   pub judged : told → AreVerdicts (IsCameAt (λ q. reads (old (index_file q))) added) (defaults packages) verdicts
   pub turned : told → AreTurned old new added turns
-  pub others : told → (q : List ℕ) → ((p : List ℕ) → IsTrue (is_among p (asked_paths packages)) → q ≢ index_file p) → new q ≡ old q
+  pub others : told → KeepsOthers packages old new
 
 -- exactly these exchanges follow the list
 abbrev pub AddsAudit : Type 0 → Disk → Disk → List Package → List Exchange → List Exchange → List Turn → List Judged → Type 0

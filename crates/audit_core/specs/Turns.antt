@@ -9,7 +9,7 @@ use Rattle.tame_entry.specs.Revision.{EntryRevision, Http, Unknown}
 use Rattle.tame_entry.specs.declared.revisions.OwnedRevision.{OwnedRevision}
 use Rattle.tame_cache.specs.Disk.{Step, reads}
 use Rattle.tame_cache.specs.Gate.{IsStored}
-use Rattle.tame_cache.specs.Kept.{Disk, IsKept, Keeps, cache_file}
+use Rattle.tame_cache.specs.Kept.{Disk, IsKept, Keeps, cache_file, cache_file_of}
 use Rattle.tame_sparse.specs.Honest.{AreHonest, IsHonest}
 use Rattle.tame_sparse.specs.Named.{NamesKept}
 use Rattle.tame_sparse.specs.declared.network.Exchange.{Exchange}
@@ -24,6 +24,11 @@ use Rattle.audit_core.specs.declared.verdicts.Cause.TheVariants as cause
 -- the file of a path, in the folder `.cache`
 abbrev pub index_file : List ℕ → List ℕ
 index_file p = cache_file [] p
+
+-- this is the file of none of these names
+abbrev pub IsNoFileOf : List (List ℕ) → List ℕ → Type 0
+IsNoFileOf [] q = Unit {0}
+IsNoFileOf (name ∷ names) q = (cache_file_of [] name ≢ Some q) × IsNoFileOf names q
 
 -- ---- counts
 

@@ -10,7 +10,7 @@ ghost use Rattle.tame_cache.specs.Disk.{reads};
 ghost use Rattle.tame_cache.specs.Kept.{IsKept, Keeps, cache_file_of};
 ghost use Rattle.tame_sparse.specs.declared.network.Exchange.{Exchange};
 ghost use Rattle.audit_core.specs.Answers.{IsAnswer};
-ghost use Rattle.audit_core.specs.Turns.{Adds, AddsNamed, AddsPart, AreCaused, Chains, IsExchanged, KeepsHonest, LeavesFile};
+ghost use Rattle.audit_core.specs.Turns.{Adds, AddsNamed, AddsPart, AreCaused, Chains, IsExchanged, IsNoFileOf, KeepsHonest, LeavesFile, index_file};
 
 use crate::answers::{PathAnswer, answer_taken};
 use crate::verdicts::Cause;
@@ -100,6 +100,7 @@ fn hear<W: Wire, D: CacheDisk>(
     ensures store { IfOk result (λ a. a ≡ PathAnswer.Settled Cause.Store → Rose (D.faults disk.old) (D.faults disk.new)) }
     ensures later_wire { W.faults wire.old ≤ W.faults wire.new }
     ensures later_disk { D.faults disk.old ≤ D.faults disk.new }
+    ensures others { D.tells → (q : List ℕ) → q ≢ index_file request.now.path → D.past disk.new q ≡ D.past disk.old q }
 {
     match wire.exchange(alloc, request) {
         Ok(answer) => take_answer(alloc, index, lock, disk, name, &answer),
@@ -136,6 +137,7 @@ fn take_turn<W: Wire, D: CacheDisk>(
     ensures said { W.tells → IfOk result (λ h. Adds D.tells (W.exchanges wire.old) (W.exchanges wire.new) (D.past disk.old) (h ∷ []) (D.past disk.new)) }
     ensures part { W.tells → OnErr result (AddsNamed (name.now ∷ []) (W.exchanges wire.old) (W.exchanges wire.new)) }
     ensures kept { W.tells → D.tells → KeepsHonest (W.exchanges wire.old) (W.exchanges wire.new) (D.past disk.old) (D.past disk.new) }
+    ensures others { D.tells → (q : List ℕ) → cache_file_of [] name.now ≢ Some q → D.past disk.new q ≡ D.past disk.old q }
 {
     let wire_before = wire.wire_faults();
     let disk_before = disk.disk_faults();
@@ -177,6 +179,7 @@ pub fn ask<W: Wire, D: CacheDisk>(
     ensures said { W.tells → IfOk result (λ hs. Adds D.tells (W.exchanges wire.old) (W.exchanges wire.new) (D.past disk.old) hs (D.past disk.new)) }
     ensures part { W.tells → OnErr result (AddsNamed names.now (W.exchanges wire.old) (W.exchanges wire.new)) }
     ensures kept { W.tells → D.tells → KeepsHonest (W.exchanges wire.old) (W.exchanges wire.new) (D.past disk.old) (D.past disk.new) }
+    ensures others { D.tells → (q : List ℕ) → IsNoFileOf names.now q → D.past disk.new q ≡ D.past disk.old q }
 {
     let mut heard = Items::new(alloc);
     for name in names {

@@ -1,7 +1,7 @@
 //! The audit of a lockfile's text.
 ghost use Rattle.std.specs.Prelude.{◌≡◌, ◌≢◌, ◌≤◌, [], List, codes, map, IfOk, OnErr, Ok, Err};
 ghost use Rattle.audit_lock.specs.Locked.{locked};
-ghost use Rattle.audit_core.specs.Audits.{AddsAudit, AreTurns, Caused, HeldDecides};
+ghost use Rattle.audit_core.specs.Audits.{AddsAudit, AreTurns, Caused, HeldDecides, KeepsOthers};
 ghost use Rattle.audit_core.specs.Paths.{asked_paths};
 ghost use Rattle.audit_core.specs.Turns.{AddsPart, KeepsHonest};
 ghost use Rattle.audit_lock.specs.declared.lockfiles.LockfileFault.{LockfileFault};
@@ -89,6 +89,7 @@ fn check<W: Wire, D: CacheDisk>(
     ensures caused { IfOk result (λ c. Caused packages.now c.turns c.verdicts) }
     ensures part { W.tells → OnErr result (AddsPart (asked_paths packages.now) (W.exchanges wire.old) (W.exchanges wire.new)) }
     ensures kept { W.tells → D.tells → KeepsHonest (W.exchanges wire.old) (W.exchanges wire.new) (D.past disk.old) (D.past disk.new) }
+    ensures others { D.tells → KeepsOthers packages.now (D.past disk.old) (D.past disk.new) }
 {
     let index = crates_io(alloc)?;
     let plan = plan_turns(alloc, packages)?;
@@ -130,6 +131,9 @@ pub fn audit_text<W: Wire, D: CacheDisk>(
     // where memory runs out, a part of the paths was asked for
     ensures part { W.tells → (packages : List Package) → locked text.now ≡ Ok packages
         → OnErr result (AddsPart (asked_paths packages) (W.exchanges wire.old) (W.exchanges wire.new)) }
+
+    // whatever the answer, no file changes that is that of no path that is asked for
+    ensures others { D.tells → (packages : List Package) → locked text.now ≡ Ok packages → KeepsOthers packages (D.past disk.old) (D.past disk.new) }
     ensures exit { IfOk result (λ a. a.exit ≡ 0) }
 {
     let lockfile = match Lockfile::read(alloc, text) {

@@ -1,5 +1,5 @@
 //! The cache on the host's disk.
-ghost use Rattle.std.specs.Prelude.{◌≤◌, []};
+ghost use Rattle.std.specs.Prelude.{◌≡◌, ◌≤◌, []};
 ghost use Rattle.tame_names.specs.Counts.{Rose};
 
 use crate::reading::is_absent;
@@ -103,7 +103,10 @@ fn sync_file<R: rt::Files + AllocGlobal>(rt: &R, folder: &str, path: &str) -> io
 
 impl<'a, R: rt::Files + AllocGlobal> FileCacheDisk<'a, R> {
     /// The disk of the files in a folder.
-    pub fn new(rt: &'a R, folder: &'a str) -> FileCacheDisk<'a, R> {
+    pub fn new(rt: &'a R, folder: &'a str) -> FileCacheDisk<'a, R>
+        ensures folder { result.folder.now ≡ folder.now }
+        ensures faults { result.faults ≡ 0 }
+    {
         FileCacheDisk {
             rt,
             folder,

@@ -1,5 +1,5 @@
 //! A folder in place of a server.
-ghost use Rattle.std.specs.Prelude.{[]};
+ghost use Rattle.std.specs.Prelude.{◌≡◌, []};
 
 use crate::reading::read_file;
 use std::alloc::Global;
@@ -24,7 +24,10 @@ pub struct MirrorWire<'a, R: rt::Files + AllocGlobal> {
 
 impl<'a, R: rt::Files + AllocGlobal> MirrorWire<'a, R> {
     /// The mirror in a folder.
-    pub fn new(rt: &'a R, folder: &'a str) -> MirrorWire<'a, R> {
+    pub fn new(rt: &'a R, folder: &'a str) -> MirrorWire<'a, R>
+        ensures folder { result.folder.now ≡ folder.now }
+        ensures faults { result.faults ≡ 0 }
+    {
         MirrorWire {
             rt,
             folder,

@@ -1,5 +1,5 @@
 //! The files of the host, over std.
-ghost use Rattle.std.specs.Prelude.{[]};
+ghost use Rattle.std.specs.Prelude.{◌≡◌, []};
 ghost use Rattle.tame_names.specs.Standing.{Nothing};
 
 use crate::reading::read_file;
@@ -17,7 +17,9 @@ pub struct StdFiles<'a, R: rt::Files + AllocGlobal> {
 
 impl<'a, R: rt::Files + AllocGlobal> StdFiles<'a, R> {
     /// The files that a runtime reaches.
-    pub fn new(rt: &'a R) -> StdFiles<'a, R> {
+    pub fn new(rt: &'a R) -> StdFiles<'a, R>
+        ensures { result.faults ≡ 0 }
+    {
         StdFiles { rt, faults: 0 }
     }
 }

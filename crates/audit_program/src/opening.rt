@@ -37,6 +37,7 @@ pub fn read_lockfile<F: Files>(alloc: Global, files: &mut F, path: &str) -> Resu
     ensures rose { (p : List ℕ) → result ≡ Err (RunFault.File p) → Rose (F.faults files.old) (F.faults files.new) }
     ensures failed { F.tells → (p : List ℕ) → result ≡ Err (RunFault.File p)
         → F.failed files.new ≡ F.failed files.old ++ record { call = FileCall.Read; path = Some p } ∷ [] }
+    ensures same { F.tells → (p : List ℕ) → F.stands files.new p ≡ F.stands files.old p }
 {
     let copy = copy_path(alloc, path)?;
     match files.read(alloc, path, LOCKFILE_LIMIT) {

@@ -5,7 +5,7 @@ ghost use Rattle.tame_names.specs.Output.{AddsPrefix};
 ghost use Rattle.tame_names.specs.declared.host.FailedCall.{FailedCall};
 ghost use Rattle.tame_names.specs.declared.host.FileCall.TheVariants as FileCall;
 ghost use Rattle.audit_lock.specs.declared.resolving.Package.{Package};
-ghost use Rattle.audit_core.specs.Audits.{AddsAudit, AreTurns, Caused, HeldDecides};
+ghost use Rattle.audit_core.specs.Audits.{AddsAudit, AreTurns, Caused, HeldDecides, KeepsOthers};
 ghost use Rattle.audit_core.specs.Paths.{asked_paths};
 ghost use Rattle.audit_core.specs.Turns.{AddsPart, KeepsHonest};
 ghost use Rattle.audit_program.specs.Causes.{Accepts, CauseOf, IsPrintFault, fault_status, is_early};
@@ -78,6 +78,7 @@ fn audit<F: Files, W: Wire, D: CacheDisk>(
     ensures rose { (p : List ℕ) → result ≡ Err (RunFault.File p) → Rose (F.faults files.old) (F.faults files.new) }
     ensures failed { F.tells → (p : List ℕ) → result ≡ Err (RunFault.File p)
         → F.failed files.new ≡ F.failed files.old ++ record { call = FileCall.Read; path = Some p } ∷ [] }
+    ensures files_same { F.tells → (p : List ℕ) → F.stands files.new p ≡ F.stands files.old p }
     ensures usage { (place : ℕ) → command (map string_bytes words.now) ≡ Err place → result ≡ Err (RunFault.Usage place) }
     ensures no_print { result ≢ Err RunFault.Print }
     ensures audited { W.tells → IfOk result (λ a. AddsAudit D.tells (D.past disk.old) (D.past disk.new) a.lockfile (W.exchanges wire.old) (W.exchanges wire.new) a.turns a.verdicts) }
@@ -88,6 +89,8 @@ fn audit<F: Files, W: Wire, D: CacheDisk>(
     ensures unasked { IfErr result (λ f. IsTrue (is_early f) → (wire.new ≡ wire.old) × (disk.new ≡ disk.old)) }
     ensures part { F.tells → W.tells → (packages : List Package) → Accepts F.tells (map string_bytes words.now) (F.stands files.old) packages
         → OnErr result (AddsPart (asked_paths packages) (W.exchanges wire.old) (W.exchanges wire.new)) }
+    ensures others { F.tells → D.tells → (packages : List Package) → Accepts F.tells (map string_bytes words.now) (F.stands files.old) packages
+        → KeepsOthers packages (D.past disk.old) (D.past disk.new) }
     ensures exit { IfOk result (λ a. a.exit ≡ 0) }
 {
     let path = match read_words(words) {
@@ -138,7 +141,8 @@ pub fn run<F: Files, W: Wire, D: CacheDisk, O: Sink, E: Sink>(
 ) -> Outcome
     // the status, and where there is an audit
     ensures status { result.status ≡ fault_status result.fault }
-    ensures has_audit { result.fault ≡ None → IsSome result.audited }
+    ensures has_audit { (result.fault ≡ None) ⊎ (result.fault ≡ Some RunFault.Print) → IsSome result.audited }
+    ensures no_audit { IfSome result.fault (λ f. IsTrue (is_early f) → result.audited ≡ None) }
 
     // why a run has a fault
     ensures cause { IfSome result.fault (CauseOf F.tells (map string_bytes words.now) (F.stands files.old)) }
@@ -163,11 +167,18 @@ pub fn run<F: Files, W: Wire, D: CacheDisk, O: Sink, E: Sink>(
     ensures asked_part { F.tells → W.tells → (packages : List Package) → Accepts F.tells (map string_bytes words.now) (F.stands files.old) packages
         → IfNone result.audited (AddsPart (asked_paths packages) (W.exchanges wire.old) (W.exchanges wire.new)) }
 
+    // however the run ends, no file of the cache changes that is that of no path that is asked for
+    ensures others { F.tells → D.tells → (packages : List Package) → Accepts F.tells (map string_bytes words.now) (F.stands files.old) packages
+        → KeepsOthers packages (D.past disk.old) (D.past disk.new) }
+
     // what is printed: the verdict lines, a part of them from the front, or nothing
     ensures printed { O.tells → result.fault ≡ None → IfSome result.audited (λ a. O.holds out.new ≡ O.holds out.old ++ verdict_lines a.lockfile a.verdicts) }
     ensures printed_part { O.tells → IfSome result.audited (λ a. AddsPrefix (O.holds out.old) (verdict_lines a.lockfile a.verdicts) (O.holds out.new)) }
     ensures unprinted { O.tells → IfNone result.audited (O.holds out.new ≡ O.holds out.old) }
-    ensures err_same { E.tells → E.holds err.new ≡ E.holds err.old }
+    ensures err_same { err.new ≡ err.old }
+
+    // the files of the host stay as they are
+    ensures files_same { F.tells → (p : List ℕ) → F.stands files.new p ≡ F.stands files.old p }
 {
     let _err = err;
     let audited = match audit(alloc, words, files, lock, wire, disk) {

@@ -4,6 +4,7 @@ use Rattle.audit_core.specs.declared.asking.Heard.{Heard}
 use Rattle.audit_core.specs.declared.asking.Turn.{Turn}
 use Rattle.audit_core.proofs.Exchanged.{keeps_more, keeps_nothing}
 use Rattle.audit_core.proofs.Lists.{on_err}
+use Rattle.audit_core.proofs.Names.{no_file_at}
 use Rattle.audit_core.proofs.Steps.{Adds-more, Adds-named, AddsNamed-more, AreCaused-more, Chains-more, paths_more, turned_paths}
 use Rattle.audit_core.proofs.asking.ask.Goals as goal
 
@@ -15,6 +16,7 @@ loop-name-init g c =
       caused = tt;
       said = λ told. ([], sym (append-nil _), λ t q. refl);
       kept = λ told_wire told. keeps_nothing _ _ _;
+      others = λ told q other. refl;
     }
 
 pub loop-name-preserved : goal.loop-name-preserved
@@ -32,6 +34,7 @@ loop-name-preserved g c =
           (inv.said told) (turn.ensures.said told);
       kept = λ told_wire told. keeps_more (exchanges c.args.wire.now) (exchanges c.loop-name.wire) (exchanges c.take_turn.new.wire) (past c.args.disk.now) (past c.loop-name.disk) (past c.take_turn.new.disk)
           (inv.said told_wire).0 (turn.ensures.said told_wire).0 (inv.said told_wire).1 (turn.ensures.said told_wire).1 (inv.kept told_wire told) (c.take_turn.ensures.kept told_wire told);
+      others = λ told q other. c.take_turn.ensures.others told q (no_file_at c.args.names.now c.loop-name.name-index c.name-item.result q c.loop-name-test.true c.name-item.is other) ∙ inv.others told q other;
     }
 
 pub returns-in_err-turn-clause-part : goal.returns-in_err-turn-clause-part
@@ -71,3 +74,11 @@ returns-in_err-add-clause-kept g c told_wire told =
     let turn = c.in_ok-turn in
     keeps_more (exchanges c.args.wire.now) (exchanges c.loop-name.wire) (exchanges c.take_turn.new.wire) (past c.args.disk.now) (past c.loop-name.disk) (past c.take_turn.new.disk)
     (inv.said told_wire).0 (turn.ensures.said told_wire).0 (inv.said told_wire).1 (turn.ensures.said told_wire).1 (inv.kept told_wire told) (c.take_turn.ensures.kept told_wire told)
+
+pub returns-in_err-turn-clause-others : goal.returns-in_err-turn-clause-others
+returns-in_err-turn-clause-others g c told q other =
+    c.take_turn.ensures.others told q (no_file_at c.args.names.now c.loop-name.name-index c.name-item.result q c.loop-name-test.true c.name-item.is other) ∙ c.loop-name.invariant.others told q other
+
+pub returns-in_err-add-clause-others : goal.returns-in_err-add-clause-others
+returns-in_err-add-clause-others g c told q other =
+    c.take_turn.ensures.others told q (no_file_at c.args.names.now c.loop-name.name-index c.name-item.result q c.loop-name-test.true c.name-item.is other) ∙ c.loop-name.invariant.others told q other

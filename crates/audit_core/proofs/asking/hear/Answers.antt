@@ -67,3 +67,8 @@ returns-in-Err-NoMemory-clause-part g c told_wire =
 pub returns-in-Err-NoMemory-clause-kept : goal.returns-in-Err-NoMemory-clause-kept
 returns-in-Err-NoMemory-clause-kept g c told_wire told =
     keeps_nothing (g.W.Wire.exchanges c.args.wire.now) (g.W.Wire.exchanges c.exchange.new.self) (g.D.CacheDisk.past c.args.disk.now)
+
+pub returns-in-Ok-clause-others : goal.returns-in-Ok-clause-others
+returns-in-Ok-clause-others g c told q other =
+    let place : cache_file_of [] (text_of c.args.name) ≡ Some (cache_file [] c.args.request.now.path) = ap (λ o. option_map (cache_file []) o) c.requires.place in
+    c.take_answer.ensures.others told q (λ is. other (cc (is, place)))

@@ -5,6 +5,7 @@ use Rattle.tame_names.specs.Names.{IsIndexPath, path}
 use Rattle.tame_cache.specs.Kept.{cache_file, cache_file_of}
 use Rattle.audit_core.proofs.Exchanged.{keeps_from, keeps_unchanged}
 use Rattle.audit_core.proofs.Lists.{on_err}
+use Rattle.audit_core.proofs.Names.{file_named}
 use Rattle.audit_core.proofs.Steps.{exchanged_from, part_named}
 use Rattle.audit_core.proofs.asking.take_turn.Goals as goal
 
@@ -59,3 +60,16 @@ returns-clause-said g c told_wire =
         λ told q. refl,
       ),
     )
+
+pub returns-in-Err-clause-others : goal.returns-in-Err-clause-others
+returns-in-Err-clause-others g c told q other = c.make_remote_request.ensures.same told q
+
+pub returns-in_err-answer-clause-others : goal.returns-in_err-answer-clause-others
+returns-in_err-answer-clause-others g c told q other =
+    let at : path c.args.name.now ≡ Some c.in-Ok.request.path = ap path (sym c.krate_name-krate.ensures) ∙ c.in-Ok.ensures.path in
+    c.hear.ensures.others told q (file_named c.args.name.now c.in-Ok.request.path q at other) ∙ c.make_remote_request.ensures.same told q
+
+pub returns-clause-others : goal.returns-clause-others
+returns-clause-others g c told q other =
+    let at : path c.args.name.now ≡ Some c.in-Ok.request.path = ap path (sym c.krate_name-krate.ensures) ∙ c.in-Ok.ensures.path in
+    c.hear.ensures.others told q (file_named c.args.name.now c.in-Ok.request.path q at other) ∙ c.make_remote_request.ensures.same told q

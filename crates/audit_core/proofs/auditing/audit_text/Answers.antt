@@ -20,5 +20,6 @@ returns-in-Err g c = record {
   turns = tt;
   caused = tt;
   part = λ told packages is. part_none _ _ _ refl;
+  others = λ told packages is q other. refl;
   exit = tt;
 }

@@ -1,9 +1,11 @@
-use Rattle.std.proofs.Common.{◌≡◌, List, ℕ, [], Some, map, ap, sym, ◌∙◌, refl}
+use Rattle.std.proofs.Common.{◌≡◌, ◌≢◌, List, ℕ, [], Some, IsTrue, map, ap, sym, subst, ◌∙◌, refl}
 use Rattle.audit_core.specs.declared.asking.Heard.{Heard}
 use Rattle.tame_names.specs.Names.{path}
 use Rattle.audit_core.proofs.Exchanged.{keeps_nothing, part_none}
 use Rattle.audit_core.proofs.Lists.{on_err, somes}
-use Rattle.audit_core.proofs.Names.{named_part, names_valid}
+use Rattle.audit_core.proofs.Names.{named_part, names_valid, no_file_of}
+use Rattle.audit_core.specs.Paths.{is_among}
+use Rattle.audit_core.specs.Turns.{index_file}
 use Rattle.audit_core.proofs.Steps.{Adds-part}
 use Rattle.audit_core.proofs.Whole.{IsDone, audit_done, caused_done, held_done, turns_done}
 use Rattle.audit_core.proofs.auditing.check.Goals as goal
@@ -89,3 +91,27 @@ returns-clause-caused g c =
       judged = rw c.as_slice-2.ensures at c.in_ok-verdicts.ensures;
     } in
     rw c.in_ok-turns.ensures (caused_done c.args.packages.now c.in_ok-heard.heard c.in_ok-verdicts.verdicts done c.in_ok-heard.ensures.caused)
+
+pub returns-in_err-heard-clause-others : goal.returns-in_err-heard-clause-others
+returns-in_err-heard-clause-others g c told q other =
+    let plan = c.in_ok-plan in
+    let none = subst (λ (ps : List (List ℕ)). (p : List ℕ) → IsTrue (is_among p ps) → q ≢ index_file p) (sym plan.ensures.paths) other in
+    c.ask.ensures.others told q (rw c.as_slice.ensures (no_file_of plan.plan.names plan.plan.paths q plan.ensures.named none))
+
+pub returns-in_err-verdicts-clause-others : goal.returns-in_err-verdicts-clause-others
+returns-in_err-verdicts-clause-others g c told q other =
+    let plan = c.in_ok-plan in
+    let none = subst (λ (ps : List (List ℕ)). (p : List ℕ) → IsTrue (is_among p ps) → q ≢ index_file p) (sym plan.ensures.paths) other in
+    c.ask.ensures.others told q (rw c.as_slice.ensures (no_file_of plan.plan.names plan.plan.paths q plan.ensures.named none))
+
+pub returns-in_err-turns-clause-others : goal.returns-in_err-turns-clause-others
+returns-in_err-turns-clause-others g c told q other =
+    let plan = c.in_ok-plan in
+    let none = subst (λ (ps : List (List ℕ)). (p : List ℕ) → IsTrue (is_among p ps) → q ≢ index_file p) (sym plan.ensures.paths) other in
+    c.ask.ensures.others told q (rw c.as_slice.ensures (no_file_of plan.plan.names plan.plan.paths q plan.ensures.named none))
+
+pub returns-clause-others : goal.returns-clause-others
+returns-clause-others g c told q other =
+    let plan = c.in_ok-plan in
+    let none = subst (λ (ps : List (List ℕ)). (p : List ℕ) → IsTrue (is_among p ps) → q ≢ index_file p) (sym plan.ensures.paths) other in
+    c.ask.ensures.others told q (rw c.as_slice.ensures (no_file_of plan.plan.names plan.plan.paths q plan.ensures.named none))

@@ -1,8 +1,13 @@
-use Rattle.std.proofs.Common.{◌≡◌, Err, ap, ◌∙◌, refl}
+use Rattle.std.proofs.Common.{◌≡◌, ℕ, List, Ok, Err, ap, sym, ◌∙◌, refl}
+use Rattle.tame_names.specs.Standing.{Standing, File}
 use Rattle.audit_core.specs.declared.auditing.AuditError.TheVariants.{Lockfile}
 use Rattle.audit_core.proofs.Exchanged.{keeps_nothing, part_none}
 use Rattle.audit_core.proofs.Lists.{on_err}
+use Rattle.audit_lock.specs.Locked.{locked}
 use Rattle.audit_lock.specs.declared.lockfiles.LockfileFault.{LockfileFault}
+use Rattle.audit_lock.specs.declared.resolving.Package.{Package}
+use Rattle.audit_program.specs.Causes.{Accepts, IsText}
+use Rattle.audit_program.specs.Words.{command}
 use Rattle.audit_program.proofs.running.audit.Goals as goal
 
 pub returns-in_err-text-clause-part : goal.returns-in_err-text-clause-part
@@ -25,3 +30,20 @@ returns-in_err-text-clause-kept g c told_wire told = keeps_nothing (g.W.Wire.exc
 
 pub returns-in-Err-clause-kept : goal.returns-in-Err-clause-kept
 returns-in-Err-clause-kept g c told_wire told = keeps_nothing (g.W.Wire.exchanges c.args.wire.now) (g.W.Wire.exchanges c.args.wire.now) (g.D.CacheDisk.past c.args.disk.now)
+
+-- the text that was read is the one whose packages are accepted
+one_text : (told : Type 0) (t : told) (words : List (List ℕ)) (stands : List ℕ → Standing) (path text : List ℕ) (packages : List Package) → command words ≡ Ok path → (told → IsText (stands path) text) → Accepts told words stands packages → locked text ≡ Ok packages
+one_text told t words stands path text packages named read accepts =
+    let same : accepts.path ≡ path = cc (accepts.named, named) in
+    let mine : stands path ≡ File text = (read t).stands in
+    let theirs : stands path ≡ File accepts.text = ap stands (sym same) ∙ (accepts.read t).stands in
+    let one : accepts.text ≡ text = cc (mine, theirs) in
+    ap locked (sym one) ∙ accepts.lockfile
+
+pub returns-in-Ok-audit_text-clause-others : goal.returns-in-Ok-audit_text-clause-others
+returns-in-Ok-audit_text-clause-others g c told_files told packages accepts =
+    c.audit_text.ensures.others told packages (rw c.as_str.ensures (one_text g.F.Files.tells told_files _ (g.F.Files.stands c.args.files.now) c.in-Ok.path.now c.in_ok-text.text packages c.in-Ok.ensures.ok c.in_ok-text.ensures.opens accepts))
+
+pub returns-clause-others : goal.returns-clause-others
+returns-clause-others g c told_files told packages accepts =
+    c.audit_text.ensures.others told packages (rw c.as_str.ensures (one_text g.F.Files.tells told_files _ (g.F.Files.stands c.args.files.now) c.in-Ok.path.now c.in_ok-text.text packages c.in-Ok.ensures.ok c.in_ok-text.ensures.opens accepts))
