@@ -162,15 +162,6 @@ fn texts_or_absent(alloc: Global, member: Option<&Value>) -> Result<Option<Items
     }
 }
 
-fn copy(alloc: Global, text: Option<&str>) -> Result<Option<Text>, NoMemory>
-    ensures { IfOk result (λ copy. copy ≡ option_map (λ s. s.now) text.entry) }
-{
-    match text {
-        None => Ok(None),
-        Some(text) => Ok(Some(Text::of(alloc, text)?)),
-    }
-}
-
 /// The package that a table is, or the first rule that it breaks.
 pub fn read_listed(alloc: Global, value: &Value) -> Result<ListedPackage, ListingFault>
     ensures ok { IfOk result (λ p. listed_of (view value.now) ≡ Ok p) }
@@ -197,8 +188,8 @@ pub fn read_listed(alloc: Global, value: &Value) -> Result<ListedPackage, Listin
     Ok(ListedPackage {
         name: Text::of(alloc, name)?,
         version: Text::of(alloc, version)?,
-        source: copy(alloc, source)?,
-        checksum: copy(alloc, checksum)?,
+        source: Text::of_option(alloc, source)?,
+        checksum: Text::of_option(alloc, checksum)?,
         dependencies,
     })
 }

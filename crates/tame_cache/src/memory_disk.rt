@@ -1,5 +1,5 @@
 //! A disk in memory, which keeps a record of all its changes.
-ghost use Rattle.std.specs.Prelude.{◌≡◌, ◌≢◌, ◌≤◌, ◌+◌, ◌++◌, ⊤, Some, [], ◌∷◌, List, ℕ, length, take, IfOk, OnOk, OnErr, option_map, option_copied};
+ghost use Rattle.std.specs.Prelude.{◌≡◌, ◌≢◌, ◌≤◌, ◌+◌, ◌-◌, ◌^◌, ◌++◌, min, ⊤, Some, [], ◌∷◌, List, ℕ, length, take, IfOk, OnOk, OnErr, option_map, option_copied};
 ghost use Rattle.std.specs.String.{string_bytes};
 ghost use Rattle.tame_names.specs.Counts.{Rose};
 ghost use Rattle.tame_cache.specs.Faults.{HasDiskCause};
@@ -57,6 +57,8 @@ impl Counts {
     }
 }
 
+/// A disk whose files are kept in memory, with each call that changed one. The calls whose numbers
+/// are listed, counted from 0, fail.
 #[derive(Drop)]
 pub struct MemCacheDisk {
     alloc: Global,
@@ -122,7 +124,10 @@ impl MemCacheDisk {
 
     /// A disk without files, of which the calls with these numbers fail.
     pub fn new(alloc: Global, failing: Vec<u64>) -> Self
-        ensures { (q : List ℕ) → past_in result q ≡ [] }
+        ensures files { (q : List ℕ) → past_in result q ≡ [] }
+        ensures failing { result.counts.failing ≡ failing }
+        ensures made { result.counts.made ≡ 0 }
+        ensures faults { result.counts.faults ≡ 0 }
     {
         MemCacheDisk {
             alloc,
@@ -279,7 +284,10 @@ impl MemCacheDisk {
 
     /// From now the n-th call fails, and each later one.
     pub fn stop_at(&mut self, n: u64)
-        ensures { (q : List ℕ) → past_in self.new q ≡ past_in self.old q }
+        ensures same { (q : List ℕ) → past_in self.new q ≡ past_in self.old q }
+        ensures faults { self.new.counts.faults ≡ self.old.counts.faults }
+        ensures made { self.new.counts.made ≡ self.old.counts.made }
+        ensures stop { self.new.counts.stop ≡ min (self.old.counts.made + n) (2 ^ 64 - 1) }
     {
         self.counts.stop = self.counts.made.saturating_add(n);
     }

@@ -12,7 +12,7 @@ use crate::entries::after;
 use serde_json::Value;
 use std::alloc::{AllocError, Global};
 use tame_names::{KrateName, NoMemory, Text};
-use tame_records::{IndexVersion, LineFault, copy, flag_or_false, read_value, text_or_null};
+use tame_records::{IndexVersion, LineFault, flag_or_false, read_value, text_or_null};
 
 /// The configuration of an index, its `config.json`.
 #[derive(Debug, Drop, PartialEq, Eq, PartialOrd, Ord)]
@@ -39,7 +39,7 @@ fn config_of(alloc: Global, value: &Value) -> Result<Option<IndexConfig>, NoMemo
     };
     Ok(Some(IndexConfig {
         dl: Text::of(alloc, dl)?,
-        api: copy(alloc, api)?,
+        api: Text::of_option(alloc, api)?,
         auth_required,
     }))
 }

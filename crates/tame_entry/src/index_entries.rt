@@ -1,5 +1,5 @@
 //! Index entries, from a server, from the cache or from a local registry.
-ghost use Rattle.std.specs.Prelude.{◌≡◌, ℕ, List, Ok, Err, Some, None, option_map, IfOk, IfErr};
+ghost use Rattle.std.specs.Prelude.{◌≡◌, ◌≤◌, ℕ, List, Ok, Err, Some, None, option_map, IfOk, IfErr};
 ghost use Rattle.tame_entry.specs.Entry.{read_entry, read_value};
 ghost use Rattle.tame_names.specs.Counts.{Rose};
 ghost use Rattle.tame_entry.specs.IndexEntries.{CachedAs, IsMapped, version_text};
@@ -44,6 +44,7 @@ impl<'l> LockedMmap<'l> {
     ) -> Result<LockedMmap<'l>, Error>
         ensures read { F.tells → IsMapped (F.stands files.old path.now) result }
         ensures failed { result ≡ Err (Error.Io IoKind.Failed) → Rose (F.faults files.old) (F.faults files.new) }
+        ensures later { F.faults files.old ≤ F.faults files.new }
         ensures same { F.tells → (q : List ℕ) → F.stands files.new q ≡ F.stands files.old q }
     {
         match files.read(alloc, path, u64::MAX) {

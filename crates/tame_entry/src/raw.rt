@@ -69,6 +69,7 @@ impl<'a> Iterator for CommaParts<'a> {
     }
 }
 
+/// The text without one space in front, where it begins with one.
 pub fn without_space(text: &[u8]) -> &[u8]
     ensures { result.now ≡ without_space text.now }
 {

@@ -12,7 +12,7 @@ use crate::json_lines::JsonLines;
 use crate::raw::{has_no_zero, raw_version};
 use crate::revisions::Revision;
 use std::alloc::Global;
-use tame_names::{Error, IoKind, NoMemory, Sink};
+use tame_names::{Error, IoKind, NoMemory, Sink, put_counted};
 use tame_records::{IndexKrate, IndexVersion, with_line};
 
 /// What is written to the cache.
@@ -123,19 +123,6 @@ fn versions_are_storable(alloc: Global, versions: &[IndexVersion]) -> Result<boo
     Ok(true)
 }
 
-fn put<S: Sink>(sink: &mut S, bytes: &[u8]) -> Result<u64, Error>
-    ensures put { S.tells → OnOk result (S.holds sink.new ≡ S.holds sink.old ++ bytes.now) }
-    ensures part { S.tells → AddsPrefix (S.holds sink.old) bytes.now (S.holds sink.new) }
-    ensures count { IfOk result (λ n. n ≡ length bytes.now) }
-    ensures later { S.faults sink.old ≤ S.faults sink.new }
-    ensures failed { IfErr result (λ e. (e ≡ Error.Io IoKind.Failed) × Rose (S.faults sink.old) (S.faults sink.new)) }
-{
-    match sink.put(bytes) {
-        Ok(()) => Ok(bytes.len() as u64),
-        Err(_) => Err(Error::Io(IoKind::Failed)),
-    }
-}
-
 impl CacheWrite<'_> {
     /// Whether no zero byte stands in the versions and lines that are written.
     fn pairs_are_storable(&self, alloc: Global) -> Result<bool, NoMemory>
@@ -200,7 +187,7 @@ impl CacheWrite<'_> {
         ensures same { S.tells → result ≡ Err Error.NoMemory → S.holds sink.new ≡ S.holds sink.old }
     {
         let bytes = self.entry(alloc, revision)?;
-        put(sink, bytes.as_slice())
+        put_counted(sink, bytes.as_slice())
     }
 
     /// The number of bytes of the entry of these lines under a revision.

@@ -26,7 +26,7 @@ pub use locks::{FileLock, LockState};
 pub use memory_files::{MemFile, MemFiles};
 pub use memory_sink::MemSink;
 pub use names::KrateName;
-pub use output::{Sink, SinkFault};
+pub use output::{Sink, SinkFault, put_counted};
 pub use paths::join;
 pub use pieces::{SplitIter, split};
 pub use texts::{Text, utf8_text};

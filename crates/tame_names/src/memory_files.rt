@@ -1,5 +1,5 @@
 //! Files in memory.
-ghost use Rattle.std.specs.Prelude.{◌≡◌, ⊤, IfErr, option_copied};
+ghost use Rattle.std.specs.Prelude.{◌≡◌, [], ⊤, IfErr, option_copied};
 ghost use Rattle.tame_names.specs.MemoryFiles.{file_at, standing_in};
 ghost use Rattle.tame_names.specs.Standing.{Reads, File};
 
@@ -28,7 +28,13 @@ pub struct MemFiles {
 
 impl MemFiles {
     /// These files; the calls of these numbers are to fail.
-    pub fn new(alloc: Global, files: Items<MemFile>, fails: Items<u64>) -> MemFiles {
+    pub fn new(alloc: Global, files: Items<MemFile>, fails: Items<u64>) -> MemFiles
+        ensures files { result.files ≡ files }
+        ensures fails { result.fails ≡ fails }
+        ensures failed { result.failed ≡ [] }
+        ensures calls { result.calls ≡ 0 }
+        ensures faults { result.faults ≡ 0 }
+    {
         MemFiles {
             files,
             fails,

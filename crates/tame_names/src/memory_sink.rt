@@ -17,7 +17,10 @@ pub struct MemSink {
 impl MemSink {
     /// An empty output whose puts of these numbers are to fail.
     pub fn new(alloc: Global, fails: Items<u64>) -> MemSink
-        ensures { result.bytes ≡ [] }
+        ensures bytes { result.bytes ≡ [] }
+        ensures fails { result.fails ≡ fails }
+        ensures calls { result.calls ≡ 0 }
+        ensures faults { result.faults ≡ 0 }
     {
         MemSink {
             bytes: Items::new(alloc),

@@ -1,6 +1,9 @@
 //! Where output goes.
-ghost use Rattle.std.specs.Prelude.{◌≡◌, ℕ, List};
-ghost use Rattle.tame_names.specs.Output.{HasPutCause, Puts};
+ghost use Rattle.std.specs.Prelude.{◌≡◌, ◌≤◌, ◌++◌, ℕ, List, length, OnOk, IfOk, IfErr};
+ghost use Rattle.tame_names.specs.Counts.{Rose};
+ghost use Rattle.tame_names.specs.Output.{AddsPrefix, HasPutCause, Puts};
+
+use crate::errors::{Error, IoKind};
 
 /// A put failed, and the sink counted it.
 #[derive(Clone, Copy, Debug, PartialEq, Eq)]
@@ -25,4 +28,19 @@ pub trait Sink {
     fn put(&mut self, piece: &[u8]) -> Result<(), SinkFault>
         ensures cause { HasPutCause (faults self.old) (faults self.new) result }
         ensures put { tells → Puts (holds self.old) piece.now (holds self.new) result };
+}
+
+/// Puts a piece, and answers the number of its bytes. `Io(Failed)` where the sink failed, which
+/// then holds a part of the piece.
+pub fn put_counted<S: Sink>(sink: &mut S, piece: &[u8]) -> Result<u64, Error>
+    ensures put { S.tells → OnOk result (S.holds sink.new ≡ S.holds sink.old ++ piece.now) }
+    ensures part { S.tells → AddsPrefix (S.holds sink.old) piece.now (S.holds sink.new) }
+    ensures count { IfOk result (λ n. n ≡ length piece.now) }
+    ensures later { S.faults sink.old ≤ S.faults sink.new }
+    ensures failed { IfErr result (λ e. (e ≡ Error.Io IoKind.Failed) × Rose (S.faults sink.old) (S.faults sink.new)) }
+{
+    match sink.put(piece) {
+        Ok(()) => Ok(piece.len() as u64),
+        Err(_) => Err(Error::Io(IoKind::Failed)),
+    }
 }

@@ -28,6 +28,16 @@ impl Text {
         })
     }
 
+    /// A copy of a text that may be absent.
+    pub fn of_option(alloc: Global, text: Option<&str>) -> Result<Option<Text>, NoMemory>
+        ensures { IfOk result (λ copy. copy ≡ option_map (λ s. s.now) text.entry) }
+    {
+        match text {
+            None => Ok(None),
+            Some(text) => Ok(Some(Text::of(alloc, text)?)),
+        }
+    }
+
     /// The text of a string, without a copy.
     pub fn from_string(bytes: String) -> Text
         ensures { result ≡ string_bytes bytes }

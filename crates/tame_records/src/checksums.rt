@@ -1,5 +1,6 @@
 //! SHA-256 digests as hex text.
 ghost use Rattle.std.specs.Prelude.{◌≡◌, Some, Ok, IfOk, is_none};
+ghost use Rattle.std.specs.Fmt.{WritesOnOk};
 ghost use Rattle.hex.specs.Hex.{encode_lower};
 ghost use Rattle.tame_records.specs.Checksums.{chksum_of, first_bad_digit};
 
@@ -65,9 +66,7 @@ impl Chksum {
             Err(_) => unreachable!(),
         }
     }
-}
 
-impl Chksum {
     /// The digest as 64 hex digits, the letters in lower case.
     pub fn to_text(&self, alloc: Global) -> Result<Text, NoMemory>
         ensures digits { IfOk result (λ t. t ≡ encode_lower self.now.0) }
@@ -78,7 +77,9 @@ impl Chksum {
     }
 
     /// Writes the 64 hex digits.
-    fn write_digits<W: fmt::Write>(&self, f: &mut fmt::Formatter<W>) -> fmt::Result {
+    fn write_digits<W: fmt::Write>(&self, f: &mut fmt::Formatter<W>) -> fmt::Result
+        ensures { WritesOnOk W.write_str_gives f.old result (encode_lower self.now.0) f.new }
+    {
         let mut digits = [0u8; 64];
         if encode_to_slice(self.0.as_slice(), &mut digits).is_err() {
             return Err(fmt::Error);
@@ -101,6 +102,8 @@ impl FromStr for Chksum {
 }
 
 impl fmt::Display for Chksum {
+    ghost output = { λ digest. Some (encode_lower digest.0) };
+
     fn fmt<W: fmt::Write>(&self, f: &mut fmt::Formatter<W>) -> fmt::Result {
         self.write_digits(f)
     }

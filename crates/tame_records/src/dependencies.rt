@@ -5,7 +5,7 @@ ghost use Rattle.semver.specs.Identifiers.{comparator_view};
 ghost use Rattle.serde_json.specs.View.{view, items_view};
 ghost use Rattle.tame_records.specs.Dependencies.{dependency_of, dependencies_of, kind_named, kind_of};
 
-use crate::members::{copy, text_or_null, texts_of};
+use crate::members::{text_or_null, texts_of};
 use semver::VersionReq;
 use serde_json::Value;
 use std::alloc::{AllocError, Global};
@@ -106,6 +106,7 @@ impl IndexDependency {
     }
 }
 
+/// Whether a version or a requirement wasn't read for want of memory.
 pub fn is_memory(error: semver::Error) -> bool
     ensures { IsTrue result ↔ (error ≡ memory_error) }
 {
@@ -172,9 +173,9 @@ fn dependency_of(alloc: Global, value: &Value) -> Result<Option<IndexDependency>
         features,
         optional,
         default_features,
-        target: copy(alloc, target)?,
+        target: Text::of_option(alloc, target)?,
         kind,
-        package: copy(alloc, package)?,
+        package: Text::of_option(alloc, package)?,
     }))
 }
 

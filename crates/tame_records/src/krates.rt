@@ -1,5 +1,5 @@
 //! The versions of a crate.
-ghost use Rattle.std.specs.Prelude.{◌≡◌, ◌≢◌, ◌⊎◌, ◌<◌, ◌-◌, length, slice_get, option_map, Some, None, Ok, Err, IfOk, IfErr};
+ghost use Rattle.std.specs.Prelude.{◌≡◌, ◌≢◌, ◌⊎◌, ◌<◌, ◌≤◌, ◌-◌, ℕ, List, length, slice_get, option_map, Some, None, Ok, Err, IfOk, IfErr};
 ghost use Rattle.tame_names.specs.Counts.{Rose};
 ghost use Rattle.tame_names.specs.Pieces.{pieces};
 ghost use Rattle.tame_records.specs.Krates.{IsRead, IsReadAt, first_unread, records_of, unread};
@@ -42,6 +42,8 @@ impl IndexKrate {
     pub fn new<F: Files>(alloc: Global, files: &mut F, path: &str) -> Result<IndexKrate, Error>
         ensures read { F.tells → IsReadAt (F.stands files.old path.now) result }
         ensures failed { result ≡ Err (Error.Io IoKind.Failed) → Rose (F.faults files.old) (F.faults files.new) }
+        ensures later { F.faults files.old ≤ F.faults files.new }
+        ensures same { F.tells → (q : List ℕ) → F.stands files.new q ≡ F.stands files.old q }
     {
         match files.read(alloc, path, u64::MAX) {
             Ok(ReadAnswer::Whole(bytes)) => IndexKrate::from_slice(alloc, bytes.as_slice()),

@@ -16,6 +16,6 @@ pub use dependencies::{DependencyKind, IndexDependency};
 pub use features::FeatureIter;
 pub use krates::IndexKrate;
 pub use lines::trimmed;
-pub use members::{FeatureMap, copy, flag_or_false, text_or_null};
+pub use members::{FeatureMap, flag_or_false, text_or_null};
 pub use versions::{IndexVersion, LineFault, VersionHead, read_value};
 pub use writing::with_line;

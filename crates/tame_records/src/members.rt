@@ -104,16 +104,6 @@ pub fn texts_of(alloc: Global, items: &[Value]) -> Result<Option<Items<Text>>, N
     Ok(Some(texts))
 }
 
-/// A copy of a text that may be absent.
-pub fn copy(alloc: Global, text: Option<&str>) -> Result<Option<Text>, NoMemory>
-    ensures { IfOk result (λ copy. copy ≡ option_map (λ s. s.now) text.entry) }
-{
-    match text {
-        None => Ok(None),
-        Some(text) => Ok(Some(Text::of(alloc, text)?)),
-    }
-}
-
 fn lists_of(alloc: Global, members: &Map<String, Value>) -> Result<Option<Features>, NoMemory>
     ensures { IfOk result (λ lists. lists ≡ lists_with [] (members_view members.now.entries)) }
 {

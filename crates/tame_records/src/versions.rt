@@ -8,7 +8,7 @@ ghost use Rattle.serde_json.specs.Written.{has_float, items_have_float, members_
 use crate::checksums::Chksum;
 use crate::dependencies::{IndexDependency, dependencies_of};
 use crate::members::{
-    Features, copy, flag_or_false, lists_at, lists_or_null, small_or_null, text_or_null,
+    Features, flag_or_false, lists_at, lists_or_null, small_or_null, text_or_null,
 };
 use serde_json::{Map, Value};
 use std::alloc::{AllocError, Global};
@@ -139,9 +139,9 @@ fn optional_of(alloc: Global, value: &Value) -> Result<Option<OptionalMembers>, 
     Ok(Some(OptionalMembers {
         features2,
         yanked,
-        links: copy(alloc, links)?,
-        rust_version: copy(alloc, rust_version)?,
-        pubtime: copy(alloc, pubtime)?,
+        links: Text::of_option(alloc, links)?,
+        rust_version: Text::of_option(alloc, rust_version)?,
+        pubtime: Text::of_option(alloc, pubtime)?,
         v,
     }))
 }

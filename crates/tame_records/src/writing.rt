@@ -15,7 +15,7 @@ use crate::members::Features;
 use crate::versions::IndexVersion;
 use json::Writer;
 use std::alloc::{AllocError, Global};
-use tame_names::{Error, IoKind, Items, NoMemory, Sink, Text};
+use tame_names::{Error, IoKind, Items, NoMemory, Sink, Text, put_counted};
 
 fn write_text(writer: &mut Writer, name: &str, text: &Text) -> Result<(), AllocError>
     ensures before { writer.new.before ≡ writer.old.before }
@@ -225,19 +225,6 @@ fn with_lines(alloc: Global, versions: &[IndexVersion]) -> Result<Vec<u8>, NoMem
     Ok(bytes)
 }
 
-fn put<S: Sink>(sink: &mut S, bytes: &[u8]) -> Result<u64, Error>
-    ensures put { S.tells → OnOk result (S.holds sink.new ≡ S.holds sink.old ++ bytes.now) }
-    ensures part { S.tells → AddsPrefix (S.holds sink.old) bytes.now (S.holds sink.new) }
-    ensures count { IfOk result (λ n. n ≡ length bytes.now) }
-    ensures later { S.faults sink.old ≤ S.faults sink.new }
-    ensures failed { IfErr result (λ e. (e ≡ Error.Io IoKind.Failed) × Rose (S.faults sink.old) (S.faults sink.new)) }
-{
-    match sink.put(bytes) {
-        Ok(()) => Ok(bytes.len() as u64),
-        Err(_) => Err(Error::Io(IoKind::Failed)),
-    }
-}
-
 impl IndexVersion {
     /// Puts the line of this version, without a newline, and answers the number of its bytes.
     /// `Io(Failed)` where the sink failed, which then holds a part of the line.
@@ -252,7 +239,7 @@ impl IndexVersion {
         ensures reads_back { OnOk result (record_of (line self.now) ≡ Some self.now) }
     {
         let bytes = with_line(alloc, Vec::new(alloc), self)?;
-        put(sink, bytes.as_slice())
+        put_counted(sink, bytes.as_slice())
     }
 }
 
@@ -268,6 +255,6 @@ impl IndexKrate {
         ensures same { S.tells → result ≡ Err Error.NoMemory → S.holds sink.new ≡ S.holds sink.old }
     {
         let bytes = with_lines(alloc, self.versions.as_slice())?;
-        put(sink, bytes.as_slice())
+        put_counted(sink, bytes.as_slice())
     }
 }

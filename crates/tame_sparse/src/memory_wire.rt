@@ -25,7 +25,9 @@ pub struct MemWire {
 impl MemWire {
     /// A wire that gives these answers.
     pub fn new(alloc: Global, script: Items<Scripted>) -> MemWire
-        ensures { result.exchanges ≡ [] }
+        ensures script { result.script ≡ script }
+        ensures exchanges { result.exchanges ≡ [] }
+        ensures faults { result.faults ≡ 0 }
     {
         MemWire {
             script,

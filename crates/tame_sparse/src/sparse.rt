@@ -67,6 +67,7 @@ impl SparseIndex {
         ensures read { F.tells → IsConfigRead (config_file self.now.cache.path) (F.stands files.old (config_file self.now.cache.path)) result }
         ensures failed { (p : List ℕ) → result ≡ Err (Error.IoPath IoKind.Failed p) → Rose (F.faults files.old) (F.faults files.new) }
         ensures later { F.faults files.old ≤ F.faults files.new }
+        ensures same { F.tells → (q : List ℕ) → F.stands files.new q ≡ F.stands files.old q }
     {
         let path = join(alloc, self.cache.path(), "config.json")?;
         match files.read(alloc, path.as_str(), u64::MAX) {

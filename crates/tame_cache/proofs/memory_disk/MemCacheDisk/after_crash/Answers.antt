@@ -8,7 +8,7 @@ use Rattle.tame_cache.proofs.Copies.{IsCopied, copied_more, copied_reads, copied
 use Rattle.tame_cache.proofs.memory_disk.MemCacheDisk.after_crash.Goals as goal
 
 pub loop-call-init : goal.loop-call-init
-loop-call-init c q = inl (c.new-next.ensures q, refl)
+loop-call-init c q = inl (c.new-next.ensures.files q, refl)
 
 pub loop-call-preserved : goal.loop-call-preserved
 loop-call-preserved c q =
