@@ -1,5 +1,5 @@
 -- When a run may answer a fault.
-use Rattle.std.specs.Prelude.{◌≡◌, ◌≢◌, ◌≤◌, ◌<◌, ℕ, List, length, Bool, true, false, IsTrue, IsOk, Option, Some, None, Result, Ok, Err}
+use Rattle.std.specs.Prelude.{◌≡◌, ◌≢◌, ◌⊎◌, ◌≤◌, ◌<◌, ℕ, List, length, Bool, true, false, IsTrue, IsOk, Option, Some, None, Result, Ok, Err}
 use Rattle.std.specs.Str.{is_utf8}
 use Rattle.tame_names.specs.Standing.{Standing, Nothing, File}
 use Rattle.audit_lock.specs.Locked.{locked}
@@ -45,6 +45,10 @@ pub record Accepts (told : Type 0) (words : List (List ℕ)) (stands : List ℕ 
   pub read : told → IsText (stands path) text
   pub lockfile : locked text ≡ Ok packages
 
+-- no packages: the words name no path, or what stands there is no lockfile
+abbrev pub AcceptsNone : Type 0 → List (List ℕ) → (List ℕ → Standing) → Type 0
+AcceptsNone told words stands = (packages : List Package) → ¬ (Accepts told words stands packages)
+
 -- the words name a path, and the text there is no lockfile, for this reason
 pub record Refuses (told : Type 0) (words : List (List ℕ)) (stands : List ℕ → Standing) (reason : LockfileFault) : Type 0 where
   pub path : List ℕ
@@ -67,6 +71,10 @@ CauseOf told words stands (fault.Lockfile reason) = Refuses told words stands re
 CauseOf told words stands fault.Print = IsOk (command words)
 CauseOf told words stands fault.NoMemory = Unit {0}
 CauseOf told words stands reason = FailsToOpen told words stands reason
+
+-- no fault, but that memory may have run out
+abbrev pub IsComplete : Option RunFault → Type 0
+IsComplete result = (result ≡ None) ⊎ (result ≡ Some fault.NoMemory)
 
 -- nothing is asked where the run ends before the audit
 abbrev pub is_early : RunFault → Bool

@@ -8,7 +8,7 @@ ghost use Rattle.audit_lock.specs.declared.resolving.Package.{Package};
 ghost use Rattle.audit_core.specs.Audits.{AddsAudit, AreTurns, Caused, HeldDecides, KeepsOthers};
 ghost use Rattle.audit_core.specs.Paths.{asked_paths};
 ghost use Rattle.audit_core.specs.Turns.{AddsPart, KeepsHonest};
-ghost use Rattle.audit_program.specs.Causes.{Accepts, CauseOf, IsPrintFault, fault_status, is_early};
+ghost use Rattle.audit_program.specs.Causes.{Accepts, AcceptsNone, CauseOf, IsComplete, IsPrintFault, fault_status, is_early};
 ghost use Rattle.audit_program.specs.Printed.{verdict_lines};
 ghost use Rattle.audit_program.specs.Words.{command};
 
@@ -87,6 +87,7 @@ fn audit<F: Files, W: Wire, D: CacheDisk>(
     ensures turns { IfOk result (λ a. AreTurns a.lockfile (W.faults wire.old) (D.faults disk.old) (W.faults wire.new) (D.faults disk.new) a.turns) }
     ensures caused { IfOk result (λ a. Caused a.lockfile a.turns a.verdicts) }
     ensures unasked { IfErr result (λ f. IsTrue (is_early f) → (wire.new ≡ wire.old) × (disk.new ≡ disk.old)) }
+    ensures unaccepted { F.tells → AcceptsNone F.tells (map string_bytes words.now) (F.stands files.old) → (wire.new ≡ wire.old) × (disk.new ≡ disk.old) }
     ensures part { F.tells → W.tells → (packages : List Package) → Accepts F.tells (map string_bytes words.now) (F.stands files.old) packages
         → OnErr result (AddsPart (asked_paths packages) (W.exchanges wire.old) (W.exchanges wire.new)) }
     ensures others { F.tells → D.tells → (packages : List Package) → Accepts F.tells (map string_bytes words.now) (F.stands files.old) packages
@@ -152,6 +153,10 @@ pub fn run<F: Files, W: Wire, D: CacheDisk, O: Sink, E: Sink>(
         → F.failed files.new ≡ F.failed files.old ++ record { call = FileCall.Read; path = Some p } ∷ [] }
     ensures print_rose { result.fault ≡ Some RunFault.Print → Rose (O.faults out.old) (O.faults out.new) }
 
+    // a lockfile that is accepted is audited and printed, where neither the files nor the output fail
+    ensures complete { F.tells → (packages : List Package) → Accepts F.tells (map string_bytes words.now) (F.stands files.old) packages
+        → IsQuiet (F.faults files.old) (F.faults files.new) → IsQuiet (O.faults out.old) (O.faults out.new) → IsComplete result.fault }
+
     // which lockfile an audit is of, what it asked, and what it says
     ensures accepted { IfSome result.audited (λ a. Accepts F.tells (map string_bytes words.now) (F.stands files.old) a.lockfile) }
     ensures headline { W.tells → D.tells → IfSome result.audited (λ a. HeldDecides a.lockfile (W.exchanges wire.old) (W.exchanges wire.new) (D.past disk.old) a.turns a.verdicts) }
@@ -163,6 +168,7 @@ pub fn run<F: Files, W: Wire, D: CacheDisk, O: Sink, E: Sink>(
     ensures kept { W.tells → D.tells → KeepsHonest (W.exchanges wire.old) (W.exchanges wire.new) (D.past disk.old) (D.past disk.new) }
 
     // what is asked without an audit: nothing, or a part of the paths where memory ran out
+    ensures unaccepted { F.tells → AcceptsNone F.tells (map string_bytes words.now) (F.stands files.old) → (wire.new ≡ wire.old) × (disk.new ≡ disk.old) }
     ensures unasked { IfSome result.fault (λ f. IsTrue (is_early f) → (wire.new ≡ wire.old) × (disk.new ≡ disk.old)) }
     ensures asked_part { F.tells → W.tells → (packages : List Package) → Accepts F.tells (map string_bytes words.now) (F.stands files.old) packages
         → IfNone result.audited (AddsPart (asked_paths packages) (W.exchanges wire.old) (W.exchanges wire.new)) }

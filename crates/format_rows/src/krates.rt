@@ -1,7 +1,7 @@
 //! The versions of a crate, over memory.
 use std::test::Fail;
 use tame_names::{Error, IoKind, Items, MemFile, MemFiles, Text};
-use tame_records::IndexKrate;
+use tame_records::{DependencyKind, IndexKrate};
 
 /// Index lines of these versions of the crate `a`, each with its yanked flag.
 fn body(rt: &HostRuntime, versions: &[(&str, bool)]) -> Result<String, Fail> {
@@ -40,6 +40,22 @@ fn versions(rt: HostRuntime) -> Result<(), Fail> {
         return Err(Fail::from("no normal version"));
     };
     assert_eq!(rt; normal.version.as_str(), "0.4.0");
+    Ok(())
+}
+
+#[test]
+fn equal_by_contents(rt: HostRuntime) -> Result<(), Fail> {
+    let text = body(&rt, &[("0.1.0", false), ("0.2.0", true)])?;
+    let other = body(&rt, &[("0.1.0", false), ("0.2.0", false)])?;
+    let krate = IndexKrate::from_slice(rt.alloc(), text.as_bytes())?;
+    let same = IndexKrate::from_slice(rt.alloc(), text.as_bytes())?;
+    let flagged = IndexKrate::from_slice(rt.alloc(), other.as_bytes())?;
+    assert!(rt; krate == same);
+    assert!(rt; krate != flagged);
+    let (first, other) = (krate.versions.as_slice(), flagged.versions.as_slice());
+    assert!(rt; first.first() == other.first());
+    assert!(rt; first.last() != other.last());
+    assert!(rt; DependencyKind::default() == DependencyKind::Normal);
     Ok(())
 }
 

@@ -1,6 +1,7 @@
 //! Tests of the formats: tables whose values come from the built Rust crates.
 #![tactic(auto)]
 
+pub mod computed;
 #[cfg(test)]
 mod formats;
 #[cfg(test)]

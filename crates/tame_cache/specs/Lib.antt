@@ -1,5 +1,6 @@
 pub mod CacheFiles
 pub mod Calls
+pub mod Counting
 pub mod Disk
 pub mod Faults
 pub mod Gate

@@ -2,6 +2,7 @@
 #![tactic(auto)]
 
 mod cache;
+mod counting;
 mod disk;
 mod gating;
 mod laws;

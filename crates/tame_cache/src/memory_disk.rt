@@ -1,11 +1,13 @@
 //! A disk in memory, which keeps a record of all its changes.
 ghost use Rattle.std.specs.Prelude.{◌≡◌, ◌≢◌, ◌≤◌, ◌+◌, ◌-◌, ◌^◌, ◌++◌, min, ⊤, Some, [], ◌∷◌, List, ℕ, length, take, IfOk, OnOk, OnErr, option_map, option_copied};
 ghost use Rattle.std.specs.String.{string_bytes};
-ghost use Rattle.tame_names.specs.Counts.{Rose};
+ghost use Rattle.tame_names.specs.Counts.{HasCause};
+ghost use Rattle.tame_cache.specs.Counting.{IsCalled};
 ghost use Rattle.tame_cache.specs.Faults.{HasDiskCause};
-ghost use Rattle.tame_cache.specs.Disk.{File, Step, Synced, TornFile, may_leave, content, reads, first_of, with_piece};
+ghost use Rattle.tame_cache.specs.Disk.{File, Step, Synced, TornFile, MayCut, MaySync, MayWrite, may_leave, content, reads, first_of, with_piece};
 ghost use Rattle.tame_cache.specs.Calls.{file_of, step_of, after, past_of};
 
+use crate::counting::Counts;
 use crate::disk::{CacheDisk, DiskFault, DiskReadFault, Peek};
 use std::alloc::{AllocError, Global};
 use tame_names::NoMemory;
@@ -22,39 +24,6 @@ struct Call {
     path: String,
     change: Change,
     file: Option<Vec<u8>>,
-}
-
-/// Counts the calls and their faults.
-#[derive(Drop)]
-struct Counts {
-    made: u64,
-    failing: Vec<u64>,
-    stop: u64,
-    faults: u64,
-}
-
-impl Counts {
-    fn fail(&mut self) -> DiskFault
-        ensures rose { Rose self.old.faults self.new.faults }
-        ensures later { self.old.faults ≤ self.new.faults }
-        ensures made { self.new.made ≡ self.old.made }
-    {
-        self.faults = self.faults.saturating_add(1);
-        DiskFault
-    }
-
-    /// Begins a call, which fails where its number is in the list.
-    fn begin(&mut self) -> Result<(), DiskFault>
-        ensures cause { HasDiskCause self.old.faults self.new.faults result }
-        ensures made { self.new.made ≤ self.old.made + 1 }
-    {
-        let number = self.made;
-        self.made = number.saturating_add(1);
-        if number >= self.stop || self.failing.contains(&number) {
-            return Err(self.fail());
-        }
-        Ok(())
-    }
 }
 
 /// A disk whose files are kept in memory, with each call that changed one. The calls whose numbers
@@ -265,6 +234,8 @@ impl MemCacheDisk {
         ensures same { OnErr result (self.new.calls.items ≡ self.old.calls.items) }
         ensures cause { HasDiskCause self.old.counts.faults self.new.counts.faults result }
         ensures made { self.new.counts.made ≡ self.old.counts.made }
+        ensures failing { self.new.counts.failing ≡ self.old.counts.failing }
+        ensures stop { self.new.counts.stop ≡ self.old.counts.stop }
     {
         match add_call(self.alloc, &mut self.calls, path, change, now) {
             Ok(()) => Ok(()),
@@ -294,6 +265,8 @@ impl MemCacheDisk {
 }
 
 impl CacheDisk for MemCacheDisk {
+    ghost use Rattle.tame_cache.specs.MemoryDisk.{past_in};
+
     ghost tells = { ⊤ };
 
     ghost past = { λ disk path. past_of path [] disk.calls.items };
@@ -306,7 +279,13 @@ impl CacheDisk for MemCacheDisk {
         self.counts.faults
     }
 
-    fn peek(&mut self, path: &str) -> Result<Peek, DiskFault> {
+    fn peek(&mut self, path: &str) -> Result<Peek, DiskFault>
+        ensures first { IfOk result (λ first. first ≡ first_of (reads (past_in self.old path.now))) }
+        ensures same { (q : List ℕ) → past_in self.new q ≡ past_in self.old q }
+        ensures calls { self.new.counts.made ≤ self.old.counts.made + 1 }
+        ensures cause { HasDiskCause self.old.counts.faults self.new.counts.faults result }
+        ensures called { IsCalled self.old.counts self.new.counts result }
+    {
         self.counts.begin()?;
         Ok(match current(&self.calls, path) {
             None => Peek::Absent,
@@ -317,7 +296,13 @@ impl CacheDisk for MemCacheDisk {
         })
     }
 
-    fn read(&mut self, alloc: Global, path: &str) -> Result<Option<Vec<u8>>, DiskReadFault> {
+    fn read(&mut self, alloc: Global, path: &str) -> Result<Option<Vec<u8>>, DiskReadFault>
+        ensures file { IfOk result (λ file. option_map (λ bytes. bytes.items) file ≡ reads (past_in self.old path.now)) }
+        ensures same { (q : List ℕ) → past_in self.new q ≡ past_in self.old q }
+        ensures calls { self.new.counts.made ≤ self.old.counts.made + 1 }
+        ensures cause { HasCause DiskReadFault.NoMemory self.old.counts.faults self.new.counts.faults result }
+        ensures called { IsCalled self.old.counts self.new.counts result }
+    {
         if self.counts.begin().is_err() {
             return Err(DiskReadFault::Failed);
         }
@@ -330,11 +315,23 @@ impl CacheDisk for MemCacheDisk {
         }
     }
 
-    fn make_dirs(&mut self, _path: &str) -> Result<(), DiskFault> {
+    fn make_dirs(&mut self, _path: &str) -> Result<(), DiskFault>
+        ensures same { (q : List ℕ) → past_in self.new q ≡ past_in self.old q }
+        ensures calls { self.new.counts.made ≤ self.old.counts.made + 1 }
+        ensures cause { HasDiskCause self.old.counts.faults self.new.counts.faults result }
+        ensures called { IsCalled self.old.counts self.new.counts result }
+    {
         self.counts.begin()
     }
 
-    fn write_at(&mut self, path: &str, at: u64, piece: &[u8]) -> Result<(), DiskFault> {
+    fn write_at(&mut self, path: &str, at: u64, piece: &[u8]) -> Result<(), DiskFault>
+        ensures written { OnOk result (at ≤ length (content (reads (past_in self.old path.now))) → reads (past_in self.new path.now) ≡ Some (with_piece (content (reads (past_in self.old path.now))) at piece.now)) }
+        ensures step { MayWrite at (length piece.now) (past_in self.old path.now) (past_in self.new path.now) }
+        ensures others { (q : List ℕ) → q ≢ path.now → past_in self.new q ≡ past_in self.old q }
+        ensures calls { self.new.counts.made ≤ self.old.counts.made + 1 }
+        ensures cause { HasDiskCause self.old.counts.faults self.new.counts.faults result }
+        ensures called { IsCalled self.old.counts self.new.counts result }
+    {
         self.counts.begin()?;
         let old = current_content(&self.calls, path);
         if at > old.len() as u64 {
@@ -346,7 +343,14 @@ impl CacheDisk for MemCacheDisk {
         }
     }
 
-    fn cut(&mut self, path: &str, len: u64) -> Result<(), DiskFault> {
+    fn cut(&mut self, path: &str, len: u64) -> Result<(), DiskFault>
+        ensures cut { OnOk result (reads (past_in self.new path.now) ≡ option_map (take len) (reads (past_in self.old path.now))) }
+        ensures step { MayCut len (past_in self.old path.now) (past_in self.new path.now) }
+        ensures others { (q : List ℕ) → q ≢ path.now → past_in self.new q ≡ past_in self.old q }
+        ensures calls { self.new.counts.made ≤ self.old.counts.made + 1 }
+        ensures cause { HasDiskCause self.old.counts.faults self.new.counts.faults result }
+        ensures called { IsCalled self.old.counts self.new.counts result }
+    {
         self.counts.begin()?;
         match front_of(self.alloc, current(&self.calls, path), len) {
             Ok(now) => self.note(path, Change::Cut(len), now),
@@ -354,7 +358,14 @@ impl CacheDisk for MemCacheDisk {
         }
     }
 
-    fn sync(&mut self, path: &str) -> Result<(), DiskFault> {
+    fn sync(&mut self, path: &str) -> Result<(), DiskFault>
+        ensures synced { OnOk result (past_in self.new path.now ≡ Synced (reads (past_in self.old path.now)) ∷ past_in self.old path.now) }
+        ensures step { MaySync (past_in self.old path.now) (past_in self.new path.now) }
+        ensures others { (q : List ℕ) → q ≢ path.now → past_in self.new q ≡ past_in self.old q }
+        ensures calls { self.new.counts.made ≤ self.old.counts.made + 1 }
+        ensures cause { HasDiskCause self.old.counts.faults self.new.counts.faults result }
+        ensures called { IsCalled self.old.counts self.new.counts result }
+    {
         self.counts.begin()?;
         match copy_of(self.alloc, current(&self.calls, path)) {
             Ok(now) => self.note(path, Change::Sync, now),

@@ -10,8 +10,9 @@ ghost use Rattle.tame_entry.specs.Scan.{flag_back, flag_from, flag_value, line_f
 use crate::index_entries::IndexEntryVersion;
 use crate::raw::{cut_at, without_space};
 use semver::Version;
-use std::alloc::{AllocError, Global};
+use std::alloc::Global;
 use tame_names::{Error, IoKind};
+use tame_records::is_memory;
 
 fn flag_value(text: &[u8]) -> Result<bool, IoKind>
     ensures { result ≡ flag_value text.now }
@@ -92,7 +93,7 @@ fn version_of(alloc: Global, text: &str) -> Result<Version, Error>
     match Version::parse(alloc, text) {
         Ok(version) => Ok(version),
         Err(error) => {
-            if error == semver::Error::from(AllocError) {
+            if is_memory(error) {
                 Err(Error::NoMemory)
             } else {
                 Err(Error::Semver)

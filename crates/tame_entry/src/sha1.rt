@@ -86,7 +86,9 @@ fn is_commit(text: &str) -> bool
 }
 
 impl AsRef<[u8; 40]> for Sha1Hex {
-    fn as_ref(&self) -> &[u8; 40] {
+    fn as_ref(&self) -> &[u8; 40]
+        ensures { result.now ≡ self.now }
+    {
         self.as_bytes()
     }
 }

@@ -1,5 +1,6 @@
 -- Counts of faults. Each object of the outside counts how often it has failed.
-use Rattle.std.specs.Prelude.{◌≡◌, ◌≢◌, ◌+◌, ◌-◌, ◌^◌, ◌<◌, ◌≤◌, ℕ, min, Result, IfErr}
+use Rattle.std.specs.Prelude.{◌≡◌, ◌≢◌, ◌+◌, ◌-◌, ◌^◌, ◌<◌, ◌≤◌, ℕ, min, nat_eq, List, IsTrue, Result, IfErr}
+use Rattle.std.specs.List.{list_any}
 
 -- a count rose: it is higher at the second moment, or it stands at its end there
 abbrev pub Rose : ℕ → ℕ → Type 0
@@ -13,3 +14,12 @@ IsQuiet before now = (now ≡ before) × (before < 2 ^ 64 - 1)
 pub record HasCause {T E : Type 0} (no_memory : E) (before now : ℕ) (result : Result T E) : Type 0 where
   pub later : before ≤ now
   pub failed : IfErr result (λ e. e ≢ no_memory → Rose before now)
+
+-- ---- calls that are to fail, by their numbers
+
+-- one call more; the count stays at its end
+abbrev pub next_call : ℕ → ℕ
+next_call count = min (count + 1) (2 ^ 64 - 1)
+
+abbrev pub IsListed : ℕ → List ℕ → Type 0
+IsListed number numbers = IsTrue (list_any (λ n. nat_eq n number) numbers)

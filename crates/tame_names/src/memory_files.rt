@@ -1,7 +1,8 @@
 //! Files in memory.
-ghost use Rattle.std.specs.Prelude.{◌≡◌, [], ⊤, IfErr, option_copied};
+ghost use Rattle.std.specs.Prelude.{◌≡◌, [], ⊤, Some, IfErr, IsErr, option_copied};
+ghost use Rattle.tame_names.specs.Counts.{HasCause, IsListed, next_call};
 ghost use Rattle.tame_names.specs.MemoryFiles.{file_at, standing_in};
-ghost use Rattle.tame_names.specs.Standing.{Reads, File};
+ghost use Rattle.tame_names.specs.Standing.{IsAboveLimit, Reads, File, failed_calls};
 
 use crate::host::{FailedCall, FileCall, FileFault, Files, ReadAnswer};
 use crate::lists::Items;
@@ -76,7 +77,17 @@ impl Files for MemFiles {
         self.faults
     }
 
-    fn read(&mut self, alloc: Global, path: &str, limit: u64) -> Result<ReadAnswer, FileFault> {
+    fn read(&mut self, alloc: Global, path: &str, limit: u64) -> Result<ReadAnswer, FileFault>
+        ensures cause { HasCause FileFault.NoMemory self.old.faults self.new.faults result }
+        ensures above { IsAboveLimit limit result }
+        ensures same { self.new.files ≡ self.old.files }
+        ensures answer { Reads (standing_in self.old.files path.now) limit result }
+        ensures failed { self.new.failed ≡ failed_calls self.old.failed FileCall.Read (Some path.now) result }
+        // which calls fail: those whose numbers are listed
+        ensures count { self.new.calls ≡ next_call self.old.calls }
+        ensures listed { self.new.fails ≡ self.old.fails }
+        ensures fails { IsListed self.new.calls self.old.fails → IsErr result }
+    {
         self.calls = self.calls.saturating_add(1);
         if self.fails.as_slice().contains(&self.calls) {
             let path = Text::of(alloc, path)?;

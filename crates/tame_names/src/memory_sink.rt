@@ -1,5 +1,7 @@
 //! An output in memory.
-ghost use Rattle.std.specs.Prelude.{◌≡◌, [], ⊤};
+ghost use Rattle.std.specs.Prelude.{◌≡◌, [], ⊤, IsErr};
+ghost use Rattle.tame_names.specs.Counts.{IsListed, next_call};
+ghost use Rattle.tame_names.specs.Output.{HasPutCause, Puts};
 
 use crate::lists::Items;
 use crate::output::{Sink, SinkFault};
@@ -49,7 +51,14 @@ impl Sink for MemSink {
         self.faults
     }
 
-    fn put(&mut self, piece: &[u8]) -> Result<(), SinkFault> {
+    fn put(&mut self, piece: &[u8]) -> Result<(), SinkFault>
+        ensures cause { HasPutCause self.old.faults self.new.faults result }
+        ensures put { Puts self.old.bytes piece.now self.new.bytes result }
+        // which puts fail: those whose numbers are listed
+        ensures count { self.new.calls ≡ next_call self.old.calls }
+        ensures listed { self.new.fails ≡ self.old.fails }
+        ensures fails { IsListed self.new.calls self.old.fails → IsErr result }
+    {
         self.calls = self.calls.saturating_add(1);
         let is_to_fail = self.fails.as_slice().contains(&self.calls);
         if !is_to_fail && self.bytes.extend(piece).is_ok() {

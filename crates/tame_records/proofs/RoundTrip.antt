@@ -1,17 +1,16 @@
 -- A written line reads as the version that wrote it.
-use Rattle.std.proofs.Common.{◌≡◌, ℕ, ◌≤◌, List, [], ◌∷◌, ◌++◌, Bool, true, false, Option, Some, None, option_map, codes, refl, sym, ap, ◌∙◌, arith, append-nil, IsUtf8, Ok}
+use Rattle.std.proofs.Common.{◌≡◌, ℕ, ◌≤◌, List, [], ◌∷◌, ◌++◌, false, Option, Some, None, option_map, codes, refl, sym, ap, ◌∙◌, arith, append-nil, IsUtf8}
 use Rattle.std.specs.Prelude.{option_and_then}
 use Rattle.hex.specs.Hex.{encode_lower}
 use Rattle.json.specs.Json as json
 use Rattle.json.specs.Lex.{tokens}
 use Rattle.json.specs.Tree as tree
 use Rattle.json.proofs.Printed.Trees.{value-json_tokens}
-use Rattle.serde_json.specs.Data.{Data, null, boolean, number, string, array, object, Items, no_items, item, Members, no_members, put}
+use Rattle.serde_json.specs.Data.{Data, null, boolean, string, array, object, Items, no_items, item, Members, no_members, put}
 use Rattle.serde_json.specs.Find.{get}
 use Rattle.serde_json.specs.Read.{of_json, of_items, of_members, read, max_depth}
 use Rattle.serde_json.specs.Written.{has_float, items_have_float}
 use Rattle.tame_names.proofs.Utf8Lemmas.{utf8_text-utf8}
-use Rattle.tame_records.specs.Checksums.{chksum_of}
 use Rattle.tame_records.specs.Dependencies.{dependency_of, dependencies_of, kind_of}
 use Rattle.tame_records.specs.Members.{lists_or_null, small_or_null, text_or_null}
 use Rattle.tame_records.specs.Record.{record_of, record_of_data, unless_float}

@@ -12,15 +12,16 @@ use std::alloc::{AllocError, Global};
 use tame_names::{Error, Items, NoMemory, Text};
 
 /// What a dependency is used for.
-#[derive(Clone, Copy, Debug, PartialEq, Eq)]
+#[derive(Clone, Copy, Debug, Default, PartialEq, Eq, Hash)]
 pub enum DependencyKind {
+    #[default]
     Normal,
     Dev,
     Build,
 }
 
 /// A dependency of a version in the index (Cargo Book, "Registry Index", JSON schema).
-#[derive(Drop)]
+#[derive(Debug, Drop, PartialEq, Eq)]
 pub struct IndexDependency {
     /// The name in the version's own manifest.
     pub name: Text,

@@ -12,7 +12,7 @@ use std::alloc::Global;
 use tame_names::{Error, FileFault, Files, IoKind, Items, ReadAnswer, split};
 
 /// The versions of a crate, in the order in which they were published.
-#[derive(Drop)]
+#[derive(Debug, Drop, PartialEq, Eq)]
 pub struct IndexKrate {
     pub versions: Items<IndexVersion>,
 }

@@ -12,7 +12,7 @@ mod versions;
 mod writing;
 
 pub use checksums::{Chksum, ChksumParseError, is_hex_text};
-pub use dependencies::{DependencyKind, IndexDependency};
+pub use dependencies::{DependencyKind, IndexDependency, is_memory};
 pub use features::FeatureIter;
 pub use krates::IndexKrate;
 pub use lines::trimmed;

@@ -16,7 +16,7 @@ use tame_names::{Items, NoMemory, Text};
 pub type FeatureMap = BTreeMap<Text, Items<Text>>;
 
 /// Features of a version. Contracts see the list of the names with their texts, in the order of the names.
-#[derive(Drop)]
+#[derive(Debug, Drop)]
 pub struct Features {
     map: FeatureMap,
 }
@@ -53,6 +53,28 @@ impl Features {
     {
         &self.map
     }
+}
+
+impl PartialEq for Features {
+    ghost use Rattle.std.specs.Prelude.{bytes_eq};
+    ghost use Rattle.std.specs.Ordering.{eq_of_both, on};
+    ghost use Rattle.std.specs.Cmp.{and_equiv, on_equiv, partial_equiv_from_equiv};
+    ghost use Rattle.std.specs.Cmp.Lexicographic.{lists_equiv, on_texts_equal, pointwise};
+
+    ghost eq = { pointwise (eq_of_both (on (λ p. p.0) bytes_eq) (on (λ p. p.1) (pointwise bytes_eq))) };
+
+    ghost laws = { partial_equiv_from_equiv (lists_equiv (and_equiv (on_texts_equal (λ p. p.0)) (on_equiv (λ p. p.1) (lists_equiv (on_texts_equal (λ t. t)))))) };
+
+    fn eq(&self, other: &Features) -> bool {
+        self.map == other.map
+    }
+}
+
+impl Eq for Features {
+    ghost use Rattle.std.specs.Cmp.{and_equiv, on_equiv};
+    ghost use Rattle.std.specs.Cmp.Lexicographic.{lists_equiv, on_texts_equal};
+
+    ghost laws = { lists_equiv (and_equiv (on_texts_equal (λ p. p.0)) (on_equiv (λ p. p.1) (lists_equiv (on_texts_equal (λ t. t))))) };
 }
 
 /// A text, or nothing where the member is null or absent.

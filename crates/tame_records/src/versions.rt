@@ -15,7 +15,7 @@ use std::alloc::{AllocError, Global};
 use tame_names::{Items, NoMemory, Text, utf8_text};
 
 /// A version of a crate in the index (Cargo Book, "Registry Index", JSON schema).
-#[derive(Drop)]
+#[derive(Debug, Drop, PartialEq, Eq)]
 pub struct IndexVersion {
     pub name: Text,
     /// The version's text; it may be no SemVer version.

@@ -4,6 +4,7 @@ pub mod Etags
 pub mod Exchanges
 pub mod Git
 pub mod Honest
+pub mod MemoryWire
 pub mod Named
 pub mod Sent
 pub mod Urls

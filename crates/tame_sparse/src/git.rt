@@ -117,7 +117,9 @@ impl GitIndex {
         // nothing without an id, or with a first name that is none
         ensures none { (result ≡ Ok None) ↔ (stored_id blob_id self.now.head ≡ None) }
         ensures nameless { (why : InvalidKrateName) → result ≡ Err (Error.InvalidKrateName why) → refusal_of (first_name krate.now.versions) ≡ Some (refusal why) }
+        ensures nameless_uncalled { (why : InvalidKrateName) → result ≡ Err (Error.InvalidKrateName why) → disk.new ≡ disk.old }
         ensures named { (kept : Kept) → result ≡ Ok (Some kept) → IsTrue (is_name (first_name krate.now.versions)) }
+        ensures failed_named { result ≡ Err (Error.Io IoKind.Failed) → IsTrue (is_name (first_name krate.now.versions)) }
         ensures uncalled { (result ≡ Ok None) ⊎ ((result ≡ Ok (Some Kept.NotStored)) ⊎ (result ≡ Err Error.NoMemory)) → disk.new ≡ disk.old }
         ensures only { IfErr result (λ e. (e ≡ Error.NoMemory) ⊎ ((e ≡ Error.Io IoKind.Failed) ⊎ ((why : InvalidKrateName) × (e ≡ Error.InvalidKrateName why)))) }
 

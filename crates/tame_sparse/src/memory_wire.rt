@@ -1,5 +1,8 @@
 //! A wire in memory.
-ghost use Rattle.std.specs.Prelude.{◌≡◌, [], ⊤, IfOk};
+ghost use Rattle.std.specs.Prelude.{◌≡◌, [], ⊤, length, IfOk};
+ghost use Rattle.tame_names.specs.Counts.{HasCause};
+ghost use Rattle.tame_sparse.specs.Exchanges.{AddsExchange};
+ghost use Rattle.tame_sparse.specs.MemoryWire.{MayAddItem, item_at};
 
 use crate::network::{Exchange, Held, Request, Wire, WireAnswer, WireFault};
 use std::alloc::Global;
@@ -92,7 +95,13 @@ impl Wire for MemWire {
         self.faults
     }
 
-    fn exchange(&mut self, alloc: Global, request: &Request) -> Result<WireAnswer, WireFault> {
+    fn exchange(&mut self, alloc: Global, request: &Request) -> Result<WireAnswer, WireFault>
+        ensures cause { HasCause WireFault.NoMemory self.old.faults self.new.faults result }
+        ensures added { AddsExchange self.old.exchanges self.new.exchanges request.now result }
+        // what is held and given is the item of the list that has the number of the call
+        ensures scripted { MayAddItem self.old.exchanges self.new.exchanges request.now (item_at self.old.script (length self.old.exchanges)) }
+        ensures script { self.new.script ≡ self.old.script }
+    {
         let path = request.path.try_clone(alloc)?;
         let named = copy_revision(alloc, &request.named)?;
         let number = self.exchanges.as_slice().len();

@@ -3,6 +3,7 @@
 
 #[cfg(test)]
 mod cached;
+pub mod computed;
 #[cfg(test)]
 mod host;
 #[cfg(test)]

@@ -1,4 +1,4 @@
-use Rattle.std.proofs.Common.{◌≡◌, ℕ, List, Ok, Err, ap, sym, ◌∙◌, refl}
+use Rattle.std.proofs.Common.{◌≡◌, ℕ, List, Result, Ok, Err, ap, sym, ◌∙◌, refl}
 use Rattle.tame_names.specs.Standing.{Standing, File}
 use Rattle.audit_core.specs.declared.auditing.AuditError.TheVariants.{Lockfile}
 use Rattle.audit_core.proofs.Exchanged.{keeps_nothing, part_none}
@@ -6,7 +6,7 @@ use Rattle.audit_core.proofs.Lists.{on_err}
 use Rattle.audit_lock.specs.Locked.{locked}
 use Rattle.audit_lock.specs.declared.lockfiles.LockfileFault.{LockfileFault}
 use Rattle.audit_lock.specs.declared.resolving.Package.{Package}
-use Rattle.audit_program.specs.Causes.{Accepts, IsText}
+use Rattle.audit_program.specs.Causes.{Accepts, AcceptsNone, IsText}
 use Rattle.audit_program.specs.Words.{command}
 use Rattle.audit_program.proofs.running.audit.Goals as goal
 
@@ -47,3 +47,19 @@ returns-in-Ok-audit_text-clause-others g c told_files told packages accepts =
 pub returns-clause-others : goal.returns-clause-others
 returns-clause-others g c told_files told packages accepts =
     c.audit_text.ensures.others told packages (rw c.as_str.ensures (one_text g.F.Files.tells told_files _ (g.F.Files.stands c.args.files.now) c.in-Ok.path.now c.in_ok-text.text packages c.in-Ok.ensures.ok c.in_ok-text.ensures.opens accepts))
+
+-- a text that is no lockfile leaves the wire and the disk uncalled, and any other would be accepted
+by_locked : (told : Type 0) (words : List (List ℕ)) (stands : List ℕ → Standing) (path text : List ℕ) (A : Type 0) (r : Result (List Package) LockfileFault) → locked text ≡ r
+    → command words ≡ Ok path → (told → IsText (stands path) text) → AcceptsNone told words stands → ((f : LockfileFault) → locked text ≡ Err f → A) → A
+by_locked told words stands path text A (Ok packages) is named read none uncalled = absurd (none packages (record { path = path; text = text; named = named; read = read; lockfile = is }))
+by_locked told words stands path text A (Err f) is named read none uncalled = uncalled f is
+
+pub returns-in-Ok-audit_text-clause-unaccepted : goal.returns-in-Ok-audit_text-clause-unaccepted
+returns-in-Ok-audit_text-clause-unaccepted g c told none =
+    by_locked g.F.Files.tells _ (g.F.Files.stands c.args.files.now) c.in-Ok.path.now c.in_ok-text.text _ (locked c.in_ok-text.text) refl c.in-Ok.ensures.ok c.in_ok-text.ensures.opens none
+    (λ f is. c.audit_text.ensures.uncalled f (rw c.as_str.ensures is))
+
+pub returns-clause-unaccepted : goal.returns-clause-unaccepted
+returns-clause-unaccepted g c told none =
+    by_locked g.F.Files.tells _ (g.F.Files.stands c.args.files.now) c.in-Ok.path.now c.in_ok-text.text _ (locked c.in_ok-text.text) refl c.in-Ok.ensures.ok c.in_ok-text.ensures.opens none
+    (λ f is. c.audit_text.ensures.uncalled f (rw c.as_str.ensures is))

@@ -1,10 +1,8 @@
 use Rattle.std.proofs.Common.{rules, ◌≡◌, true, false}
-use Rattle.std.specs.Prelude.{IfSome, None, Some}
 use Rattle.std.proofs.lemmas.List.MinMax.{ranks_by}
 use Rattle.std.specs.Ordering.{is_lt}
 use Rattle.itertools.specs.Extremes.{by_cmp, by_cmp_reversed, position_of, wins}
 use Rattle.itertools.proofs.ExtremeLemmas.{position-greatest}
-use Rattle.tame_records.specs.Highest.{NoneAbove}
 use Rattle.tame_records.proofs.Greatest.{placed}
 use Rattle.tame_records.proofs.HighestLemmas.{if_placed}
 use Rattle.tame_records.proofs.highest.last_greatest.Goals as goal

@@ -1,4 +1,4 @@
-use Rattle.std.proofs.Common.{◌≡◌, ◌++◌, take}
+use Rattle.std.proofs.Common.{◌≡◌, take}
 use Rattle.tame_records.specs.Written.{json_lines}
 use Rattle.tame_records.proofs.writing.with_lines.Given as goal
 

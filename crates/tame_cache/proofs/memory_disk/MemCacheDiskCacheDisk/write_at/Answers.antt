@@ -7,7 +7,7 @@ use Rattle.tame_cache.proofs.Record.{after_same, noted_write, whole_torn_file}
 use Rattle.tame_cache.proofs.memory_disk.MemCacheDiskCacheDisk.write_at.Goals as goal
 
 pub returns-in-Ok-clause-step : goal.returns-in-Ok-clause-step
-returns-in-Ok-clause-step c told =
+returns-in-Ok-clause-step c =
     let path = c.args.path.now in
     let piece = c.args.piece.now in
     let old = past_of path [] c.args.self.now.calls.items in
