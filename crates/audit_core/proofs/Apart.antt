@@ -1,6 +1,6 @@
 -- Distinct paths have distinct files, so what a turn leaves of its file stands at the end.
-use Rattle.std.proofs.Common.{◌≡◌, ◌≢◌, ℕ, List, [], ◌∷◌, ◌++◌, map, Bool, true, false, cond, Option, Some, None, IsTrue, refl, sym, ap, ◌∙◌, subst}
-use Rattle.std.specs.Prelude.{bytes_eq, ◌||◌}
+use Rattle.std.proofs.Common.{◌≡◌, ◌≢◌, ℕ, List, [], ◌∷◌, ◌++◌, map, Bool, true, false, cond, IsTrue, refl, sym, ap, ◌∙◌, subst}
+use Rattle.std.specs.Prelude.{bytes_eq}
 use Rattle.tame_names.specs.Names.{IsIndexPath}
 use Rattle.tame_cache.specs.Disk.{Step, reads}
 use Rattle.tame_cache.specs.Kept.{Disk}
@@ -9,12 +9,13 @@ use Rattle.tame_sparse.specs.Named.{NamesKept}
 use Rattle.tame_sparse.specs.declared.network.Exchange.{Exchange}
 use Rattle.audit_core.specs.Answers.{IsAnswer}
 use Rattle.audit_core.specs.Audits.{AreTurned}
-use Rattle.audit_core.specs.Paths.{asked_paths, default_paths, distinct_after, is_among}
+use Rattle.audit_core.specs.Paths.{distinct_after, is_among}
 use Rattle.audit_core.specs.Turns.{LeavesFile, Turned, index_file}
+use Rattle.audit_core.specs.Verdicts.{IsNotModified}
 use Rattle.audit_core.specs.declared.asking.Heard.{Heard}
-use Rattle.audit_core.specs.declared.asking.Turn.{Turn}
 use Rattle.audit_core.proofs.Lists.{bytes_same, cons_head, cons_tail, or_left, or_right, same_bytes}
-use Rattle.audit_core.proofs.Table.{among_append, or_cases}
+use Rattle.audit_core.proofs.Table.{or_cases}
+use Rattle.audit_core.proofs.TakenLemmas.{answer_moved}
 
 -- ---- distinct paths
 
@@ -151,11 +152,35 @@ turned_whole told t old new (e ∷ es) (h ∷ hs) x distinct =
       record {
         path = turn.path;
         named = turn.named t;
-        answer = turn.exchanged.answer t;
+        answer = turn.exchanged.answer (λ n. t);
         leaves = subst (λ (s : List Step). LeavesFile e.answer h.turn.disk_asked h.turn.disk_after (old f) s) (sym after) (turn.exchanged.leaves t);
       },
       paired_from old x.0 new f es hs distinct.0 (turn.exchanged.others t) (turned_whole told t x.0 new es hs x.2 distinct.1),
     )
+
+-- what was heard in a turn, over the file at the entry
+pub record IsHeardOf (told : Type 0) (old : Disk) (e : Exchange) (h : Heard) : Type 0 where
+  pub path : e.path ≡ h.turn.path
+  pub answer : (IsNotModified e.answer → told) → IsAnswer (reads (old (index_file e.path))) e.answer h.answer
+
+heard_from : (told : Type 0) (old mid : Disk) (f : List ℕ) (es : List Exchange) (hs : List Heard) → Avoids f es → (told → (q : List ℕ) → q ≢ f → mid q ≡ old q) → Paired (IsHeardOf told mid) es hs → Paired (IsHeardOf told old) es hs
+heard_from told old mid f [] [] other same x = tt
+heard_from told old mid f [] (h ∷ hs) other same x = absurd x
+heard_from told old mid f (e ∷ es) [] other same x = absurd x
+heard_from told old mid f (e ∷ es) (h ∷ hs) other same x = (
+  record {
+    path = x.0.path;
+    answer = λ t. answer_moved (reads (mid (index_file e.path))) (reads (old (index_file e.path))) e.answer h.answer (λ n. ap reads (same (t n) (index_file e.path) (λ is. other.0 (sym is)))) (x.0.answer t);
+  },
+  heard_from told old mid f es hs other.1 same x.1,
+)
+
+pub turned_heard : (told : Type 0) (old new : Disk) (es : List Exchange) (hs : List Heard) → Turned told old es hs new → Apart es → Paired (IsHeardOf told old) es hs
+turned_heard told old new [] [] x distinct = tt
+turned_heard told old new [] (h ∷ hs) x distinct = absurd x
+turned_heard told old new (e ∷ es) [] x distinct = absurd x
+turned_heard told old new (e ∷ es) (h ∷ hs) x distinct =
+    (record { path = x.1.path; answer = x.1.exchanged.answer }, heard_from told old x.0 (index_file e.path) es hs distinct.0 x.1.exchanged.others (turned_heard told x.0 new es hs x.2 distinct.1))
 
 pub all_turned : (old new : Disk) (es : List Exchange) (hs : List Heard) → Paired (IsWhole old new) es hs → AreTurned old new es (map (λ (h : Heard). h.turn) hs)
 all_turned old new [] [] x = tt

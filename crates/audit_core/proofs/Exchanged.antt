@@ -1,19 +1,21 @@
 -- One exchange, and what is kept all the time.
-use Rattle.std.proofs.Common.{◌≡◌, ◌≢◌, inl, inr, ℕ, List, [], ◌∷◌, ◌++◌, map, take, Option, Some, None, Result, Ok, Err, refl, sym, ap, ◌∙◌, subst, append_assoc}
-use Rattle.std.specs.Prelude.{IfOk, IfSome, OnOk, OnErr, IsSomeAnd}
+use Rattle.std.proofs.Common.{◌≡◌, ◌≢◌, inl, ℕ, List, [], ◌∷◌, ◌++◌, Option, Some, None, Result, Ok, Err, refl, sym, ap, ◌∙◌, subst, append_assoc}
+use Rattle.std.specs.Prelude.{IfOk, IfSome, OnOk, IsSomeAnd}
 use Rattle.std.proofs.lemmas.List.{append-nil}
 use Rattle.tame_names.specs.declared.errors.NoMemory.{NoMemory}
-use Rattle.tame_entry.specs.Held.{Maps, ServerMap, body_at}
+use Rattle.tame_entry.specs.Held.{Maps, ServerMap}
 use Rattle.tame_entry.specs.declared.revisions.OwnedRevision.{OwnedRevision}
 use Rattle.tame_cache.specs.Disk.{reads}
 use Rattle.tame_cache.specs.Kept.{Disk, IsKept, Keeps}
 use Rattle.tame_cache.proofs.KeptLemmas.{keeps_none, keeps_same, keeps_then}
+use Rattle.tame_sparse.specs.Exchanges.{crates_io_uri}
 use Rattle.tame_sparse.specs.Honest.{AreHonest, IsHonest, IsHonestAnswer, IsMapped}
 use Rattle.tame_sparse.specs.declared.network.Exchange.{Exchange}
 use Rattle.tame_sparse.specs.declared.network.Held.{Held}
 use Rattle.tame_sparse.specs.declared.network.WireAnswer.{WireAnswer}
 use Rattle.audit_core.specs.Answers.{IsAnswer}
 use Rattle.audit_core.specs.Turns.{AddsPart, IsExchanged, KeepsHonest, LeavesFile, index_file}
+use Rattle.audit_core.specs.Verdicts.{IsNotModified}
 use Rattle.audit_core.specs.declared.answers.PathAnswer.{PathAnswer}
 use Rattle.audit_core.specs.declared.answers.PathAnswer.TheVariants.{Settled}
 use Rattle.audit_core.specs.declared.verdicts.Cause.TheVariants as cause
@@ -69,15 +71,15 @@ honest_sent m p named held a mapped honest is = sent_body m p held a mapped (hon
 -- ---- one exchange
 
 pub heard_ok : (told : Type 0) (r : Result PathAnswer NoMemory) (asked after : ℕ) (old new : Disk) (before now : List Exchange) (path : List ℕ) (named : Option OwnedRevision) (e : Exchange)
-    → now ≡ before ++ e ∷ [] → e.path ≡ path → e.named ≡ named
-    → (told → IfOk r (IsAnswer (reads (old (index_file e.path))) e.answer))
+    → now ≡ before ++ e ∷ [] → e.path ≡ path → e.named ≡ named → e.url ≡ crates_io_uri e.path
+    → ((IsNotModified e.answer → told) → IfOk r (IsAnswer (reads (old (index_file e.path))) e.answer))
     → (told → OnOk r (LeavesFile e.answer asked after (old (index_file e.path)) (new (index_file e.path))))
     → (told → (q : List ℕ) → q ≢ index_file e.path → new q ≡ old q)
     → (told → (m : ServerMap) → IsHonest m e → IsKept m [] old → Keeps m [] old new)
-    → IfOk r (λ a. (x : Exchange) × (now ≡ before ++ x ∷ []) × (x.path ≡ path) × (x.named ≡ named) × IsExchanged told asked after old new x a)
-heard_ok told (Ok a) asked after old new before now path named e follows at names answer leaves others keeps =
-    (e, follows, at, names, record { answer = answer; leaves = leaves; others = others; keeps = keeps })
-heard_ok told (Err x) asked after old new before now path named e follows at names answer leaves others keeps = tt
+    → IfOk r (λ a. (x : Exchange) × (now ≡ before ++ x ∷ []) × (x.path ≡ path) × (x.named ≡ named) × (x.url ≡ crates_io_uri x.path) × IsExchanged told asked after old new x a)
+heard_ok told (Ok a) asked after old new before now path named e follows at names url answer leaves others keeps =
+    (e, follows, at, names, url, record { answer = answer; leaves = leaves; others = others; keeps = keeps })
+heard_ok told (Err x) asked after old new before now path named e follows at names url answer leaves others keeps = tt
 
 -- a failed exchange
 pub heard_none : (told : Type 0) (asked after : ℕ) (old : Disk) (e : Exchange) → e.answer ≡ None → IsExchanged told asked after old old e (Settled cause.Wire)
@@ -92,11 +94,11 @@ heard_none told asked after old e none =
     }
 
 -- an exchange of this path is a part of what is asked
-pub part_one : (path : List ℕ) (before now : List Exchange) (e : Exchange) → now ≡ before ++ e ∷ [] → e.path ≡ path → AddsPart (path ∷ []) before now
-part_one path before now e follows at = (e ∷ [], 1, follows, ap (λ (q : List ℕ). q ∷ []) at)
+pub part_one : (path : List ℕ) (before now : List Exchange) (e : Exchange) → now ≡ before ++ e ∷ [] → e.path ≡ path → e.url ≡ crates_io_uri e.path → AddsPart (path ∷ []) before now
+part_one path before now e follows at url = (e ∷ [], 1, follows, ap (λ (q : List ℕ). q ∷ []) at, (url, tt))
 
 pub part_none : (paths : List (List ℕ)) (before now : List Exchange) → now ≡ before → AddsPart paths before now
-part_none paths before now same = ([], 0, same ∙ sym (append-nil before), refl)
+part_none paths before now same = ([], 0, same ∙ sym (append-nil before), refl, tt)
 
 -- from a disk that is the same
 pub keeps_from : (before now : List Exchange) (old mid new : Disk) → ((q : List ℕ) → mid q ≡ old q) → KeepsHonest before now mid new → KeepsHonest before now old new

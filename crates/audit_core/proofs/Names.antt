@@ -1,13 +1,13 @@
 -- The names of paths are names.
 use Rattle.std.proofs.Common.{◌≡◌, ◌≢◌, ◌<◌, ℕ, zero, suc, List, [], ◌∷◌, length, get_or, map, take, Bool, true, false, cond, Option, Some, None, IsTrue, option_map, refl, sym, ap, ◌∙◌, arith}
-use Rattle.std.specs.Prelude.{bytes_eq, ◌&&◌}
+use Rattle.std.specs.Prelude.{bytes_eq, ◌&&◌, ◌||◌}
 use Rattle.std.specs.List.{list_all}
 use Rattle.tame_names.specs.Names.{is_name, path, relative_path, separator}
 use Rattle.tame_sparse.specs.declared.network.Exchange.{Exchange}
 use Rattle.tame_cache.specs.Kept.{cache_file, cache_file_of}
 use Rattle.audit_core.specs.Paths.{is_among}
-use Rattle.audit_core.specs.Turns.{AddsNamed, AddsPart, IsNoFileOf, index_file}
-use Rattle.audit_core.proofs.Lists.{bytes_same, cons_head, cons_tail, or_left, or_right, somes}
+use Rattle.audit_core.specs.Turns.{AddsNamed, AddsPart, IsFileOf, IsNoFileOf, index_file}
+use Rattle.audit_core.proofs.Lists.{bytes_same, cons_head, cons_tail, or_left, or_right, same_bytes, somes}
 use Rattle.audit_core.proofs.Steps.{map_take}
 
 has_path : (b : Bool) (q p : List ℕ) → cond b (Some q) None ≡ Some p → b ≡ true
@@ -27,7 +27,7 @@ names_valid (n ∷ names) (p ∷ paths) h =
 -- what was asked by the names of paths was a part of these paths
 pub named_part : (names paths : List (List ℕ)) (before now : List Exchange) → map path names ≡ map (λ q. Some q) paths → AddsNamed names before now → AddsPart paths before now
 named_part names paths before now named x =
-    (x.0, x.1, x.2, somes (λ (e : Exchange). e.path) x.0 (take x.1 paths) (x.3 ∙ ap (take x.1) named ∙ sym (map_take (λ q. Some q) x.1 paths)))
+    (x.0, x.1, x.2, somes (λ (e : Exchange). e.path) x.0 (take x.1 paths) (x.3 ∙ ap (take x.1) named ∙ sym (map_take (λ q. Some q) x.1 paths)), x.4)
 
 -- ---- files of names
 
@@ -56,3 +56,42 @@ no_file_of (n ∷ names) (p ∷ paths) q h other =
   where
     unsome : (a b : List ℕ) → Some a ≡ Some b → b ≡ a
     unsome a b h = cc
+
+-- ---- files of names that are asked for
+
+-- a name at a place stands among them
+pub among_at : (names : List (List ℕ)) (i : ℕ) (name : List ℕ) → i < length names → name ≡ get_or names i name → is_among name names ≡ true
+among_at [] i name low is = absurd (not_less i low)
+  where
+    not_less : (i : ℕ) → i < 0 → ⊥
+    not_less i low = omega arith
+among_at (n ∷ names) zero name low is = or_left (bytes_eq n name) (is_among name names) (ap (λ (x : List ℕ). bytes_eq x name) (sym is) ∙ bytes_same name)
+among_at (n ∷ names) (suc i) name low is = or_right (bytes_eq n name) (is_among name names) (among_at names i name (let less : i < length names = omega arith in less) is)
+
+abbrev AskedFile : List (List ℕ) → List ℕ → Type 0
+AskedFile paths q = (p : List ℕ) × IsTrue (is_among p paths) × (q ≡ index_file p)
+
+asked_case : (b : Bool) (n p name q : List ℕ) (names paths : List (List ℕ)) → bytes_eq n name ≡ b → path n ≡ Some p → (b || is_among name names) ≡ true → cache_file_of [] name ≡ Some q
+    → (is_among name names ≡ true → AskedFile paths q) → AskedFile (p ∷ paths) q
+asked_case true n p name q names paths same at among file more = (
+  p,
+  or_left (bytes_eq p p) (is_among p paths) (bytes_same p),
+  unsome (cache_file [] p) q (sym (ap (λ (o : Option (List ℕ)). option_map (cache_file []) o) (ap path (sym (same_bytes n name same)) ∙ at)) ∙ file),
+)
+  where
+    unsome : (a b : List ℕ) → Some a ≡ Some b → b ≡ a
+    unsome a b h = cc
+asked_case false n p name q names paths same at among file more =
+    let rest = more among in
+    (rest.0, or_right (bytes_eq p rest.0) (is_among rest.0 paths) rest.1, rest.2)
+
+-- the file of a name is that of its path
+asked_by : (names paths : List (List ℕ)) (name q : List ℕ) → map path names ≡ map (λ p. Some p) paths → is_among name names ≡ true → cache_file_of [] name ≡ Some q → AskedFile paths q
+asked_by [] paths name q h among file = cc
+asked_by (n ∷ names) [] name q h among file = cc
+asked_by (n ∷ names) (p ∷ paths) name q h among file =
+    asked_case (bytes_eq n name) n p name q names paths refl (cons_head (path n) (Some p) (map path names) (map (λ p. Some p) paths) h) among file
+    (λ more. asked_by names paths name q (cons_tail (path n) (Some p) (map path names) (map (λ p. Some p) paths) h) more file)
+
+pub asked_file : (names paths : List (List ℕ)) (q : List ℕ) → map path names ≡ map (λ p. Some p) paths → IsFileOf names q → (p : List ℕ) × IsTrue (is_among p paths) × (q ≡ index_file p)
+asked_file names paths q h file = asked_by names paths file.0 q h file.1 file.2

@@ -1,13 +1,12 @@
 -- Over an honest server and a kept disk, what was heard is what the server held.
-use Rattle.std.proofs.Common.{◌≡◌, ◌≢◌, ◌⊎◌, inl, inr, ℕ, List, [], ◌∷◌, ◌++◌, map, Bool, true, false, cond, Option, Some, None, Result, Ok, Err, IsTrue, refl, sym, ap, ◌∙◌, subst, arith}
+use Rattle.std.proofs.Common.{◌≡◌, ◌⊎◌, inl, inr, ℕ, List, [], ◌∷◌, Bool, true, false, cond, Option, Some, None, Result, Ok, Err, IsTrue, refl, sym, ap, ◌∙◌, subst, arith}
 use Rattle.std.specs.Prelude.{IfSome, IsSomeAnd, MatchOption, flat_map}
 use Rattle.tame_names.specs.Counts.{Rose}
-use Rattle.tame_names.specs.Names.{IsIndexPath}
 use Rattle.tame_names.specs.declared.errors.CacheError.{CacheError}
 use Rattle.tame_records.specs.Lines.{lines}
-use Rattle.tame_entry.specs.Entry.{ReadEntry, entry, lines_in, pair_bytes, pairs, read_entry}
-use Rattle.tame_entry.specs.Held.{Maps, ServerMap, body_at}
-use Rattle.tame_entry.specs.Lines.{plain, valid}
+use Rattle.tame_entry.specs.Entry.{ReadEntry, lines_in, pair_bytes, pairs, read_entry}
+use Rattle.tame_entry.specs.Held.{ServerMap, body_at}
+use Rattle.tame_entry.specs.Lines.{valid}
 use Rattle.tame_entry.specs.Revision.{EntryRevision, Http, Commit, Unknown, IsRevision, entry_text, is_honest_text, revision_text}
 use Rattle.tame_entry.specs.Says.{heads_of}
 use Rattle.tame_entry.specs.declared.revisions.OwnedRevision.{OwnedRevision}
@@ -18,20 +17,19 @@ use Rattle.tame_cache.specs.Disk.{File, reads}
 use Rattle.tame_cache.specs.Kept.{Disk, IsGood, IsGoodRead, IsGoodUnder, IsKept}
 use Rattle.tame_cache.proofs.KeptLemmas.{kept_after}
 use Rattle.tame_cache.proofs.Moments.{reads_left}
-use Rattle.tame_sparse.specs.Honest.{AreHonest, IsHonest, IsHonestAnswer, IsMapped, SaysAbsent}
-use Rattle.tame_sparse.specs.Named.{NamesKept, named, named_file, named_http, named_read}
+use Rattle.tame_sparse.specs.Honest.{AreHonest, IsHonestAnswer, IsMapped, SaysAbsent}
+use Rattle.tame_sparse.specs.Named.{named, named_file, named_http, named_read}
 use Rattle.tame_sparse.specs.declared.network.Exchange.{Exchange}
 use Rattle.tame_sparse.specs.declared.network.Held.{Held}
 use Rattle.tame_sparse.specs.declared.network.WireAnswer.{WireAnswer}
 use Rattle.tame_sparse.proofs.TrimLemmas.{honest_named}
-use Rattle.audit_core.specs.Answers.{IsAnswer, answer_of, body_answer, file_answer, read_answer, verdict_by}
-use Rattle.audit_core.specs.Turns.{AreCaused, IsCaused, Turned, index_file}
+use Rattle.audit_core.specs.Answers.{IsAnswer, body_answer, file_answer, read_answer, verdict_by}
+use Rattle.audit_core.specs.Turns.{AreCaused, Turned, index_file}
 use Rattle.audit_core.specs.Verdicts.{IsAnswerVerdict, IsVerdict, body_verdict, lines_verdict}
 use Rattle.audit_core.specs.declared.answers.PathAnswer.{PathAnswer}
 use Rattle.audit_core.specs.declared.answers.PathAnswer.TheVariants.{Settled, Lines}
 use Rattle.audit_core.specs.declared.asking.Heard.{Heard}
 use Rattle.audit_core.specs.declared.verdicts.Cause.TheVariants as cause
-use Rattle.audit_core.specs.declared.verdicts.Verdict.{Verdict}
 use Rattle.audit_core.specs.declared.verdicts.Verdict.TheVariants.{Unchecked}
 use Rattle.audit_core.proofs.Apart.{Paired}
 use Rattle.audit_core.proofs.TakenLemmas.{choose_absent, choose_other, choose_same, choose_sent}
@@ -132,11 +130,11 @@ turned_sound told t m old new (e ∷ es) [] x honest caused kept = absurd x
 turned_sound told t m old new (e ∷ es) (h ∷ hs) x honest caused kept =
     let turn = x.1 in
     let f = index_file e.path in
-    let good : IsGood m e.path (reads (old f)) = kept.all_good e.path turn.place (reads (old f)) (reads_left (old f)) in (
+    let good : IsGood m e.path (reads (old f)) = (kept e.path turn.place).all_good (reads (old f)) (reads_left (old f)) in (
       record {
         path = turn.path;
         verdict = λ version. answer_sound m e.path version (reads (old f)) e.named e.held e.answer h.answer h.turn.disk_asked h.turn.disk_after
-            good (turn.named t).else_nothing honest.0.mapped honest.0.answered (turn.exchanged.answer t) caused.0.store;
+            good (turn.named t).else_nothing honest.0.mapped honest.0.answered (turn.exchanged.answer (λ n. t)) caused.0.store;
       },
       turned_sound told t m x.0 new es hs x.2 honest.1 caused.1 (kept_after m [] old x.0 (turn.exchanged.keeps t m honest.0 kept)),
     )

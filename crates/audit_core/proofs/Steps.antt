@@ -1,5 +1,5 @@
 -- One turn more.
-use Rattle.std.proofs.Common.{◌≡◌, ◌≢◌, ℕ, zero, suc, ◌+◌, ◌<◌, List, [], ◌∷◌, ◌++◌, length, take, get_or, map, Option, Some, None, Bool, true, false, cond, IsTrue, refl, sym, ap, ◌∙◌, subst, append_assoc, arith}
+use Rattle.std.proofs.Common.{◌≡◌, ℕ, zero, suc, ◌+◌, ◌<◌, List, [], ◌∷◌, ◌++◌, length, take, get_or, map, Option, Some, Bool, true, false, refl, sym, ap, ◌∙◌, subst, append_assoc, arith}
 use Rattle.std.specs.List.{list_all}
 use Rattle.std.proofs.lemmas.List.{append-nil, map-append}
 use Rattle.std.proofs.lemmas.List.Folds.{list_all_at}
@@ -9,9 +9,9 @@ use Rattle.tame_cache.specs.Disk.{Step, reads}
 use Rattle.tame_cache.specs.Kept.{Disk}
 use Rattle.tame_cache.proofs.KeptLemmas.{keeps_same, keeps_then}
 use Rattle.tame_sparse.specs.declared.network.Exchange.{Exchange}
+use Rattle.audit_core.proofs.TakenLemmas.{answer_moved}
 use Rattle.audit_core.proofs.Lists.{cons_head, cons_tail, somes}
-use Rattle.audit_core.specs.Answers.{IsAnswer}
-use Rattle.audit_core.specs.Turns.{Adds, AddsNamed, AddsPart, AreCaused, Chains, IsExchanged, LeavesFile, Turned, index_file}
+use Rattle.audit_core.specs.Turns.{Adds, AddsNamed, AddsPart, AreAddressed, AreCaused, Chains, IsExchanged, LeavesFile, Turned, index_file}
 use Rattle.audit_core.specs.declared.answers.PathAnswer.{PathAnswer}
 use Rattle.audit_core.specs.declared.asking.Heard.{Heard}
 use Rattle.audit_core.specs.declared.asking.Turn.{Turn}
@@ -20,7 +20,7 @@ use Rattle.audit_core.specs.declared.asking.Turn.{Turn}
 
 pub exchanged_from : (told : Type 0) (asked after : ℕ) (old mid new : Disk) (e : Exchange) (a : PathAnswer) → (told → (q : List ℕ) → mid q ≡ old q) → IsExchanged told asked after mid new e a → IsExchanged told asked after old new e a
 exchanged_from told asked after old mid new e a same x = record {
-  answer = λ t. subst (λ (s : List Step). IsAnswer (reads s) e.answer a) (same t (index_file e.path)) (x.answer t);
+  answer = λ t. answer_moved (reads (mid (index_file e.path))) (reads (old (index_file e.path))) e.answer a (λ n. ap reads (same (t n) (index_file e.path))) (x.answer t);
   leaves = λ t. subst (λ (s : List Step). LeavesFile e.answer asked after s (new (index_file e.path))) (same t (index_file e.path)) (x.leaves t);
   others = λ t q other. x.others t q other ∙ same t q;
   keeps = λ t m honest kept. keeps_then m [] old mid new (keeps_same m [] old mid (same t) kept) (λ k. x.keeps t m honest k);
@@ -34,6 +34,7 @@ turned_from told old mid new (e ∷ es) (h ∷ hs) same x = (
   x.0,
   record {
     place = x.1.place;
+    url = x.1.url;
     path = x.1.path;
     named = λ t. subst (λ (s : List Step). Rattle.tame_sparse.specs.Named.NamesKept (reads s) h.turn.disk_before h.turn.disk_asked e.named) (same t (index_file e.path)) (x.1.named t);
     exchanged = exchanged_from told h.turn.disk_asked h.turn.disk_after old mid x.0 e h.answer same x.1.exchanged;
@@ -72,6 +73,16 @@ turned_paths told old new (e ∷ es) [] x = absurd x
 turned_paths told old new (e ∷ es) (h ∷ hs) x =
     ap (λ (q : List ℕ). Some q ∷ map (λ (e : Exchange). Some e.path) es) x.1.path ∙ ap (λ (qs : List (Option (List ℕ))). Some h.turn.path ∷ qs) (turned_paths told x.0 new es hs x.2)
 
+pub turned_addressed : (told : Type 0) (old new : Disk) (es : List Exchange) (hs : List Heard) → Turned told old es hs new → AreAddressed es
+turned_addressed told old new [] [] x = tt
+turned_addressed told old new [] (h ∷ hs) x = absurd x
+turned_addressed told old new (e ∷ es) [] x = absurd x
+turned_addressed told old new (e ∷ es) (h ∷ hs) x = (x.1.url, turned_addressed told x.0 new es hs x.2)
+
+both_addressed : (es fs : List Exchange) → AreAddressed es → AreAddressed fs → AreAddressed (es ++ fs)
+both_addressed [] fs h k = k
+both_addressed (e ∷ es) fs h k = (h.0, both_addressed es fs h.1 k)
+
 pub map_take : {A B : Type 0} (f : A → B) (n : ℕ) (xs : List A) → map f (take n xs) ≡ take n (map f xs)
 map_take f zero xs = refl
 map_take f (suc n) [] = refl
@@ -103,14 +114,14 @@ part_case names i name es fs (suc k) low is same more = (
 )
 
 pub AddsNamed-more : (names : List (List ℕ)) (i : ℕ) (name : List ℕ) (a b c : List Exchange) (es : List Exchange) → i < length names → name ≡ get_or names i name → b ≡ a ++ es → map (λ (e : Exchange). Some e.path) es ≡ map path (take i names)
-    → AddsNamed (name ∷ []) b c → AddsNamed names a c
-AddsNamed-more names i name a b c es low is first same k =
+    → AreAddressed es → AddsNamed (name ∷ []) b c → AddsNamed names a c
+AddsNamed-more names i name a b c es low is first same addressed k =
     let n = part_case names i name es k.0 k.1 low is same k.3 in
-    (es ++ k.0, n.0, k.2 ∙ ap (λ (xs : List Exchange). xs ++ k.0) first ∙ append_assoc a es k.0, n.1)
+    (es ++ k.0, n.0, k.2 ∙ ap (λ (xs : List Exchange). xs ++ k.0) first ∙ append_assoc a es k.0, n.1, both_addressed es k.0 addressed k.4)
 
 -- what was asked for a path is a part of what is asked by its name
 pub part_named : (name q : List ℕ) (before now : List Exchange) → path name ≡ Some q → AddsPart (q ∷ []) before now → AddsNamed (name ∷ []) before now
-part_named name q before now at k = (k.0, k.1, k.2, go k.0 k.1 k.3)
+part_named name q before now at k = (k.0, k.1, k.2, go k.0 k.1 k.3, k.4)
   where
     some : (es : List Exchange) (qs : List (List ℕ)) → map (λ (e : Exchange). e.path) es ≡ qs → map (λ (e : Exchange). Some e.path) es ≡ map (λ q. Some q) qs
     some [] [] h = refl
@@ -127,7 +138,7 @@ part_named name q before now at k = (k.0, k.1, k.2, go k.0 k.1 k.3)
 
 -- a turn that was taken
 pub Adds-named : (told : Type 0) (name : List ℕ) (h : Heard) (before now : List Exchange) (old new : Disk) → path name ≡ Some h.turn.path → Adds told before now old (h ∷ []) new → AddsNamed (name ∷ []) before now
-Adds-named told name h before now old new at x = (x.0, 1, x.1, turned_paths told old new x.0 (h ∷ []) x.2 ∙ ap (λ (o : Option (List ℕ)). o ∷ []) (sym at))
+Adds-named told name h before now old new at x = (x.0, 1, x.1, turned_paths told old new x.0 (h ∷ []) x.2 ∙ ap (λ (o : Option (List ℕ)). o ∷ []) (sym at), turned_addressed told old new x.0 (h ∷ []) x.2)
 
 -- ---- names
 
@@ -146,4 +157,4 @@ take_all (x ∷ xs) = ap (λ ys. x ∷ ys) (take_all xs)
 -- all of the paths are a part of them
 pub Adds-part : (told : Type 0) (paths : List (List ℕ)) (hs : List Heard) (before now : List Exchange) (old new : Disk) → map (λ (h : Heard). Some h.turn.path) hs ≡ map (λ q. Some q) paths → Adds told before now old hs new → AddsPart paths before now
 Adds-part told paths hs before now old new same x =
-    (x.0, length paths, x.1, somes (λ (e : Exchange). e.path) x.0 paths (turned_paths told old new x.0 hs x.2 ∙ same) ∙ sym (take_all paths))
+    (x.0, length paths, x.1, somes (λ (e : Exchange). e.path) x.0 paths (turned_paths told old new x.0 hs x.2 ∙ same) ∙ sym (take_all paths), turned_addressed told old new x.0 hs x.2)

@@ -1,5 +1,5 @@
 -- Verdicts by what was heard.
-use Rattle.std.proofs.Common.{◌≡◌, ℕ, ◌+◌, List, [], ◌∷◌, ◌++◌, map, Bool, true, false, cond, Option, Some, None, refl, sym, ap, ◌∙◌, subst}
+use Rattle.std.proofs.Common.{◌≡◌, ℕ, ◌+◌, List, [], ◌∷◌, ◌++◌, map, Bool, true, false, cond, Option, Some, None, refl, sym, ◌∙◌, subst}
 use Rattle.std.specs.Prelude.{bytes_eq, find, filter, ◌||◌}
 use Rattle.std.specs.List.{enumerate_from, cons_option}
 use Rattle.tame_names.specs.Names.{path}
@@ -11,7 +11,6 @@ use Rattle.audit_core.specs.Paths.{asked_paths, default_path, default_paths, dis
 use Rattle.audit_core.specs.Verdicts.{AreVerdicts}
 use Rattle.audit_core.specs.declared.asking.Heard.{Heard}
 use Rattle.audit_core.specs.declared.verdicts.Cause.TheVariants as cause
-use Rattle.audit_core.specs.declared.verdicts.Judged.{Judged}
 use Rattle.audit_core.specs.declared.verdicts.Verdict.{Verdict}
 use Rattle.audit_core.specs.declared.verdicts.Verdict.TheVariants.{Unchecked}
 use Rattle.audit_core.proofs.Lists.{bytes_same, get_place, or_left, or_right, same_bytes}

@@ -1,37 +1,34 @@
 -- What an index made of a response is the answer of the table.
-use Rattle.std.proofs.Common.{◌≡◌, ◌≢◌, ◌⊎◌, inl, inr, ℕ, List, [], ◌∷◌, map, Bool, true, false, cond, Option, Some, None, option_map, Result, Ok, Err, IsTrue, refl, sym, ap, ◌∙◌, subst, arith, codes}
-use Rattle.std.specs.Prelude.{◌==◌, IfOk, IfErr, IfSome, OnOk, IsSomeAnd, is_none}
+use Rattle.std.proofs.Common.{◌≡◌, ◌≢◌, ◌⊎◌, inl, inr, ℕ, List, [], ◌∷◌, map, Bool, true, false, cond, Option, Some, None, option_map, Result, Ok, Err, refl, sym, ap, ◌∙◌, subst, arith}
+use Rattle.std.specs.Prelude.{◌==◌, IfOk, IfErr, IfSome, OnOk, is_none}
 use Rattle.std.proofs.lemmas.Bool.Decides.{nat_tests}
 use Rattle.tame_names.specs.Counts.{IsQuiet}
 use Rattle.tame_names.specs.declared.errors.CacheError.{CacheError}
-use Rattle.tame_names.specs.declared.errors.Error.{Error}
 use Rattle.tame_names.specs.declared.errors.Error.TheVariants as error
 use Rattle.tame_names.specs.declared.errors.InvalidJsonLines.{InvalidJsonLines}
 use Rattle.tame_names.specs.declared.errors.IoKind.TheVariants as io_kind
 use Rattle.tame_records.specs.Lines.{lines}
-use Rattle.tame_entry.specs.Entry.{ReadEntry, entry, is_storable, pairs, read_entry, second_pieces}
+use Rattle.tame_entry.specs.Entry.{ReadEntry, read_entry, second_pieces}
+use Rattle.tame_entry.proofs.EntryLemmas.{plain_valid}
 use Rattle.tame_entry.specs.Held.{Maps, ServerMap}
 use Rattle.tame_entry.specs.JsonLines.{lines_of}
 use Rattle.tame_entry.specs.Krates.{Item, items_of_file, paired, unpaired}
-use Rattle.tame_entry.specs.Lines.{invalid, valid}
-use Rattle.tame_entry.specs.Revision.{EntryRevision, http_value}
+use Rattle.tame_entry.specs.Lines.{invalid}
+use Rattle.tame_entry.specs.Revision.{http_value}
 use Rattle.tame_entry.specs.Says.{heads_of}
 use Rattle.tame_entry.specs.declared.index_entries.IndexEntry.{IndexEntry}
 use Rattle.tame_entry.specs.declared.index_entries.IndexEntry.TheVariants.{Remote, Cache, Local}
-use Rattle.tame_entry.specs.declared.revisions.HttpRevision.{HttpRevision}
-use Rattle.tame_entry.specs.declared.revisions.OwnedRevision.{OwnedRevision}
 use Rattle.tame_cache.specs.CacheFiles.{HandsOut}
-use Rattle.tame_cache.specs.Disk.{File, Step}
-use Rattle.tame_cache.specs.Gate.{IsStored}
+use Rattle.tame_cache.specs.Disk.{File}
 use Rattle.tame_cache.specs.Kept.{Disk, cache_file_of}
-use Rattle.tame_sparse.specs.Answered.{AreSentLines, IsBodyTaken, IsHeldBody, IsStatusFault, IsTaken, IsToStore, Stores, StoresWhole, Taken, entry_of, stored_under}
+use Rattle.tame_sparse.specs.Answered.{AreSentLines, IsBodyTaken, IsHeldBody, IsStatusFault, IsTaken, IsToStore, Stores, StoresWhole, Taken, came}
 use Rattle.tame_sparse.specs.Honest.{SaysAbsent}
 use Rattle.tame_sparse.specs.declared.network.WireAnswer.{WireAnswer}
 use Rattle.tame_sparse.specs.declared.responses.Response.{Response}
 use Rattle.audit_core.specs.Answers.{IsAnswer, answer_of, body_answer, entry_answer, file_answer, items_answer, read_answer}
 use Rattle.audit_core.specs.Taken.{IsAnswerTaken}
-use Rattle.audit_core.specs.Turns.{IsToKeep, LeavesFile, sent_entry, sent_under}
-use Rattle.audit_core.specs.Verdicts.{status_says_absent}
+use Rattle.audit_core.specs.Turns.{LeavesFile}
+use Rattle.audit_core.specs.Verdicts.{IsNotModified, status_says_absent}
 use Rattle.audit_core.specs.declared.answers.PathAnswer.{PathAnswer}
 use Rattle.audit_core.specs.declared.answers.PathAnswer.TheVariants.{Settled, Lines}
 use Rattle.audit_core.specs.declared.verdicts.Cause.TheVariants as cause
@@ -185,33 +182,27 @@ taken_answer file response taken came a status body is handed h = go (kind_of ca
         inl (by_choice (other_status came.status refl (equal_or came.status 401) (λ absent. present (subst P status absent)) (λ known. sent (sym status ∙ known)) (λ known. modified (sym status ∙ known)))
         (choose_other came.status _ _ _ _ present sent modified))
 
+-- the file counts at not-modified alone
+pub answer_moved : (f g : File) (came : Option WireAnswer) (a : PathAnswer) → (IsNotModified came → f ≡ g) → IsAnswer f came a → IsAnswer g came a
+answer_moved f g None a same (inl is) = inl is
+answer_moved f g (Some w) a same (inl is) = inl (is ∙ go (kind_of w.status))
+  where
+    go : Kind w.status → answer_of (file_answer f) (Some w) ≡ answer_of (file_answer g) (Some w)
+    go (IsAbsent absent) = choose_absent w.status _ _ _ _ absent ∙ sym (choose_absent w.status _ _ _ _ absent)
+    go (IsSent sent) = choose_sent w.status _ _ _ _ sent ∙ sym (choose_sent w.status _ _ _ _ sent)
+    go (IsSame unchanged) = ap (λ x. answer_of (file_answer x) (Some w)) (same unchanged)
+    go (IsOther present sent modified) = choose_other w.status _ _ _ _ present sent modified ∙ sym (choose_other w.status _ _ _ _ present sent modified)
+answer_moved f g came a same (inr store) = inr store
+
 -- ---- what is kept of it
 
-same_under : (o : Option HttpRevision) (r : Option OwnedRevision) → option_map http_value o ≡ r → stored_under o ≡ sent_under r
-same_under None r is = ap sent_under is
-same_under (Some h) r is = ap sent_under is
+-- a response that is an answer of the wire
+pub came_is : (response : Response) (answer : WireAnswer) → response.status ≡ answer.status → option_map http_value response.revision ≡ answer.revision → response.body.now ≡ answer.body → came response ≡ answer
+came_is response answer status revision body = λ i. record { status = status i; revision = revision i; body = body i }
 
-to_store : (response : Response) (came : WireAnswer) → response.status ≡ came.status → option_map http_value response.revision ≡ came.revision → response.body.now ≡ came.body → IsToKeep came → IsToStore response true
-to_store response came status revision body keep =
-    let P : EntryRevision → List ℕ → Type 0 = λ r bytes. IsTrue (is_storable r (pairs bytes)) in
-    record {
-      sent = status ∙ keep.sent;
-      asked = refl;
-      valid = ap invalid body ∙ keep.valid;
-      storable = subst (λ (bytes : List ℕ). P (stored_under response.revision) bytes) (sym body) (subst (λ (r : EntryRevision). P r came.body) (sym (same_under response.revision came.revision revision)) keep.storable);
-    }
-
-to_keep : (response : Response) (came : WireAnswer) → response.status ≡ came.status → option_map http_value response.revision ≡ came.revision → response.body.now ≡ came.body → IsToStore response true → IsToKeep came
-to_keep response came status revision body store =
-    let P : EntryRevision → List ℕ → Type 0 = λ r bytes. IsTrue (is_storable r (pairs bytes)) in
-    record {
-      sent = sym status ∙ store.sent;
-      valid = ap invalid (sym body) ∙ store.valid;
-      storable = subst (λ (r : EntryRevision). P r came.body) (same_under response.revision came.revision revision) (subst (λ (bytes : List ℕ). P (stored_under response.revision) bytes) body store.storable);
-    }
-
-same_entry : (response : Response) (came : WireAnswer) → option_map http_value response.revision ≡ came.revision → response.body.now ≡ came.body → entry_of response ≡ sent_entry came
-same_entry response came revision body = ap (λ r. entry r (pairs response.body.now)) (same_under response.revision came.revision revision) ∙ ap (λ bytes. entry (sent_under came.revision) (pairs bytes)) body
+none_of : (o : Option InvalidJsonLines) → is_none o ≡ true → o ≡ None
+none_of None h = refl
+none_of (Some x) h = cc
 
 -- a valid body that was sent is taken, where memory didn't run out
 sent_ok : (body : List ℕ) (taken : Taken) (a : PathAnswer) {P : Type 0} → IsBodyTaken body taken → invalid body ≡ None → IsAnswerTaken taken a → OnOk taken P → P
@@ -221,25 +212,17 @@ sent_ok body (Err e) a is right h p = elim is.refused [
   | inr other ↦ absurd (cc (right, other.2))
 ]
 
-pub left_file : (name q : List ℕ) (response : Response) (taken : Taken) (came : WireAnswer) (a : PathAnswer) (asked after : ℕ) (old new : Disk)
-    → response.status ≡ came.status → option_map http_value response.revision ≡ came.revision → response.body.now ≡ came.body
-    → IsTaken response taken → IsAnswerTaken taken a → Stores [] name response true old new → (IsQuiet asked after → IsToStore response true → OnOk taken (StoresWhole [] name response new))
-    → cache_file_of [] name ≡ Some q → LeavesFile (Some came) asked after (old q) (new q)
-left_file name q response taken came a asked after old new status revision body is h stores stored place = record {
-  stored = λ keep quiet.
-      let store = to_store response came status revision body keep in
-      let whole = sent_ok response.body.now taken a (is.sent store.sent) store.valid h (stored quiet store) in
-      subst (λ (bytes : List ℕ). IsStored bytes (new q)) (same_entry response came revision body) (whole q place);
-  unstored = λ other. stores.unstored (λ store. other (to_keep response came status revision body store)) q;
-}
+pub left_file : (name q : List ℕ) (response : Response) (taken : Taken) (answer : WireAnswer) (a : PathAnswer) (asked after : ℕ) (old new : Disk) → came response ≡ answer
+    → IsTaken response taken → IsAnswerTaken taken a → Stores [] name (came response) true old new → (IsQuiet asked after → IsToStore (came response) → OnOk taken (StoresWhole [] name (came response) new))
+    → cache_file_of [] name ≡ Some q → LeavesFile (Some answer) asked after (old q) (new q)
+left_file name q response taken answer a asked after old new same is h stores stored place =
+    let P : WireAnswer → Type 0 = λ w. LeavesFile (Some w) asked after (old q) (new q) in
+    subst P same (record {
+      stored = λ store quiet. sent_ok response.body.now taken a (is.sent store.sent) (none_of (invalid response.body.now) (plain_valid response.body.now store.plain)) h (stored quiet store) q place;
+      unstored = λ other. stores.unstored other q;
+    })
 
-pub held_body : (m : ServerMap) (p : List ℕ) (response : Response) (came : WireAnswer) → response.status ≡ came.status → option_map http_value response.revision ≡ came.revision → response.body.now ≡ came.body
-    → (came.status ≡ 200 → IfSome came.revision (λ r. Maps m p r came.body)) → IsHeldBody m p response
-held_body m p response came status revision body held sent = go response.revision revision
-  where
-    go : (o : Option HttpRevision) → option_map http_value o ≡ came.revision → IfSome o (λ r. Maps m p (http_value r) response.body.now)
-    go None is = tt
-    go (Some r) is =
-        let P : Option OwnedRevision → Type 0 = λ o. IfSome o (λ r. Maps m p r came.body) in
-        let mapped : Maps m p (http_value r) came.body = subst P (sym is) (held (sym status ∙ sent)) in
-        subst (λ (bytes : List ℕ). Maps m p (http_value r) bytes) (sym body) mapped
+pub held_body : (m : ServerMap) (p : List ℕ) (response : Response) (answer : WireAnswer) → came response ≡ answer → (answer.status ≡ 200 → IfSome answer.revision (λ r. Maps m p r answer.body)) → IsHeldBody m p (came response)
+held_body m p response answer same held =
+    let P : WireAnswer → Type 0 = λ w. IsHeldBody m p w in
+    subst P (sym same) held

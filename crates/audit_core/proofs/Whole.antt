@@ -1,28 +1,25 @@
 -- The audit by its parts.
-use Rattle.std.proofs.Common.{◌≡◌, ◌≢◌, ◌⊎◌, inl, inr, ℕ, List, [], ◌∷◌, ◌++◌, map, take, Bool, true, false, cond, Option, Some, None, Result, Ok, Err, IsTrue, refl, sym, ap, ◌∙◌, subst, rules}
-use Rattle.std.specs.Prelude.{IsSomeAnd, bytes_eq, find, ◌||◌, ◌==◌}
-use Rattle.tame_names.specs.Counts.{Rose}
-use Rattle.tame_names.specs.Names.{path}
+use Rattle.std.proofs.Common.{◌≡◌, ◌⊎◌, inl, inr, ℕ, List, [], ◌∷◌, map, Bool, true, false, cond, Option, Some, None, Result, Ok, Err, refl, sym, ap, ◌∙◌, subst}
+use Rattle.std.specs.Prelude.{bytes_eq, find, ◌==◌}
 use Rattle.tame_names.specs.declared.errors.CacheError.{CacheError}
 use Rattle.tame_records.specs.Lines.{lines}
 use Rattle.tame_entry.specs.Entry.{ReadEntry, read_entry}
-use Rattle.tame_entry.specs.Held.{ServerMap}
 use Rattle.tame_entry.specs.Lines.{valid}
 use Rattle.tame_entry.specs.Says.{heads_of, said_of}
 use Rattle.tame_entry.specs.declared.said.Said.{Said}
 use Rattle.tame_entry.specs.declared.said.Said.TheVariants as says
 use Rattle.tame_cache.specs.Disk.{File, reads}
-use Rattle.tame_cache.specs.Kept.{Disk, IsKept}
+use Rattle.tame_cache.specs.Kept.{Disk}
 use Rattle.tame_sparse.specs.Honest.{AreHonest}
 use Rattle.tame_sparse.specs.declared.network.Exchange.{Exchange}
 use Rattle.tame_sparse.specs.declared.network.WireAnswer.{WireAnswer}
 use Rattle.audit_lock.specs.declared.resolving.Package.{Package}
 use Rattle.audit_core.specs.Answers.{IsAnswer, answer_of, file_answer, read_answer, verdict_by}
-use Rattle.audit_core.specs.Audits.{AddsAudit, AreTurns, Caused, HeldDecides, IsCausedAt, IsRoseFor}
+use Rattle.audit_core.specs.Audits.{AddsAudit, AreTurns, Caused, HeldDecides, IsCausedAt}
 use Rattle.audit_core.specs.Heard.{heard_judged}
-use Rattle.audit_core.specs.Paths.{asked_paths, default_paths, defaults, is_among}
-use Rattle.audit_core.specs.Turns.{Adds, AreCaused, Chains, IsCaused, Turned, index_file}
-use Rattle.audit_core.specs.Verdicts.{AreVerdicts, IsCameAt, IsCameVerdict, IsHeldAt, IsVerdict, answer_verdict, exchange_of, file_verdict, lines_verdict, read_verdict, status_says_absent, turn_of, verdict_said}
+use Rattle.audit_core.specs.Paths.{asked_paths, default_paths, defaults}
+use Rattle.audit_core.specs.Turns.{Adds, AreCaused, Chains, IsCaused, index_file}
+use Rattle.audit_core.specs.Verdicts.{AreVerdicts, IsCameAt, IsCameVerdict, IsHeldAt, IsNotModified, answer_verdict, exchange_of, file_verdict, lines_verdict, read_verdict, status_says_absent, turn_of, verdict_said}
 use Rattle.audit_core.specs.declared.answers.PathAnswer.{PathAnswer}
 use Rattle.audit_core.specs.declared.answers.PathAnswer.TheVariants.{Settled, Lines}
 use Rattle.audit_core.specs.declared.asking.Heard.{Heard}
@@ -31,11 +28,11 @@ use Rattle.audit_core.specs.declared.verdicts.Cause.TheVariants as cause
 use Rattle.audit_core.specs.declared.verdicts.Judged.{Judged}
 use Rattle.audit_core.specs.declared.verdicts.Verdict.{Verdict}
 use Rattle.audit_core.specs.declared.verdicts.Verdict.TheVariants.{Unchecked}
-use Rattle.audit_core.proofs.Apart.{IsWhole, Paired, all_turned, asked_apart, avoids_asked, turned_others, turned_whole}
+use Rattle.audit_core.proofs.Apart.{IsHeardOf, Paired, all_turned, asked_apart, avoids_asked, turned_heard, turned_others, turned_whole}
 use Rattle.audit_core.proofs.Exchanged.{cancel}
 use Rattle.audit_core.proofs.Lists.{same_bytes, somes}
 use Rattle.audit_core.proofs.Sound.{IsSound, turned_sound}
-use Rattle.audit_core.proofs.Steps.{turned_paths}
+use Rattle.audit_core.proofs.Steps.{turned_addressed, turned_paths}
 use Rattle.audit_core.proofs.Table.{all_heard, all_verdicts}
 
 -- what was heard, by the plan's paths, and the verdicts by it
@@ -133,14 +130,15 @@ audit_done told packages hs verdicts before now old new d x =
       x.1,
       record {
         asked = asked;
-        judged = λ t.
+        addressed = turned_addressed told old new x.0 hs x.2;
+        judged =
             let files : List ℕ → File = λ q. reads (old (index_file q)) in
-            let whole = turned_whole told t old new x.0 hs x.2 (asked_apart told old new x.0 hs (default_paths packages) x.2 asked) in
-            rw d.judged (all_verdicts (IsCameAt files x.0) d.paths hs d.heard (λ version. refl)
+            let heard = turned_heard told old new x.0 hs x.2 (asked_apart told old new x.0 hs (default_paths packages) x.2 asked) in
+            rw d.judged (all_verdicts (IsCameAt told files x.0) d.paths hs d.heard (λ version. refl)
             (λ q version h found.
-            let pair = found_pair (IsWhole old new) (λ e h r. r.path) q x.0 hs h whole found in
-            let P : List ℕ → Type 0 = λ p. IsCameVerdict (reads (old (index_file p))) pair.0.answer version (verdict_by h.answer version) in
-            rw pair.1 (subst P pair.2 (came_by (reads (old (index_file pair.0.path))) pair.0.answer h.answer version pair.3.answer)))
+            let pair = found_pair (IsHeardOf told old) (λ e h r. r.path) q x.0 hs h heard found in
+            let P : List ℕ → Type 0 = λ p. (IsNotModified pair.0.answer → told) → IsCameVerdict (reads (old (index_file p))) pair.0.answer version (verdict_by h.answer version) in
+            rw pair.1 (subst P pair.2 (λ n. came_by (reads (old (index_file pair.0.path))) pair.0.answer h.answer version (pair.3.answer n))))
             0 packages (all_heard hs packages (d.heard ∙ d.asked)));
         turned = λ t. all_turned old new x.0 hs (turned_whole told t old new x.0 hs x.2 (asked_apart told old new x.0 hs (default_paths packages) x.2 asked));
         others = λ t q other. turned_others told t old new q x.0 hs x.2 (avoids_asked q (asked_paths packages) x.0 asked other);

@@ -1,16 +1,16 @@
 -- What an audit asked, what it kept, and what it says of the packages.
 use Rattle.std.specs.Prelude.{◌≡◌, ◌≢◌, ℕ, List, [], ◌∷◌, ◌++◌, map, IsTrue, Option, Some, None, IsSomeAnd}
 use Rattle.tame_names.specs.Counts.{Rose}
-use Rattle.tame_names.specs.Names.{path}
 use Rattle.tame_entry.specs.Held.{ServerMap}
 use Rattle.tame_cache.specs.Disk.{reads}
+use Rattle.tame_cache.specs.Folders.{MakesOnly}
 use Rattle.tame_cache.specs.Kept.{Disk, IsKept}
 use Rattle.tame_sparse.specs.Honest.{AreHonest}
 use Rattle.tame_sparse.specs.Named.{NamesKept}
 use Rattle.tame_sparse.specs.declared.network.Exchange.{Exchange}
 use Rattle.audit_lock.specs.declared.resolving.Package.{Package}
 use Rattle.audit_core.specs.Paths.{asked_paths, defaults, is_among}
-use Rattle.audit_core.specs.Turns.{Chains, LeavesFile, index_file}
+use Rattle.audit_core.specs.Turns.{AreAddressed, Chains, LeavesFile, index_file}
 use Rattle.audit_core.specs.Verdicts.{AreVerdicts, IsCameAt, IsHeldAt, turn_of}
 use Rattle.audit_core.specs.declared.asking.Turn.{Turn}
 use Rattle.audit_core.specs.declared.verdicts.Cause.TheVariants as cause
@@ -37,10 +37,15 @@ AreTurned old new _ _ = ⊥
 abbrev pub KeepsOthers : List Package → Disk → Disk → Type 0
 KeepsOthers packages old new = (q : List ℕ) → ((p : List ℕ) → IsTrue (is_among p (asked_paths packages)) → q ≢ index_file p) → new q ≡ old q
 
--- one exchange for each path that is asked for, in their order; and a verdict for each package of the default registry, by the table over what came
+-- no folders are made but those above the files of paths that are asked for
+abbrev pub MakesAskedFolders : List Package → List (List ℕ) → List (List ℕ) → Type 0
+MakesAskedFolders packages before now = MakesOnly (λ q. (p : List ℕ) × IsTrue (is_among p (asked_paths packages)) × (q ≡ index_file p)) before now
+
+-- one exchange with the index for each path that is asked for, in their order; and a verdict for each package of the default registry, by the table over what came
 pub record IsAudit (told : Type 0) (old new : Disk) (packages : List Package) (added : List Exchange) (turns : List Turn) (verdicts : List Judged) : Type 0 where
   pub asked : map (λ e. e.path) added ≡ asked_paths packages
-  pub judged : told → AreVerdicts (IsCameAt (λ q. reads (old (index_file q))) added) (defaults packages) verdicts
+  pub addressed : AreAddressed added
+  pub judged : AreVerdicts (IsCameAt told (λ q. reads (old (index_file q))) added) (defaults packages) verdicts
   pub turned : told → AreTurned old new added turns
   pub others : told → KeepsOthers packages old new
 
@@ -69,3 +74,23 @@ IsCausedAt turns version (Some q) verdict = IsRoseFor turns q verdict
 
 abbrev pub Caused : List Package → List Turn → List Judged → Type 0
 Caused packages turns verdicts = AreVerdicts (IsCausedAt turns) (defaults packages) verdicts
+
+-- ---- what an audit says, whole
+
+-- the wire and the disk at a moment: the exchanges so far, the files, and how often each has failed
+pub record Moment : Type 0 where
+  pub exchanges : List Exchange
+  pub files : Disk
+  pub wire_faults : ℕ
+  pub disk_faults : ℕ
+
+-- what an audit of these packages says from its entry to its exit, where the wire and the disk tell it
+pub record AuditSays (wire_tells disk_tells : Type 0) (entry exit : Moment) (packages : List Package) (turns : List Turn) (verdicts : List Judged) : Type 0 where
+  -- over an honest server, and a disk that is kept for what it held, each verdict is the table's over what the server held when asked
+  pub headline : wire_tells → disk_tells → HeldDecides packages entry.exchanges exit.exchanges entry.files turns verdicts
+  -- for every server and every disk: what was asked and named, the verdicts by the table over what came, and what is kept
+  pub audited : wire_tells → AddsAudit disk_tells entry.files exit.files packages entry.exchanges exit.exchanges turns verdicts
+  -- the counts of the turns go on from the entry to the exit
+  pub counted : AreTurns packages entry.wire_faults entry.disk_faults exit.wire_faults exit.disk_faults turns
+  -- one fault licenses one turn
+  pub caused : Caused packages turns verdicts

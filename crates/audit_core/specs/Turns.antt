@@ -1,20 +1,20 @@
 -- The turns of an audit: one for each path, one exchange each, their counts chained.
-use Rattle.std.specs.Prelude.{◌≡◌, ◌≢◌, ◌≤◌, ℕ, List, [], ◌∷◌, ◌++◌, map, take, IsTrue, Option, Some, None, IfSome, IsSomeAnd}
+use Rattle.std.specs.Prelude.{◌≡◌, ◌≢◌, ◌≤◌, ℕ, List, [], ◌∷◌, ◌++◌, map, take, IsTrue, Option, Some, IfSome, IsSomeAnd}
 use Rattle.tame_names.specs.Counts.{IsQuiet, Rose}
 use Rattle.tame_names.specs.Names.{IsIndexPath, path}
-use Rattle.tame_entry.specs.Entry.{entry, is_storable, pairs}
 use Rattle.tame_entry.specs.Held.{ServerMap}
-use Rattle.tame_entry.specs.Lines.{invalid}
-use Rattle.tame_entry.specs.Revision.{EntryRevision, Http, Unknown}
-use Rattle.tame_entry.specs.declared.revisions.OwnedRevision.{OwnedRevision}
 use Rattle.tame_cache.specs.Disk.{Step, reads}
 use Rattle.tame_cache.specs.Gate.{IsStored}
 use Rattle.tame_cache.specs.Kept.{Disk, IsKept, Keeps, cache_file, cache_file_of}
+use Rattle.tame_sparse.specs.Answered.{IsToStore, entry_of}
+use Rattle.tame_sparse.specs.Exchanges.{crates_io_uri}
 use Rattle.tame_sparse.specs.Honest.{AreHonest, IsHonest}
 use Rattle.tame_sparse.specs.Named.{NamesKept}
 use Rattle.tame_sparse.specs.declared.network.Exchange.{Exchange}
 use Rattle.tame_sparse.specs.declared.network.WireAnswer.{WireAnswer}
 use Rattle.audit_core.specs.Answers.{IsAnswer}
+use Rattle.audit_core.specs.Paths.{is_among}
+use Rattle.audit_core.specs.Verdicts.{IsNotModified}
 use Rattle.audit_core.specs.declared.answers.PathAnswer.{PathAnswer}
 use Rattle.audit_core.specs.declared.answers.PathAnswer.TheVariants.{Settled}
 use Rattle.audit_core.specs.declared.asking.Heard.{Heard}
@@ -29,6 +29,10 @@ index_file p = cache_file [] p
 abbrev pub IsNoFileOf : List (List ℕ) → List ℕ → Type 0
 IsNoFileOf [] q = Unit {0}
 IsNoFileOf (name ∷ names) q = (cache_file_of [] name ≢ Some q) × IsNoFileOf names q
+
+-- this is the file of one of these names
+abbrev pub IsFileOf : List (List ℕ) → List ℕ → Type 0
+IsFileOf names q = (name : List ℕ) × IsTrue (is_among name names) × (cache_file_of [] name ≡ Some q)
 
 -- ---- counts
 
@@ -50,36 +54,30 @@ AreCaused (h ∷ hs) = IsCaused h × AreCaused hs
 
 -- ---- what a turn keeps of an answer
 
-abbrev pub sent_under : Option OwnedRevision → EntryRevision
-sent_under None = Unknown
-sent_under (Some r) = Http r
-
--- the entry of a body that was sent
-abbrev pub sent_entry : WireAnswer → List ℕ
-sent_entry a = entry (sent_under a.revision) (pairs a.body)
-
--- an answer is kept: a valid body was sent, and no zero byte stands in its entry
-pub record IsToKeep (a : WireAnswer) : Type 0 where
-  pub sent : a.status ≡ 200
-  pub valid : invalid a.body ≡ None
-  pub storable : IsTrue (is_storable (sent_under a.revision) (pairs a.body))
-
--- where the disk's count is quiet the file is the entry of an answer that is kept, and a crash leaves no other; after any other answer it is as it was
+-- where the disk's count is quiet the file is the entry of an answer that is stored, and a crash leaves no other; after any other answer it is as it was
 pub record LeavesFile (came : Option WireAnswer) (asked after : ℕ) (old new : List Step) : Type 0 where
-  pub stored : IfSome came (λ a. IsToKeep a → IsQuiet asked after → IsStored (sent_entry a) new)
-  pub unstored : ¬ (IsSomeAnd came IsToKeep) → new ≡ old
+  pub stored : IfSome came (λ a. IsToStore a → IsQuiet asked after → IsStored (entry_of a) new)
+  pub unstored : ¬ (IsSomeAnd came IsToStore) → new ≡ old
+
+-- ---- where it is asked
+
+-- each exchange is one with the index of crates.io: its url is that of the index and the path
+abbrev pub AreAddressed : List Exchange → Type 0
+AreAddressed [] = Unit {0}
+AreAddressed (e ∷ es) = (e.url ≡ crates_io_uri e.path) × AreAddressed es
 
 -- ---- turns with their exchanges, from one state of the cache's files to the next
 
 -- what an exchange does, by the disk's counts before it and after the response
 pub record IsExchanged (told : Type 0) (asked after : ℕ) (old new : Disk) (e : Exchange) (a : PathAnswer) : Type 0 where
-  pub answer : told → IsAnswer (reads (old (index_file e.path))) e.answer a
+  pub answer : (IsNotModified e.answer → told) → IsAnswer (reads (old (index_file e.path))) e.answer a
   pub leaves : told → LeavesFile e.answer asked after (old (index_file e.path)) (new (index_file e.path))
   pub others : told → (q : List ℕ) → q ≢ index_file e.path → new q ≡ old q
   pub keeps : told → (m : ServerMap) → IsHonest m e → IsKept m [] old → Keeps m [] old new
 
 pub record IsTurn (told : Type 0) (old new : Disk) (e : Exchange) (h : Heard) : Type 0 where
   pub place : IsIndexPath e.path
+  pub url : e.url ≡ crates_io_uri e.path
   pub path : e.path ≡ h.turn.path
   pub named : told → NamesKept (reads (old (index_file e.path))) h.turn.disk_before h.turn.disk_asked e.named
   pub exchanged : IsExchanged told h.turn.disk_asked h.turn.disk_after old new e h.answer
@@ -95,11 +93,11 @@ Adds told before now old hs new = (es : List Exchange) × (now ≡ before ++ es)
 
 -- exchanges for a part of these paths, from the front, follow the list
 abbrev pub AddsPart : List (List ℕ) → List Exchange → List Exchange → Type 0
-AddsPart paths before now = (es : List Exchange) × (k : ℕ) × (now ≡ before ++ es) × (map (λ e. e.path) es ≡ take k paths)
+AddsPart paths before now = (es : List Exchange) × (k : ℕ) × (now ≡ before ++ es) × (map (λ e. e.path) es ≡ take k paths) × AreAddressed es
 
 -- the same by the names of these paths
 abbrev pub AddsNamed : List (List ℕ) → List Exchange → List Exchange → Type 0
-AddsNamed names before now = (es : List Exchange) × (k : ℕ) × (now ≡ before ++ es) × (map (λ e. Some e.path) es ≡ take k (map path names))
+AddsNamed names before now = (es : List Exchange) × (k : ℕ) × (now ≡ before ++ es) × (map (λ e. Some e.path) es ≡ take k (map path names)) × AreAddressed es
 
 -- ---- kept all the time
 

@@ -87,10 +87,11 @@ exchange_of q exchanges = find (λ e. bytes_eq e.path q) exchanges
 abbrev pub turn_of : List ℕ → List Turn → Option Turn
 turn_of q turns = find (λ t. bytes_eq t.path q) turns
 
--- no path: nothing is asked; else by the exchange of the path, over what came and what a read of its file gives
-abbrev pub IsCameAt : (List ℕ → File) → List Exchange → List ℕ → Option (List ℕ) → Verdict → Type 0
-IsCameAt files exchanges version None verdict = verdict ≡ Unchecked cause.Name
-IsCameAt files exchanges version (Some q) verdict = IsSomeAnd (exchange_of q exchanges) (λ e. IsCameVerdict (files q) e.answer version verdict)
+-- no path: nothing is asked; else by the exchange of the path, over what came and, at not-modified, where the disk tells it, over what a read of its file gives
+abbrev pub IsCameAt : Type 0 → (List ℕ → File) → List Exchange → List ℕ → Option (List ℕ) → Verdict → Type 0
+IsCameAt told files exchanges version None verdict = verdict ≡ Unchecked cause.Name
+IsCameAt told files exchanges version (Some q) verdict =
+    IsSomeAnd (exchange_of q exchanges) (λ e. (IsNotModified e.answer → told) → IsCameVerdict (files q) e.answer version verdict)
 
 -- the same over what the server held
 abbrev pub IsHeldAt : List Exchange → List Turn → List ℕ → Option (List ℕ) → Verdict → Type 0

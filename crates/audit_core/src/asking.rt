@@ -1,5 +1,5 @@
 //! One turn for each path: a request, one exchange, and what is kept of the answer.
-ghost use Rattle.std.specs.Prelude.{◌≡◌, ◌≢◌, ◌∷◌, [], ◌++◌, ◌≤◌, ℕ, List, map, Some, IsTrue, IfOk, IfSome, OnOk, OnErr, option_map};
+ghost use Rattle.std.specs.Prelude.{◌≡◌, ◌≢◌, ◌∷◌, [], ◌++◌, ◌≤◌, ℕ, List, codes, map, Some, IsTrue, IfOk, IfSome, OnOk, OnErr, option_map};
 ghost use Rattle.std.specs.List.{list_all};
 ghost use Rattle.tame_names.specs.Counts.{Rose};
 ghost use Rattle.tame_names.specs.KrateNames.{text_of};
@@ -7,10 +7,12 @@ ghost use Rattle.tame_names.specs.Names.{IsIndexPath, is_name, path};
 ghost use Rattle.tame_entry.specs.Held.{Maps, ServerMap};
 ghost use Rattle.tame_entry.specs.Revision.{http_value};
 ghost use Rattle.tame_cache.specs.Disk.{reads};
+ghost use Rattle.tame_cache.specs.Folders.{MakesOnly};
 ghost use Rattle.tame_cache.specs.Kept.{IsKept, Keeps, cache_file_of};
 ghost use Rattle.tame_sparse.specs.declared.network.Exchange.{Exchange};
 ghost use Rattle.audit_core.specs.Answers.{IsAnswer};
-ghost use Rattle.audit_core.specs.Turns.{Adds, AddsNamed, AddsPart, AreCaused, Chains, IsExchanged, IsNoFileOf, KeepsHonest, LeavesFile, index_file};
+ghost use Rattle.tame_sparse.specs.Exchanges.{crates_io_uri};
+ghost use Rattle.audit_core.specs.Turns.{Adds, AddsNamed, AddsPart, AreCaused, Chains, IsExchanged, IsFileOf, IsNoFileOf, KeepsHonest, LeavesFile, index_file};
 
 use crate::answers::{PathAnswer, answer_taken};
 use crate::verdicts::Cause;
@@ -65,10 +67,11 @@ fn take_answer<D: CacheDisk>(
     answer: &WireAnswer,
 ) -> Result<PathAnswer, NoMemory>
     requires { index.now.cache.path ≡ [] }
-    ensures answer { D.tells → (q : List ℕ) → cache_file_of [] (text_of name.entry) ≡ Some q → IfOk result (IsAnswer (reads (D.past disk.old q)) (Some answer.now)) }
+    ensures answer { (answer.now.status ≡ 304 → D.tells) → (q : List ℕ) → cache_file_of [] (text_of name.entry) ≡ Some q → IfOk result (IsAnswer (reads (D.past disk.old q)) (Some answer.now)) }
     ensures leaves { D.tells → (q : List ℕ) → cache_file_of [] (text_of name.entry) ≡ Some q
         → OnOk result (LeavesFile (Some answer.now) (D.faults disk.old) (D.faults disk.new) (D.past disk.old q) (D.past disk.new q)) }
     ensures others { D.tells → (q : List ℕ) → cache_file_of [] (text_of name.entry) ≢ Some q → D.past disk.new q ≡ D.past disk.old q }
+    ensures folders { D.tells → MakesOnly (λ q. cache_file_of [] (text_of name.entry) ≡ Some q) (D.folders disk.old) (D.folders disk.new) }
     ensures kept { D.tells → (m : ServerMap) → ((p : List ℕ) → path (text_of name.entry) ≡ Some p → answer.now.status ≡ 200 → IfSome answer.now.revision (λ r. Maps m p r answer.now.body))
         → IsKept m [] (D.past disk.old) → Keeps m [] (D.past disk.old) (D.past disk.new) }
     ensures store { IfOk result (λ a. a ≡ PathAnswer.Settled Cause.Store → Rose (D.faults disk.old) (D.faults disk.new)) }
@@ -92,8 +95,9 @@ fn hear<W: Wire, D: CacheDisk>(
 ) -> Result<PathAnswer, NoMemory>
     requires root { index.now.cache.path ≡ [] }
     requires place { path (text_of name) ≡ Some request.now.path }
+    requires url { request.now.uri ≡ crates_io_uri request.now.path }
     ensures heard { W.tells → IfOk result (λ a. (e : Exchange) × (W.exchanges wire.new ≡ W.exchanges wire.old ++ e ∷ []) × (e.path ≡ request.now.path) × (e.named ≡ request.now.named)
-        × IsExchanged D.tells (D.faults disk.old) (D.faults disk.new) (D.past disk.old) (D.past disk.new) e a) }
+        × (e.url ≡ crates_io_uri e.path) × IsExchanged D.tells (D.faults disk.old) (D.faults disk.new) (D.past disk.old) (D.past disk.new) e a) }
     ensures part { W.tells → OnErr result (AddsPart (request.now.path ∷ []) (W.exchanges wire.old) (W.exchanges wire.new)) }
     ensures kept { W.tells → D.tells → KeepsHonest (W.exchanges wire.old) (W.exchanges wire.new) (D.past disk.old) (D.past disk.new) }
     ensures wire { IfOk result (λ a. a ≡ PathAnswer.Settled Cause.Wire → Rose (W.faults wire.old) (W.faults wire.new)) }
@@ -101,6 +105,7 @@ fn hear<W: Wire, D: CacheDisk>(
     ensures later_wire { W.faults wire.old ≤ W.faults wire.new }
     ensures later_disk { D.faults disk.old ≤ D.faults disk.new }
     ensures others { D.tells → (q : List ℕ) → q ≢ index_file request.now.path → D.past disk.new q ≡ D.past disk.old q }
+    ensures folders { D.tells → MakesOnly (λ q. cache_file_of [] (text_of name.entry) ≡ Some q) (D.folders disk.old) (D.folders disk.new) }
 {
     match wire.exchange(alloc, request) {
         Ok(answer) => take_answer(alloc, index, lock, disk, name, &answer),
@@ -130,6 +135,7 @@ fn take_turn<W: Wire, D: CacheDisk>(
     name: &Text,
 ) -> Result<Heard, NoMemory>
     requires root { index.now.cache.path ≡ [] }
+    requires url { index.now.url ≡ codes "sparse+https://index.crates.io/" }
     requires named { IsTrue (is_name name.now) }
     ensures path { IfOk result (λ h. path name.now ≡ Some h.turn.path) }
     ensures counts { IfOk result (λ h. Chains (W.faults wire.old) (D.faults disk.old) (h.turn ∷ []) (W.faults wire.new) (D.faults disk.new)) }
@@ -138,6 +144,7 @@ fn take_turn<W: Wire, D: CacheDisk>(
     ensures part { W.tells → OnErr result (AddsNamed (name.now ∷ []) (W.exchanges wire.old) (W.exchanges wire.new)) }
     ensures kept { W.tells → D.tells → KeepsHonest (W.exchanges wire.old) (W.exchanges wire.new) (D.past disk.old) (D.past disk.new) }
     ensures others { D.tells → (q : List ℕ) → cache_file_of [] name.now ≢ Some q → D.past disk.new q ≡ D.past disk.old q }
+    ensures folders { D.tells → MakesOnly (λ q. cache_file_of [] name.now ≡ Some q) (D.folders disk.old) (D.folders disk.new) }
 {
     let wire_before = wire.wire_faults();
     let disk_before = disk.disk_faults();
@@ -172,6 +179,7 @@ pub fn ask<W: Wire, D: CacheDisk>(
     names: &[Text],
 ) -> Result<Items<Heard>, NoMemory>
     requires root { index.now.cache.path ≡ [] }
+    requires url { index.now.url ≡ codes "sparse+https://index.crates.io/" }
     requires named { IsTrue (list_all is_name names.now) }
     ensures paths { IfOk result (λ hs. map (λ h. Some h.turn.path) hs ≡ map path names.now) }
     ensures counts { IfOk result (λ hs. Chains (W.faults wire.old) (D.faults disk.old) (map (λ h. h.turn) hs) (W.faults wire.new) (D.faults disk.new)) }
@@ -180,6 +188,7 @@ pub fn ask<W: Wire, D: CacheDisk>(
     ensures part { W.tells → OnErr result (AddsNamed names.now (W.exchanges wire.old) (W.exchanges wire.new)) }
     ensures kept { W.tells → D.tells → KeepsHonest (W.exchanges wire.old) (W.exchanges wire.new) (D.past disk.old) (D.past disk.new) }
     ensures others { D.tells → (q : List ℕ) → IsNoFileOf names.now q → D.past disk.new q ≡ D.past disk.old q }
+    ensures folders { D.tells → MakesOnly (IsFileOf names.now) (D.folders disk.old) (D.folders disk.new) }
 {
     let mut heard = Items::new(alloc);
     for name in names {

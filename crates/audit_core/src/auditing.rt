@@ -1,7 +1,7 @@
 //! The audit of a lockfile's text.
 ghost use Rattle.std.specs.Prelude.{◌≡◌, ◌≢◌, ◌≤◌, [], List, codes, map, IfOk, OnErr, Ok, Err};
 ghost use Rattle.audit_lock.specs.Locked.{locked};
-ghost use Rattle.audit_core.specs.Audits.{AddsAudit, AreTurns, Caused, HeldDecides, KeepsOthers};
+ghost use Rattle.audit_core.specs.Audits.{AuditSays, KeepsOthers, MakesAskedFolders};
 ghost use Rattle.audit_core.specs.Paths.{asked_paths};
 ghost use Rattle.audit_core.specs.Turns.{AddsPart, KeepsHonest};
 ghost use Rattle.audit_lock.specs.declared.lockfiles.LockfileFault.{LockfileFault};
@@ -83,13 +83,14 @@ fn check<W: Wire, D: CacheDisk>(
     wire: &mut W,
     disk: &mut D,
 ) -> Result<Checked, NoMemory>
-    ensures audited { W.tells → IfOk result (λ c. AddsAudit D.tells (D.past disk.old) (D.past disk.new) packages.now (W.exchanges wire.old) (W.exchanges wire.new) c.turns c.verdicts) }
-    ensures held { W.tells → D.tells → IfOk result (λ c. HeldDecides packages.now (W.exchanges wire.old) (W.exchanges wire.new) (D.past disk.old) c.turns c.verdicts) }
-    ensures turns { IfOk result (λ c. AreTurns packages.now (W.faults wire.old) (D.faults disk.old) (W.faults wire.new) (D.faults disk.new) c.turns) }
-    ensures caused { IfOk result (λ c. Caused packages.now c.turns c.verdicts) }
+    ensures says { IfOk result (λ c. AuditSays W.tells D.tells
+        (record { exchanges = W.exchanges wire.old; files = D.past disk.old; wire_faults = W.faults wire.old; disk_faults = D.faults disk.old })
+        (record { exchanges = W.exchanges wire.new; files = D.past disk.new; wire_faults = W.faults wire.new; disk_faults = D.faults disk.new })
+        packages.now c.turns c.verdicts) }
     ensures part { W.tells → OnErr result (AddsPart (asked_paths packages.now) (W.exchanges wire.old) (W.exchanges wire.new)) }
     ensures kept { W.tells → D.tells → KeepsHonest (W.exchanges wire.old) (W.exchanges wire.new) (D.past disk.old) (D.past disk.new) }
     ensures others { D.tells → KeepsOthers packages.now (D.past disk.old) (D.past disk.new) }
+    ensures folders { D.tells → MakesAskedFolders packages.now (D.folders disk.old) (D.folders disk.new) }
 {
     let index = crates_io(alloc)?;
     let plan = plan_turns(alloc, packages)?;
@@ -115,25 +116,23 @@ pub fn audit_text<W: Wire, D: CacheDisk>(
     ensures no_memory { result ≢ Err (AuditError.Lockfile LockfileFault.NoMemory) }
     ensures uncalled { (f : LockfileFault) → locked text.now ≡ Err f → (wire.new ≡ wire.old) × (disk.new ≡ disk.old) }
 
-    // over an honest server, and a disk that is kept for what it held, each verdict is the table's over what the server held when asked
-    ensures headline { W.tells → D.tells → IfOk result (λ a. HeldDecides a.lockfile (W.exchanges wire.old) (W.exchanges wire.new) (D.past disk.old) a.turns a.verdicts) }
-
-    // for every server and every disk: what was asked and named, the verdicts by the table over what came, and what is kept
-    ensures audited { W.tells → IfOk result (λ a. AddsAudit D.tells (D.past disk.old) (D.past disk.new) a.lockfile (W.exchanges wire.old) (W.exchanges wire.new) a.turns a.verdicts) }
+    // what the audit says: the headline over an honest server and a kept disk; for every server and every disk what was asked and named,
+    // the verdicts by the table over what came, and what is kept; counts that go on from the entry to the exit, where one fault licenses one turn
+    ensures says { IfOk result (λ a. AuditSays W.tells D.tells
+        (record { exchanges = W.exchanges wire.old; files = D.past disk.old; wire_faults = W.faults wire.old; disk_faults = D.faults disk.old })
+        (record { exchanges = W.exchanges wire.new; files = D.past disk.new; wire_faults = W.faults wire.new; disk_faults = D.faults disk.new })
+        a.lockfile a.turns a.verdicts) }
 
     // whatever the answer, a kept disk is kept at every moment where the exchanges were honest
     ensures kept { W.tells → D.tells → KeepsHonest (W.exchanges wire.old) (W.exchanges wire.new) (D.past disk.old) (D.past disk.new) }
-
-    // the counts of the turns go on from the call's entry to its exit, and one fault licenses one turn
-    ensures turns { IfOk result (λ a. AreTurns a.lockfile (W.faults wire.old) (D.faults disk.old) (W.faults wire.new) (D.faults disk.new) a.turns) }
-    ensures caused { IfOk result (λ a. Caused a.lockfile a.turns a.verdicts) }
 
     // where memory runs out, a part of the paths was asked for
     ensures part { W.tells → (packages : List Package) → locked text.now ≡ Ok packages
         → OnErr result (AddsPart (asked_paths packages) (W.exchanges wire.old) (W.exchanges wire.new)) }
 
-    // whatever the answer, no file changes that is that of no path that is asked for
+    // whatever the answer, no file changes that is that of no path that is asked for, and no folders are made but those above such files
     ensures others { D.tells → (packages : List Package) → locked text.now ≡ Ok packages → KeepsOthers packages (D.past disk.old) (D.past disk.new) }
+    ensures folders { D.tells → (packages : List Package) → locked text.now ≡ Ok packages → MakesAskedFolders packages (D.folders disk.old) (D.folders disk.new) }
     ensures exit { IfOk result (λ a. a.exit ≡ 0) }
 {
     let lockfile = match Lockfile::read(alloc, text) {

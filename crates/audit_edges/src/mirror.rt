@@ -1,12 +1,13 @@
 //! A folder in place of a server.
 ghost use Rattle.std.specs.Prelude.{◌≡◌, []};
 
-use crate::reading::read_file;
+use crate::below::read_below;
+use crate::reading::made;
 use std::alloc::Global;
 use std::io::{self, ErrorKind};
 use std::rt;
 use tame_entry::OwnedRevision;
-use tame_names::{Items, ReadAnswer, Text};
+use tame_names::{Items, Text};
 use tame_sparse::{Request, Wire, WireAnswer, WireFault};
 
 /// The largest file of a mirror that is sent, in bytes: 64 MiB.
@@ -14,7 +15,9 @@ pub const MIRROR_LIMIT: u64 = 67108864;
 
 /// Answers a path by the file there in a folder: 404 where it is absent, 304 where its entity
 /// tag is the named one, else 200. The tag is the text of the file with `.etag` added, without
-/// a newline at its end. It tells nothing of its exchanges.
+/// a newline at its end; where it isn't the same before and after the file is read, the exchange
+/// fails. Below the folder no link is followed, and nothing but plain files is opened. It tells
+/// nothing of its exchanges.
 #[derive(Drop)]
 pub struct MirrorWire<'a, R: rt::Files + AllocGlobal> {
     rt: &'a R,
@@ -36,27 +39,15 @@ impl<'a, R: rt::Files + AllocGlobal> MirrorWire<'a, R> {
     }
 }
 
-/// The file at a path; a file over the limit is an error.
-fn read_limited<R: rt::Files + AllocGlobal>(
-    rt: &R,
-    alloc: Global,
-    path: &str,
-) -> io::Result<Option<Vec<u8>>> {
-    match read_file(rt, alloc, path, MIRROR_LIMIT)? {
-        ReadAnswer::Absent => Ok(None),
-        ReadAnswer::Whole(bytes) => Ok(Some(bytes)),
-        ReadAnswer::Over(_) => Err(io::Error::from(ErrorKind::InvalidData)),
-    }
-}
-
 /// The entity tag of the file at a path.
 fn read_etag<R: rt::Files + AllocGlobal>(
     rt: &R,
     alloc: Global,
+    folder: &str,
     path: &str,
 ) -> io::Result<Option<Text>> {
     let tag = format!(in alloc; "{path}.etag")?;
-    let Some(bytes) = read_limited(rt, alloc, tag.as_str())? else {
+    let Some(bytes) = read_below(rt, alloc, folder, tag.as_str(), MIRROR_LIMIT)? else {
         return Ok(None);
     };
     let line = match bytes.as_slice() {
@@ -64,10 +55,7 @@ fn read_etag<R: rt::Files + AllocGlobal>(
         line => line,
     };
     match std::str::from_utf8(line) {
-        Ok(text) => match Text::of(alloc, text) {
-            Ok(text) => Ok(Some(text)),
-            Err(_) => Err(io::Error::from(ErrorKind::OutOfMemory)),
-        },
+        Ok(text) => Ok(Some(made(Text::of(alloc, text))?)),
         Err(_) => Ok(None),
     }
 }
@@ -85,15 +73,18 @@ fn answer<R: rt::Files + AllocGlobal>(
     folder: &str,
     request: &Request,
 ) -> io::Result<WireAnswer> {
-    let path = format!(in alloc; "{folder}/{}", request.path)?;
-    let Some(bytes) = read_limited(rt, alloc, path.as_str())? else {
+    let path = request.path.as_str();
+    let etag = read_etag(rt, alloc, folder, path)?;
+    let Some(bytes) = read_below(rt, alloc, folder, path, MIRROR_LIMIT)? else {
         return Ok(WireAnswer {
             status: 404,
             revision: None,
             body: Items::new(alloc),
         });
     };
-    let etag = read_etag(rt, alloc, path.as_str())?;
+    if read_etag(rt, alloc, folder, path)? != etag {
+        return Err(io::Error::from(ErrorKind::ResourceBusy));
+    }
     let is_named = is_named(&request.named, &etag);
     let revision = etag.map(OwnedRevision::Etag);
     Ok(WireAnswer {

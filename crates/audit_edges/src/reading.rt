@@ -2,25 +2,42 @@
 ghost use Rattle.std.specs.Prelude.{IfOk};
 ghost use Rattle.audit_edges.specs.Reading.{IsAbove};
 
+use crate::calls::{look_through, open};
 use std::alloc::Global;
-use std::fs;
+use std::fs::OpenOptions;
 use std::io::{self, ErrorKind, Read};
 use std::rt::Files;
-use tame_names::ReadAnswer;
+use tame_names::{NoMemory, ReadAnswer};
 
-/// Whether nothing can be at a path, by the error of a look at it.
+/// What was made, where memory sufficed.
+pub fn made<T>(made: Result<T, NoMemory>) -> io::Result<T> {
+    match made {
+        Ok(made) => Ok(made),
+        Err(NoMemory) => Err(io::Error::from(ErrorKind::OutOfMemory)),
+    }
+}
+
+/// Whether nothing can be at a path, by the error of a look at it: nothing is there, it lies
+/// below a file, or a name of it is longer than the system allows.
 pub fn is_absent(kind: ErrorKind) -> bool {
-    matches!(kind, ErrorKind::NotFound | ErrorKind::NotADirectory)
+    matches!(
+        kind,
+        ErrorKind::NotFound | ErrorKind::NotADirectory | ErrorKind::InvalidFilename
+    )
 }
 
 /// The bytes of a reader, or that they are more than the limit.
-fn read_within<R: Read>(alloc: Global, reader: &mut R, limit: u64) -> io::Result<ReadAnswer>
+pub fn read_within<R: Read>(alloc: Global, reader: &mut R, limit: u64) -> io::Result<ReadAnswer>
     ensures { IfOk result (IsAbove limit) }
 {
     let mut bytes = Vec::new(alloc);
     let mut buffer = [0u8; 8192];
     for _ in 0..u64::MAX {
-        let count = reader.read(&mut buffer)?;
+        let count = match reader.read(&mut buffer) {
+            Ok(count) => count,
+            Err(error) if error.kind() == ErrorKind::Interrupted => continue,
+            Err(error) => return Err(error),
+        };
         if count == 0 {
             return Ok(ReadAnswer::Whole(bytes));
         }
@@ -33,8 +50,15 @@ fn read_within<R: Read>(alloc: Global, reader: &mut R, limit: u64) -> io::Result
     Err(io::Error::from(ErrorKind::Other))
 }
 
-/// The file at a path. What is there and is no file can't be read; it isn't opened, since that
-/// could wait for ever.
+/// The path without slashes at its end; one that is nothing but slashes stays.
+fn without_last_slashes(path: &str) -> &str {
+    let rest = path.trim_end_matches('/');
+    if rest.is_empty() { path } else { rest }
+}
+
+/// The file at a path, where links lead. What is there and is no file can't be read; it isn't
+/// opened, since that could wait for ever. A path that ends with a slash stands for the path
+/// without it.
 pub fn read_file<R: Files + AllocGlobal>(
     rt: &R,
     alloc: Global,
@@ -43,7 +67,8 @@ pub fn read_file<R: Files + AllocGlobal>(
 ) -> io::Result<ReadAnswer>
     ensures { IfOk result (IsAbove limit) }
 {
-    let found = match fs::metadata(rt, path) {
+    let path = without_last_slashes(path);
+    let found = match look_through(rt, path) {
         Ok(found) => found,
         Err(error) => {
             return if is_absent(error.kind()) {
@@ -60,6 +85,8 @@ pub fn read_file<R: Files + AllocGlobal>(
     if len > limit {
         return Ok(ReadAnswer::Over(len));
     }
-    let mut file = fs::open(rt, path)?;
+    let mut how = OpenOptions::new();
+    how.read(true);
+    let mut file = open(rt, &how, path)?;
     read_within(alloc, &mut file, limit)
 }

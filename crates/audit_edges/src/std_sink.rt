@@ -1,8 +1,15 @@
 //! Output, over std.
 ghost use Rattle.std.specs.Prelude.{◌≡◌, []};
 
-use std::io::Write;
+use crate::calls::flush;
+use std::io::{self, Write};
 use tame_names::{Sink, SinkFault};
+
+/// Writes a piece whole.
+fn write_whole<W: Write>(writer: &mut W, piece: &[u8]) -> io::Result<()> {
+    writer.write_all(piece)?;
+    flush(writer)
+}
 
 /// An output over a writer. It tells nothing of what it holds.
 #[derive(Drop)]
@@ -33,8 +40,7 @@ impl<W: Write + Drop> Sink for StdSink<W> {
     }
 
     fn put(&mut self, piece: &[u8]) -> Result<(), SinkFault> {
-        let done = self.writer.write_all(piece);
-        if done.is_ok() && self.writer.flush().is_ok() {
+        if write_whole(&mut self.writer, piece).is_ok() {
             return Ok(());
         }
         self.faults = self.faults.saturating_add(1);

@@ -1,9 +1,5 @@
 -- What was read, in front of the reading of what is left.
-use Rattle.std.proofs.Common.{List, ◌++◌, Option, Some, None, Result, Ok, Err}
-
-abbrev pub before : {A : Type 0} → List A → Option (List A) → Option (List A)
-before xs None = None
-before xs (Some ys) = Some (xs ++ ys)
+use Rattle.std.proofs.Common.{List, ◌++◌, Result, Ok, Err}
 
 abbrev pub before_read : {A E : Type 0} → List A → Result (List A) E → Result (List A) E
 before_read xs (Ok ys) = Ok (xs ++ ys)

@@ -1,2 +1,6 @@
 pub mod Ahead
+pub mod Putting
+pub mod Reaching
+pub mod Shapes
 pub mod Steps
+pub mod Walks

@@ -5,11 +5,12 @@ use Rattle.std.specs.Option.{option_or}
 use Rattle.std.specs.List.{position_from}
 use Rattle.std.specs.Str.{bytes_eq}
 use Rattle.std.proofs.lemmas.Slice.Eq.{bytes_eq-Decides}
-use Rattle.audit_lock.specs.Answers.{and_then}
+use Rattle.toml_tables.specs.Answers.{and_then}
+use Rattle.toml_tables.proofs.Ahead.{before}
 use Rattle.audit_lock.specs.Naming.{each_place}
 use Rattle.audit_lock.specs.Locked.{resolve_from}
 use Rattle.audit_lock.specs.declared.listed.ListedPackage.{ListedPackage}
-use Rattle.audit_lock.proofs.Ahead.{before, before_read}
+use Rattle.audit_lock.proofs.Ahead.{before_read}
 
 -- the item at a place stands in front of what is left behind it
 pub drop_at : {A : Type 0} (xs : List A) (i : ℕ) (x : A) → i < length xs → x ≡ get_or xs i x → drop i xs ≡ x ∷ drop (suc i) xs

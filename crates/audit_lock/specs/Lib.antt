@@ -1,6 +1,9 @@
-pub mod Answers
 pub mod Defaults
-pub mod Floats
 pub mod Listed
 pub mod Locked
 pub mod Naming
+pub mod Parents
+pub mod Putting
+pub mod Rendering
+pub mod Shape
+pub mod Walking

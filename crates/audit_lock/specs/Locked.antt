@@ -1,9 +1,10 @@
 -- The packages of a lockfile, or the first rule that it breaks.
-use Rattle.std.specs.Prelude.{ℕ, suc, codes, List, [], ◌∷◌, ◌++◌, length, Bool, true, false, ◌&&◌, nat_le, Option, Some, None, if◌then◌else◌, Result, Ok, Err, pos}
-use Rattle.toml.specs.Data.{Data, integer, array, table, Items, no_items, item, Members, get_member}
+use Rattle.std.specs.Prelude.{ℕ, suc, codes, List, [], ◌∷◌, ◌++◌, length, Bool, true, false, ◌&&◌, nat_le, Option, Some, None, if◌then◌else◌, Result, Ok, Err}
+use Rattle.toml.specs.Data.{Data, array, table, Items, no_items, item, Members, get_member}
 use Rattle.toml.specs.Parse.{parse_document}
-use Rattle.audit_lock.specs.Answers.{and_then, or_fault}
-use Rattle.audit_lock.specs.Floats.{members_have_float}
+use Rattle.toml_tables.specs.Answers.{and_then, or_fault}
+use Rattle.toml_tables.specs.Floats.{members_have_float}
+use Rattle.toml_tables.specs.Members.{natural, optional}
 use Rattle.audit_lock.specs.Listed.{listed_of}
 use Rattle.audit_lock.specs.Naming.{each_place}
 pub use Rattle.audit_lock.specs.Naming.{place_of}
@@ -14,11 +15,14 @@ use Rattle.audit_lock.specs.declared.lockfiles.LockfileFault.{LockfileFault}
 use Rattle.audit_lock.specs.declared.lockfiles.LockfileFault.TheVariants as fault
 use Rattle.audit_lock.specs.declared.resolving.Package.{Package}
 
--- absent, or 1 to 4
+-- absent, or 1 to 4; another value has no number
+abbrev pub is_known : Option (Option ℕ) → Bool
+is_known None = false
+is_known (Some None) = true
+is_known (Some (Some n)) = nat_le 1 n && nat_le n 4
+
 abbrev pub is_version : Option Data → Bool
-is_version None = true
-is_version (Some (integer (pos n))) = nat_le 1 n && nat_le n 4
-is_version (Some _) = false
+is_version m = is_known (optional natural m)
 
 abbrev pub all_tables : Items → Bool
 all_tables no_items = true

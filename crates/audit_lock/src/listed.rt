@@ -1,14 +1,16 @@
 //! Packages as a lockfile lists them.
-ghost use Rattle.std.specs.Prelude.{◌≡◌, ◌≢◌, ◌↔◌, IsTrue, nat_eq, option_map, IfOk, IfErr, IfSome, Ok, Err};
+ghost use Rattle.std.specs.Prelude.{◌≡◌, ◌↔◌, IsTrue, nat_eq, option_map, IfOk, IfErr, IfSome, Ok, Err};
 ghost use Rattle.std.specs.List.{starts_with};
 ghost use Rattle.semver.specs.Parse.{memory_error};
-ghost use Rattle.toml.specs.View.{view, items_view};
-ghost use Rattle.audit_lock.specs.Listed.{has_source_kind, listed_of, rule_of, source_of, text_or_absent, texts_of, texts_or_absent, version_of};
+ghost use Rattle.toml.specs.View.{view};
+ghost use Rattle.toml_tables.specs.Members.{optional};
+ghost use Rattle.audit_lock.specs.Listed.{as_source, has_source_kind, listed_of, rule_of, version_of};
 
 use semver::Version;
 use std::alloc::{AllocError, Global};
 use tame_names::{Items, NoMemory, Text};
 use toml::Value;
+use toml_tables::{optional_text, optional_texts, required_text};
 
 /// What a lockfile has to keep, besides being TOML without floats.
 #[derive(Clone, Copy, Debug, PartialEq, Eq)]
@@ -95,21 +97,9 @@ fn has_source_kind(text: &str) -> bool
         || begins_with(text, "directory+")
 }
 
-/// A text, or nothing where the member is absent.
-fn text_or_absent<'a>(member: Option<&'a Value>) -> Option<Option<&'a str>>
-    ensures { option_map (option_map (λ s. s.now)) result
-        ≡ text_or_absent (option_map (λ v. view v.now) member.entry) }
-{
-    match member {
-        None => Some(None),
-        Some(Value::String(text)) => Some(Some(text.as_str())),
-        Some(_) => None,
-    }
-}
-
 fn source_of<'a>(member: Option<&'a Value>) -> Option<Option<&'a str>>
     ensures { option_map (option_map (λ s. s.now)) result
-        ≡ source_of (option_map (λ v. view v.now) member.entry) }
+        ≡ optional as_source (option_map (λ v. view v.now) member.entry) }
 {
     match member {
         None => Some(None),
@@ -122,7 +112,7 @@ fn version_of<'a>(alloc: Global, member: Option<&'a Value>) -> Result<Option<&'a
     ensures { IfOk result (λ o. option_map (λ s. s.now) o
         ≡ version_of (option_map (λ v. view v.now) member.entry)) }
 {
-    let Some(text) = member.and_then(Value::as_str) else {
+    let Some(text) = required_text(member) else {
         return Ok(None);
     };
     match Version::parse(alloc, text) {
@@ -137,37 +127,12 @@ fn version_of<'a>(alloc: Global, member: Option<&'a Value>) -> Result<Option<&'a
     }
 }
 
-fn texts_of(alloc: Global, items: &[Value]) -> Result<Option<Items<Text>>, NoMemory>
-    ensures { IfOk result (λ texts. texts ≡ texts_of (items_view items.now)) }
-{
-    let mut texts = Items::new(alloc);
-    for item in items {
-        let Some(text) = item.as_str() else {
-            return Ok(None);
-        };
-        texts.add(Text::of(alloc, text)?)?;
-    }
-    Ok(Some(texts))
-}
-
-/// An array of texts; empty where the member is absent.
-fn texts_or_absent(alloc: Global, member: Option<&Value>) -> Result<Option<Items<Text>>, NoMemory>
-    ensures { IfOk result (λ texts. texts
-        ≡ texts_or_absent (option_map (λ v. view v.now) member.entry)) }
-{
-    match member {
-        None => Ok(Some(Items::new(alloc))),
-        Some(Value::Array(items)) => texts_of(alloc, items),
-        Some(_) => Ok(None),
-    }
-}
-
 /// The package that a table is, or the first rule that it breaks.
 pub fn read_listed(alloc: Global, value: &Value) -> Result<ListedPackage, ListingFault>
     ensures ok { IfOk result (λ p. listed_of (view value.now) ≡ Ok p) }
     ensures refused { IfErr result (λ e. IfSome (rule_of e) (λ r. listed_of (view value.now) ≡ Err r)) }
 {
-    let Some(name) = value.get("name").and_then(Value::as_str) else {
+    let Some(name) = required_text(value.get("name")) else {
         return Err(ListingFault::Rule(LockRule::Name));
     };
     let Some(version) = version_of(alloc, value.get("version"))? else {
@@ -176,13 +141,13 @@ pub fn read_listed(alloc: Global, value: &Value) -> Result<ListedPackage, Listin
     let Some(source) = source_of(value.get("source")) else {
         return Err(ListingFault::Rule(LockRule::Source));
     };
-    let Some(checksum) = text_or_absent(value.get("checksum")) else {
+    let Some(checksum) = optional_text(value.get("checksum")) else {
         return Err(ListingFault::Rule(LockRule::Checksum));
     };
-    if text_or_absent(value.get("replace")).is_none() {
+    if optional_text(value.get("replace")).is_none() {
         return Err(ListingFault::Rule(LockRule::Replace));
     }
-    let Some(dependencies) = texts_or_absent(alloc, value.get("dependencies"))? else {
+    let Some(dependencies) = optional_texts(alloc, value.get("dependencies"))? else {
         return Err(ListingFault::Rule(LockRule::Dependencies));
     };
     Ok(ListedPackage {

@@ -1,22 +1,21 @@
 //! A lockfile as a whole.
 ghost use Rattle.std.specs.Prelude.{◌≡◌, ◌≢◌, List, option_map, IfOk, IfErr, Ok, Err, Some, None};
-ghost use Rattle.toml.specs.Data.{get_member};
 ghost use Rattle.toml.specs.View.{view, table_view, items_view};
 ghost use Rattle.toml.specs.Parse.{parse_document};
 ghost use Rattle.audit_lock.specs.Defaults.{is_default_registry};
-ghost use Rattle.audit_lock.specs.Answers.{and_then};
+ghost use Rattle.toml_tables.specs.Answers.{and_then};
 ghost use Rattle.audit_lock.specs.Listed.{listed_of};
 ghost use Rattle.audit_lock.specs.declared.lockfiles.LockfileFault.TheVariants as fault;
 ghost use Rattle.audit_lock.specs.Locked.{all_tables, at_place, is_version, listed_from, listed_table, locked, package_items, root_table, with_root};
 ghost use Rattle.audit_lock.specs.declared.resolving.Package.{Package};
 
-use crate::floats::table_has_float;
 use crate::listed::{ListedPackage, ListingFault, LockRule, read_listed};
 use crate::resolving::{Package, resolve};
 use std::alloc::Global;
 use std::marker::Model;
 use tame_names::{Items, NoMemory};
 use toml::{Table, Value};
+use toml_tables::{TableFault, member, optional_number, parse_table, table_has_float};
 
 /// Why a text is no lockfile. Packages count from 0, `[root]` last.
 #[derive(Clone, Copy, Debug, PartialEq, Eq)]
@@ -55,20 +54,13 @@ impl Model for Lockfile {
     ghost view = { λ l. l.packages };
 }
 
-/// The value at a key.
-fn member<'a>(table: &'a Table, key: &str) -> Option<&'a Value>
-    ensures { option_map (λ v. view v.now) result ≡ get_member key.now (table_view table.now) }
-{
-    table.get(key)
-}
-
 fn is_version(member: Option<&Value>) -> bool
     ensures { result ≡ is_version (option_map (λ v. view v.now) member.entry) }
 {
-    match member {
-        None => true,
-        Some(Value::Integer(version)) => 1 <= *version && *version <= 4,
-        Some(_) => false,
+    match optional_number(member) {
+        None => false,
+        Some(None) => true,
+        Some(Some(version)) => 1 <= version && version <= 4,
     }
 }
 
@@ -209,15 +201,10 @@ fn parse(alloc: Global, text: &str) -> Result<Table, LockfileFault>
     ensures ok { IfOk result (λ table. parse_document text.now ≡ Some (table_view table)) }
     ensures refused { IfErr result (λ e. e ≢ LockfileFault.NoMemory → (e ≡ LockfileFault.Toml) × (parse_document text.now ≡ None)) }
 {
-    match toml::table_from_str(alloc, text) {
+    match parse_table(alloc, text) {
         Ok(table) => Ok(table),
-        Err(error) => {
-            if error.is_memory() {
-                Err(LockfileFault::NoMemory)
-            } else {
-                Err(LockfileFault::Toml)
-            }
-        }
+        Err(TableFault::Toml) => Err(LockfileFault::Toml),
+        Err(TableFault::NoMemory) => Err(LockfileFault::NoMemory),
     }
 }
 

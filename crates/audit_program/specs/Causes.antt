@@ -20,9 +20,9 @@ pub record IsText (standing : Standing) (text : List ℕ) : Type 0 where
   pub within : length text ≤ limit
   pub utf8 : IsTrue (is_utf8 text)
 
--- a file of at least this many bytes, which are too many
+-- a file of this many bytes, which are too many
 abbrev pub IsOver : Standing → ℕ → Type 0
-IsOver standing len = (bytes : List ℕ) × (standing ≡ File bytes) × (len ≤ length bytes)
+IsOver standing len = (bytes : List ℕ) × (standing ≡ File bytes) × (len ≡ length bytes)
 
 abbrev pub IsNotUtf8 : Standing → Type 0
 IsNotUtf8 standing = (bytes : List ℕ) × (standing ≡ File bytes) × (length bytes ≤ limit) × (is_utf8 bytes ≡ false)

@@ -1,5 +1,5 @@
 //! The lockfile's text.
-ghost use Rattle.std.specs.Prelude.{◌≡◌, ◌≤◌, ◌++◌, ◌∷◌, [], ℕ, List, Ok, Err, Some, IfOk, IfErr, None, ◌⊎◌, option_map};
+ghost use Rattle.std.specs.Prelude.{◌≡◌, ◌≢◌, ◌≤◌, ◌++◌, ◌∷◌, [], ℕ, List, Ok, Err, Some, IfOk, IfErr, None, ◌⊎◌, option_map};
 ghost use Rattle.tame_names.specs.Counts.{Rose};
 ghost use Rattle.tame_names.specs.declared.host.FailedCall.{FailedCall};
 ghost use Rattle.audit_program.specs.Causes.{Opens};
@@ -37,6 +37,7 @@ pub fn read_lockfile<F: Files>(alloc: Global, files: &mut F, path: &str) -> Resu
     ensures rose { (p : List ℕ) → result ≡ Err (RunFault.File p) → Rose (F.faults files.old) (F.faults files.new) }
     ensures failed { F.tells → (p : List ℕ) → result ≡ Err (RunFault.File p)
         → F.failed files.new ≡ F.failed files.old ++ record { call = FileCall.Read; path = Some p } ∷ [] }
+    ensures unfailed { F.tells → ((p : List ℕ) → result ≢ Err (RunFault.File p)) → F.failed files.new ≡ F.failed files.old }
     ensures same { F.tells → (p : List ℕ) → F.stands files.new p ≡ F.stands files.old p }
 {
     let copy = copy_path(alloc, path)?;

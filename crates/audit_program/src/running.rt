@@ -5,7 +5,7 @@ ghost use Rattle.tame_names.specs.Output.{AddsPrefix};
 ghost use Rattle.tame_names.specs.declared.host.FailedCall.{FailedCall};
 ghost use Rattle.tame_names.specs.declared.host.FileCall.TheVariants as FileCall;
 ghost use Rattle.audit_lock.specs.declared.resolving.Package.{Package};
-ghost use Rattle.audit_core.specs.Audits.{AddsAudit, AreTurns, Caused, HeldDecides, KeepsOthers};
+ghost use Rattle.audit_core.specs.Audits.{AuditSays, KeepsOthers, MakesAskedFolders};
 ghost use Rattle.audit_core.specs.Paths.{asked_paths};
 ghost use Rattle.audit_core.specs.Turns.{AddsPart, KeepsHonest};
 ghost use Rattle.audit_program.specs.Causes.{Accepts, AcceptsNone, CauseOf, IsComplete, IsPrintFault, fault_status, is_early};
@@ -34,7 +34,7 @@ pub enum RunFault {
     Missing { path: Text },
     /// The file isn't UTF-8.
     NotUtf8 { path: Text },
-    /// The file has this number of bytes or more, which is too many.
+    /// The file has this number of bytes, which is too many.
     TooLarge { path: Text, len: u64 },
     /// The file couldn't be read.
     File { path: Text },
@@ -78,20 +78,23 @@ fn audit<F: Files, W: Wire, D: CacheDisk>(
     ensures rose { (p : List ℕ) → result ≡ Err (RunFault.File p) → Rose (F.faults files.old) (F.faults files.new) }
     ensures failed { F.tells → (p : List ℕ) → result ≡ Err (RunFault.File p)
         → F.failed files.new ≡ F.failed files.old ++ record { call = FileCall.Read; path = Some p } ∷ [] }
+    ensures unfailed { F.tells → ((p : List ℕ) → result ≢ Err (RunFault.File p)) → F.failed files.new ≡ F.failed files.old }
     ensures files_same { F.tells → (p : List ℕ) → F.stands files.new p ≡ F.stands files.old p }
     ensures usage { (place : ℕ) → command (map string_bytes words.now) ≡ Err place → result ≡ Err (RunFault.Usage place) }
     ensures no_print { result ≢ Err RunFault.Print }
-    ensures audited { W.tells → IfOk result (λ a. AddsAudit D.tells (D.past disk.old) (D.past disk.new) a.lockfile (W.exchanges wire.old) (W.exchanges wire.new) a.turns a.verdicts) }
-    ensures headline { W.tells → D.tells → IfOk result (λ a. HeldDecides a.lockfile (W.exchanges wire.old) (W.exchanges wire.new) (D.past disk.old) a.turns a.verdicts) }
+    ensures says { IfOk result (λ a. AuditSays W.tells D.tells
+        (record { exchanges = W.exchanges wire.old; files = D.past disk.old; wire_faults = W.faults wire.old; disk_faults = D.faults disk.old })
+        (record { exchanges = W.exchanges wire.new; files = D.past disk.new; wire_faults = W.faults wire.new; disk_faults = D.faults disk.new })
+        a.lockfile a.turns a.verdicts) }
     ensures kept { W.tells → D.tells → KeepsHonest (W.exchanges wire.old) (W.exchanges wire.new) (D.past disk.old) (D.past disk.new) }
-    ensures turns { IfOk result (λ a. AreTurns a.lockfile (W.faults wire.old) (D.faults disk.old) (W.faults wire.new) (D.faults disk.new) a.turns) }
-    ensures caused { IfOk result (λ a. Caused a.lockfile a.turns a.verdicts) }
     ensures unasked { IfErr result (λ f. IsTrue (is_early f) → (wire.new ≡ wire.old) × (disk.new ≡ disk.old)) }
     ensures unaccepted { F.tells → AcceptsNone F.tells (map string_bytes words.now) (F.stands files.old) → (wire.new ≡ wire.old) × (disk.new ≡ disk.old) }
     ensures part { F.tells → W.tells → (packages : List Package) → Accepts F.tells (map string_bytes words.now) (F.stands files.old) packages
         → OnErr result (AddsPart (asked_paths packages) (W.exchanges wire.old) (W.exchanges wire.new)) }
     ensures others { F.tells → D.tells → (packages : List Package) → Accepts F.tells (map string_bytes words.now) (F.stands files.old) packages
         → KeepsOthers packages (D.past disk.old) (D.past disk.new) }
+    ensures folders { F.tells → D.tells → (packages : List Package) → Accepts F.tells (map string_bytes words.now) (F.stands files.old) packages
+        → MakesAskedFolders packages (D.folders disk.old) (D.folders disk.new) }
     ensures exit { IfOk result (λ a. a.exit ≡ 0) }
 {
     let path = match read_words(words) {
@@ -151,18 +154,20 @@ pub fn run<F: Files, W: Wire, D: CacheDisk, O: Sink, E: Sink>(
     ensures file_rose { (p : List ℕ) → result.fault ≡ Some (RunFault.File p) → Rose (F.faults files.old) (F.faults files.new) }
     ensures file_failed { F.tells → (p : List ℕ) → result.fault ≡ Some (RunFault.File p)
         → F.failed files.new ≡ F.failed files.old ++ record { call = FileCall.Read; path = Some p } ∷ [] }
+    // no other call on the files of the host failed
+    ensures unfailed { F.tells → ((p : List ℕ) → result.fault ≢ Some (RunFault.File p)) → F.failed files.new ≡ F.failed files.old }
     ensures print_rose { result.fault ≡ Some RunFault.Print → Rose (O.faults out.old) (O.faults out.new) }
 
     // a lockfile that is accepted is audited and printed, where neither the files nor the output fail
     ensures complete { F.tells → (packages : List Package) → Accepts F.tells (map string_bytes words.now) (F.stands files.old) packages
         → IsQuiet (F.faults files.old) (F.faults files.new) → IsQuiet (O.faults out.old) (O.faults out.new) → IsComplete result.fault }
 
-    // which lockfile an audit is of, what it asked, and what it says
+    // which lockfile an audit is of, and what it says of it: the headline, what was asked and named, the verdicts, what is kept, and its causes
     ensures accepted { IfSome result.audited (λ a. Accepts F.tells (map string_bytes words.now) (F.stands files.old) a.lockfile) }
-    ensures headline { W.tells → D.tells → IfSome result.audited (λ a. HeldDecides a.lockfile (W.exchanges wire.old) (W.exchanges wire.new) (D.past disk.old) a.turns a.verdicts) }
-    ensures audited { W.tells → IfSome result.audited (λ a. AddsAudit D.tells (D.past disk.old) (D.past disk.new) a.lockfile (W.exchanges wire.old) (W.exchanges wire.new) a.turns a.verdicts) }
-    ensures turns { IfSome result.audited (λ a. AreTurns a.lockfile (W.faults wire.old) (D.faults disk.old) (W.faults wire.new) (D.faults disk.new) a.turns) }
-    ensures caused { IfSome result.audited (λ a. Caused a.lockfile a.turns a.verdicts) }
+    ensures says { IfSome result.audited (λ a. AuditSays W.tells D.tells
+        (record { exchanges = W.exchanges wire.old; files = D.past disk.old; wire_faults = W.faults wire.old; disk_faults = D.faults disk.old })
+        (record { exchanges = W.exchanges wire.new; files = D.past disk.new; wire_faults = W.faults wire.new; disk_faults = D.faults disk.new })
+        a.lockfile a.turns a.verdicts) }
 
     // however the run ends, a kept disk is kept at every moment where the exchanges were honest
     ensures kept { W.tells → D.tells → KeepsHonest (W.exchanges wire.old) (W.exchanges wire.new) (D.past disk.old) (D.past disk.new) }
@@ -173,9 +178,11 @@ pub fn run<F: Files, W: Wire, D: CacheDisk, O: Sink, E: Sink>(
     ensures asked_part { F.tells → W.tells → (packages : List Package) → Accepts F.tells (map string_bytes words.now) (F.stands files.old) packages
         → IfNone result.audited (AddsPart (asked_paths packages) (W.exchanges wire.old) (W.exchanges wire.new)) }
 
-    // however the run ends, no file of the cache changes that is that of no path that is asked for
+    // however the run ends, no file of the cache changes that is that of no path that is asked for, and no folders are made but those above such files
     ensures others { F.tells → D.tells → (packages : List Package) → Accepts F.tells (map string_bytes words.now) (F.stands files.old) packages
         → KeepsOthers packages (D.past disk.old) (D.past disk.new) }
+    ensures folders { F.tells → D.tells → (packages : List Package) → Accepts F.tells (map string_bytes words.now) (F.stands files.old) packages
+        → MakesAskedFolders packages (D.folders disk.old) (D.folders disk.new) }
 
     // what is printed: the verdict lines, a part of them from the front, or nothing
     ensures printed { O.tells → result.fault ≡ None → IfSome result.audited (λ a. O.holds out.new ≡ O.holds out.old ++ verdict_lines a.lockfile a.verdicts) }

@@ -1,217 +1,206 @@
-//! Entries as bytes. The values come from the built Rust crates.
-use crate::lines::body;
-use std::test::Fail;
-use tame_entry::{
-    CacheWrite, GitRevision, HttpRevision, IndexEntry, IndexEntryVersion, JsonLines, LockedMmap,
-    Revision, Sha1Hex, ValidCacheEntry, entries_read_back,
-};
-use tame_names::{CacheError, FileLock, Items, MemSink};
+//! Entries as bytes.
+use crate::revisions::revision_of;
+use crate::sources::{Source, written};
+use row_fixtures::{RevisionWord, Row, RowFault, body_of, entry_of, shown};
+use std::alloc::{AllocError, Global};
+use tame_entry::{CacheWrite, IndexEntry, JsonLines, Revision, ValidCacheEntry};
+use tame_names::{FileLock, Items, MemSink};
 use tame_records::{IndexKrate, IndexVersion};
 
-const LINE: &[u8] = b"{\"name\":\"a\",\"vers\":\"0.1.0\",\"yanked\":false}";
-
-#[test]
-fn written(rt: HostRuntime) -> Result<(), Fail> {
-    let alloc = rt.alloc();
-    entries_read_back();
-    let written = CacheWrite::Remote(JsonLines::validate(LINE)?);
-    let revision = Revision::Http(HttpRevision::Etag("x"));
-    let mut sink = MemSink::new(alloc, Items::new(alloc));
-    assert_eq!(rt; written.write_cache_entry(alloc, &mut sink, &revision)?, 62);
-    assert_eq!(rt; written.entry_len(alloc, &revision)?, 62);
-    let want =
-        b"\x03\x02\x00\x00\x00etag: x\x000.1.0\x00{\"name\":\"a\",\"vers\":\"0.1.0\",\"yanked\":false}\x00";
-    assert!(rt; sink.bytes() == want.as_slice());
-    let Ok(entry) = ValidCacheEntry::read(sink.bytes()) else {
-        return Err(Fail::from("not read"));
-    };
-    assert!(rt; entry.revision == revision);
-    assert_eq!(rt; entry.version_entries.len(), 49);
-    Ok(())
-}
-
-fn refusal(bytes: &[u8]) -> Option<CacheError> {
-    match ValidCacheEntry::read(bytes) {
-        Ok(_) => None,
-        Err(error) => Some(error),
-    }
-}
-
-#[test]
-fn refused(rt: HostRuntime) -> Result<(), Fail> {
-    let cases: [(&[u8], Option<CacheError>); 14] = [
-        (b"", Some(CacheError::InvalidCacheEntry)),
-        (b"\x02", Some(CacheError::OutdatedCacheVersion)),
-        (b"\x04", Some(CacheError::UnknownCacheVersion)),
-        (b"\x03\x02\x00\x00", Some(CacheError::InvalidCacheEntry)),
-        (
-            b"\x03\x03\x00\x00\x00",
-            Some(CacheError::UnknownIndexVersion),
-        ),
-        (b"\x03\x02\x00\x00\x00", Some(CacheError::InvalidCacheEntry)),
-        (
-            b"\x03\x02\x00\x00\x00\xff\x00v\x00{}\x00",
-            Some(CacheError::OutdatedRevision),
-        ),
-        (
-            b"\x03\x02\x00\x00\x00foo: x\x00v\x00{}\x00",
-            Some(CacheError::InvalidCacheEntry),
-        ),
-        (
-            b"\x03\x02\x00\x00\x00etag:x\x00v\x00{}\x00",
-            Some(CacheError::InvalidCacheEntry),
-        ),
-        (
-            b"\x03\x02\x00\x00\x00Unknown\x00v\x00",
-            Some(CacheError::InvalidCacheEntry),
-        ),
-        (b"\x03\x02\x00\x00\x00Unknown\x00v\x00{}", None),
-        (b"\x03\x02\x00\x00\x00Unknown\x00v\x00{}\x00w\x00", None),
-        (
-            b"\x03\x02\x00\x00\x000123456789abcdefABCDEF0123456789abcdef01\x00\x00{}\x00",
-            None,
-        ),
-        (
-            b"\x03\x02\x00\x00\x000123456789abcdefABCDEF0123456789abcdef0\x00\x00{}\x00",
-            Some(CacheError::InvalidCacheEntry),
-        ),
-    ];
-    for (bytes, want) in cases {
-        assert!(rt; refusal(bytes) == want);
-    }
-    Ok(())
-}
-
-#[test]
-fn cut_and_changed(rt: HostRuntime) -> Result<(), Fail> {
-    let alloc = rt.alloc();
-    let body = body(&rt, true)?;
-    let written = CacheWrite::Remote(JsonLines::validate(body.as_bytes())?);
-    let entry = written.entry(alloc, &Revision::Http(HttpRevision::Etag("x")))?;
-    assert_eq!(rt; entry.len(), 160);
-    for len in 0..entry.len() {
-        let is_read = ValidCacheEntry::read(&entry[..len]).is_ok();
-        assert!(rt; is_read == (len >= 20), "at {len}");
-    }
-    for first in 0..=255u8 {
-        let mut changed = entry.as_slice().to_vec(alloc)?;
-        changed[0] = first;
-        let want = if first < 3 {
-            Some(CacheError::OutdatedCacheVersion)
-        } else if first > 3 {
-            Some(CacheError::UnknownCacheVersion)
-        } else {
-            None
-        };
-        assert!(rt; refusal(changed.as_slice()) == want, "at {first}");
-    }
-    Ok(())
-}
-
-/// Whether a revision is written and shown so.
-fn is_written(
-    rt: &HostRuntime,
+/// How many bytes are written of lines under a revision; they are in the sink.
+fn put(
+    alloc: Global,
+    lines: JsonLines<'_>,
     revision: &Revision<'_>,
-    text: &str,
-    debug: &str,
-) -> Result<bool, Fail> {
-    let alloc = rt.alloc();
+    sink: &mut MemSink,
+) -> Result<u64, RowFault> {
+    Ok(CacheWrite::Remote(lines).write_cache_entry(alloc, sink, revision)?)
+}
+
+/// What an entry is read back as: whether its revision is this one, and how many bytes follow it.
+fn read_back(alloc: Global, entry: &[u8], revision: &Revision<'_>) -> Result<String, AllocError> {
+    match ValidCacheEntry::read(entry) {
+        Ok(entry) => {
+            let is_same = entry.revision == *revision;
+            let more = entry.version_entries.len();
+            format!(in alloc; "its revision: {is_same}; {more} behind it")
+        }
+        Err(error) => format!(in alloc; "{error:?}"),
+    }
+}
+
+/// How many bytes are written of lines under a revision and foretold, which, and what they are
+/// read as.
+fn entry_line(
+    alloc: Global,
+    lines: JsonLines<'_>,
+    revision: &Revision<'_>,
+) -> Result<String, RowFault> {
     let mut sink = MemSink::new(alloc, Items::new(alloc));
-    let count = revision.write(&mut sink).ok();
-    let shown = format!(in alloc; "{revision:?}")?;
-    Ok(
-        count == Some(text.len() as u64)
-            && sink.bytes() == text.as_bytes()
-            && shown.as_str() == debug,
+    let count = put(alloc, lines, revision, &mut sink)?;
+    let told = CacheWrite::Remote(lines).entry_len(alloc, revision)?;
+    let back = read_back(alloc, sink.bytes(), revision)?;
+    let bytes = shown(alloc, sink.bytes())?;
+    Ok(format!(in alloc; "{count} {told} [{bytes}] {back}")?)
+}
+
+/// `entry REVISION BODY`: the same of a body's lines.
+pub fn entry(alloc: Global, mut words: Row<'_>) -> Result<String, RowFault> {
+    let revision = RevisionWord::of(alloc, words.word())?;
+    let body = body_of(alloc, words.word())?;
+    match JsonLines::validate(body.as_slice()) {
+        Ok(lines) => entry_line(alloc, lines, &revision_of(&revision, revision.http())),
+        Err(_) => Err(RowFault::Unread),
+    }
+}
+
+/// Whether bytes are read as an entry, or why they aren't.
+fn verdict(alloc: Global, bytes: &[u8]) -> Result<String, AllocError> {
+    match ValidCacheEntry::read(bytes) {
+        Ok(_) => String::from_str(alloc, "read"),
+        Err(error) => format!(in alloc; "{error:?}"),
+    }
+}
+
+/// `valid BYTES`: whether bytes are read as an entry, or why they aren't.
+pub fn valid(alloc: Global, mut words: Row<'_>) -> Result<String, RowFault> {
+    let bytes = words.bytes(alloc)?;
+    Ok(verdict(alloc, bytes.as_slice())?)
+}
+
+/// Texts, of which as many as are equal in a row are told with their number.
+#[derive(Drop)]
+struct Runs {
+    told: String,
+    last: String,
+    count: u64,
+}
+
+impl Runs {
+    fn new(alloc: Global) -> Runs {
+        Runs {
+            told: String::new(alloc),
+            last: String::new(alloc),
+            count: 0,
+        }
+    }
+
+    fn end(&mut self) -> Result<(), AllocError> {
+        if self.count > 0 {
+            let (count, last) = (self.count, self.last.as_str());
+            write!(self.told, " {count} {last}")?;
+        }
+        Ok(())
+    }
+
+    fn add(&mut self, text: String) -> Result<(), AllocError> {
+        if self.last.as_str() != text.as_str() {
+            self.end()?;
+            self.last = text;
+            self.count = 0;
+        }
+        self.count = self.count.saturating_add(1);
+        Ok(())
+    }
+}
+
+/// `cuts REVISION BODY`: an entry's length, and how many of its beginnings in a row, from the
+/// shortest on, are read, or why they aren't.
+pub fn cuts(alloc: Global, mut words: Row<'_>) -> Result<String, RowFault> {
+    let entry = written(alloc, &mut words)?;
+    let mut runs = Runs::new(alloc);
+    for len in 0..entry.len() {
+        runs.add(verdict(alloc, &entry[..len])?)?;
+    }
+    runs.end()?;
+    let (len, told) = (entry.len(), runs.told.as_str());
+    Ok(format!(in alloc; "{len} bytes:{told}")?)
+}
+
+/// `firsts REVISION BODY`: the same for each first byte, from 0 on.
+pub fn firsts(alloc: Global, mut words: Row<'_>) -> Result<String, RowFault> {
+    let mut entry = written(alloc, &mut words)?;
+    let mut runs = Runs::new(alloc);
+    for first in 0..=255u8 {
+        if let Some(place) = entry.first_mut() {
+            *place = first;
+        }
+        runs.add(verdict(alloc, entry.as_slice())?)?;
+    }
+    runs.end()?;
+    let (len, told) = (entry.len(), runs.told.as_str());
+    Ok(format!(in alloc; "{len} bytes:{told}")?)
+}
+
+fn versions_line(
+    alloc: Global,
+    krate: &IndexKrate,
+    lines: &[u8],
+    revision: &Revision<'_>,
+) -> Result<String, RowFault> {
+    let written = CacheWrite::from(krate);
+    let told = written.entry_len(alloc, revision)?;
+    let is_storable = written.is_storable(alloc, revision)?;
+    let is_same = written.entry(alloc, revision)?.as_slice() == lines;
+    Ok(format!(in alloc; "as the lines: {is_same}; {told} bytes; storable: {is_storable}")?)
+}
+
+/// `versions REVISION BODY`: the entry of the versions of a body, beside that of its lines.
+pub fn of_versions(alloc: Global, mut words: Row<'_>) -> Result<String, RowFault> {
+    let revision = RevisionWord::of(alloc, words.word())?;
+    let body = body_of(alloc, words.word())?;
+    let lines = entry_of(
+        alloc,
+        body.as_slice(),
+        &revision_of(&revision, revision.http()),
+    )?;
+    let krate = IndexKrate::from_slice(alloc, body.as_slice())?;
+    versions_line(
+        alloc,
+        &krate,
+        lines.as_slice(),
+        &revision_of(&revision, revision.http()),
     )
 }
 
-#[test]
-fn revisions(rt: HostRuntime) -> Result<(), Fail> {
-    let alloc = rt.alloc();
-    let raw = Revision::Git(GitRevision::Raw([0xab; 20]));
-    let hex = Revision::Git(GitRevision::Hex(Sha1Hex::from([0xab; 20])));
-    let etag = Revision::Http(HttpRevision::Etag("x"));
-    let date = Revision::Http(HttpRevision::LastModified("x"));
-    assert!(rt; raw == hex && etag == etag && Revision::Unknown == Revision::Unknown);
-    assert!(rt;
-        etag != date && raw != etag && hex != Revision::Unknown && date != Revision::Unknown
-    );
-    let commit = "abababababababababababababababababababab";
-    assert!(rt; is_written(&rt, &etag, "etag: x", "etag: : x")?);
-    assert!(rt; is_written(&rt, &date, "last-modified: x", "last-modified: : x")?);
-    assert!(rt; is_written(&rt, &raw, commit, commit)?);
-    assert!(rt; is_written(&rt, &Revision::Unknown, "Unknown", "Unknown")?);
-    let digits = Sha1Hex::from([0; 20]);
-    assert_eq!(rt; digits.as_str(), "0000000000000000000000000000000000000000");
-    assert!(rt; digits.as_bytes().as_slice() == digits.as_str().as_bytes());
-    assert!(rt; Sha1Hex::parse("AB").is_none());
-    Ok(())
+/// A crate of one version.
+fn fake_krate(alloc: Global, name: &str, version: &str) -> Result<IndexKrate, RowFault> {
+    let mut versions = Items::new(alloc);
+    versions.add(IndexVersion::fake(alloc, name, version)?)?;
+    Ok(IndexKrate { versions })
 }
 
-#[test]
-fn raw_versions(rt: HostRuntime) -> Result<(), Fail> {
-    let cases: [(&[u8], &str); 9] = [
-        (
-            b"{\"name\":\"a\",\"vers\":\"0.1.0\",\"yanked\":true}",
-            "0.1.0",
-        ),
-        (
-            b"{\"name\":\"a\",\"vers\": \"0.1.0\",\"yanked\":true}",
-            "0.1.0",
-        ),
-        (b"{\"name\":\"a\",\"vers\":  \"0.1.0\",\"yanked\":true}", ""),
-        (b"{\"name\":\"a\",\"vers\":\"0.1.0\"}", ""),
-        (b"{\"name\":\"a,b\",\"vers\":\"0.1.0\",\"yanked\":true}", ""),
-        (b"{\"x\":1,\"my\"vers\":\"2\",}", "2"),
-        (b"{\"vers\":\"\xff\",}", ""),
-        (b"{\"vers\":1,}", ""),
-        (b"{}", ""),
-    ];
-    for (line, want) in cases {
-        let (version, json) = IndexEntryVersion::of_line(line).raw();
-        assert_eq!(rt; version, want);
-        assert!(rt; json == line);
+fn storable_line(
+    alloc: Global,
+    krate: &IndexKrate,
+    revision: &Revision<'_>,
+) -> Result<String, RowFault> {
+    let is_storable = CacheWrite::from(krate).is_storable(alloc, revision)?;
+    Ok(format!(in alloc; "{is_storable}")?)
+}
+
+/// `storable REVISION NAME VERSION`: whether a crate of one version can be stored.
+pub fn storable(alloc: Global, mut words: Row<'_>) -> Result<String, RowFault> {
+    let revision = RevisionWord::of(alloc, words.word())?;
+    let name = words.word();
+    let version = words.text(alloc)?;
+    let krate = fake_krate(alloc, name, version.as_str())?;
+    storable_line(alloc, &krate, &revision_of(&revision, revision.http()))
+}
+
+/// The revision of an index entry that comes from the cache.
+fn cached_line(alloc: Global, entry: &IndexEntry<'_, '_>) -> Result<String, AllocError> {
+    match entry.cached() {
+        Ok(None) => String::from_str(alloc, "not of the cache"),
+        Ok(Some(entry)) => format!(in alloc; "under {:?}", entry.revision),
+        Err(error) => format!(in alloc; "{error:?}"),
     }
-    Ok(())
 }
 
-#[test]
-fn cached(rt: HostRuntime) -> Result<(), Fail> {
-    let alloc = rt.alloc();
+/// `cached SOURCE`: the revision of an index entry that comes from the cache.
+pub fn cached(alloc: Global, words: Row<'_>) -> Result<String, RowFault> {
     let lock = FileLock::unlocked();
-    let remote = IndexEntry::Remote(JsonLines::validate(LINE)?);
-    assert!(rt; matches!(remote.cached(), Ok(None)));
-    let written = CacheWrite::Remote(JsonLines::validate(LINE)?);
-    let bytes = written.entry(alloc, &Revision::Unknown)?;
-    let cache = IndexEntry::Cache(LockedMmap::of(bytes, &lock));
-    let Ok(Some(entry)) = cache.cached() else {
-        return Err(Fail::from("no entry"));
-    };
-    assert!(rt; entry.revision == Revision::Unknown);
-    let empty = IndexEntry::Cache(LockedMmap::of(Vec::new(alloc), &lock));
-    assert!(rt; matches!(empty.cached(), Err(CacheError::InvalidCacheEntry)));
-    let local = IndexEntry::Local(LockedMmap::of(Vec::new(alloc), &lock));
-    assert!(rt; matches!(local.cached(), Ok(None)));
-    Ok(())
-}
-
-#[test]
-fn versions_written(rt: HostRuntime) -> Result<(), Fail> {
-    let alloc = rt.alloc();
-    let body = body(&rt, true)?;
-    let krate = IndexKrate::from_slice(alloc, body.as_bytes())?;
-    let revision = Revision::Http(HttpRevision::Etag("x"));
-    let of_versions = CacheWrite::from(&krate);
-    let lines = CacheWrite::from(JsonLines::validate(body.as_bytes())?);
-    let want = lines.entry(alloc, &revision)?;
-    assert!(rt; of_versions.entry(alloc, &revision)?.as_slice() == want.as_slice());
-    assert_eq!(rt; of_versions.entry_len(alloc, &revision)?, want.len() as u64);
-    assert!(rt; of_versions.is_storable(alloc, &revision)?);
-    let mut zero = IndexKrate {
-        versions: Items::new(alloc),
-    };
-    zero.versions.add(IndexVersion::fake(alloc, "a", "0\x00")?)?;
-    assert!(rt; !CacheWrite::from(&zero).is_storable(alloc, &revision)?);
-    Ok(())
+    let source = Source::of(alloc, words)?;
+    let entry = source.entry(alloc, &lock)?;
+    Ok(cached_line(alloc, &entry)?)
 }

@@ -1,135 +1,104 @@
 //! Index entries read as the versions of a crate, and line by line.
-use crate::lines::body;
-use std::test::Fail;
+use crate::revisions::revision_of;
+use crate::sources::Source;
+use row_fixtures::{RevisionWord, Row, RowFault, shown, shown_word};
+use std::alloc::{AllocError, Global};
 use tame_entry::{
-    CacheWrite, HttpRevision, IndexEntry, IndexEntryVersion, JsonLines, LockedMmap, Revision,
-    ValidCacheEntry, entries_read_as_bodies,
+    IndexEntry, IndexEntryVersion, LockedMmap, Revision, entries_read_as_bodies, entries_read_back,
 };
-use tame_names::{CacheError, Error, FileLock, IoKind, Items, MemFile, MemFiles, Text};
+use tame_names::{FileLock, MemFiles};
+use tame_records::{IndexKrate, IndexVersion};
 
-#[test]
-fn entry_as_body(rt: HostRuntime) -> Result<(), Fail> {
-    let alloc = rt.alloc();
+fn push_version(out: &mut String, version: &IndexVersion) -> Result<(), AllocError> {
+    let (number, yanked) = (version.version.as_str(), version.yanked);
+    write!(out, " {number} {yanked}")
+}
+
+/// How many versions there are, and each with its flag.
+fn versions(alloc: Global, krate: &IndexKrate) -> Result<String, AllocError> {
+    let count = krate.versions.as_slice().len();
+    let mut out = format!(in alloc; "{count}:")?;
+    for version in krate.versions.as_slice() {
+        push_version(&mut out, version)?;
+    }
+    Ok(out)
+}
+
+fn read_entry(alloc: Global, entry: &IndexEntry<'_, '_>) -> Result<String, RowFault> {
+    let krate = entry.deserialize(alloc)?;
+    Ok(versions(alloc, &krate)?)
+}
+
+/// `read SOURCE`: an index entry as versions with their flags.
+pub fn read(alloc: Global, words: Row<'_>) -> Result<String, RowFault> {
+    let lock = FileLock::unlocked();
+    let source = Source::of(alloc, words)?;
+    let entry = source.entry(alloc, &lock)?;
+    read_entry(alloc, &entry)
+}
+
+fn read_under(
+    alloc: Global,
+    entry: &IndexEntry<'_, '_>,
+    revision: &Revision<'_>,
+) -> Result<String, RowFault> {
+    match entry.deserialize_with_revision(alloc, revision)? {
+        Some(krate) => Ok(versions(alloc, &krate)?),
+        None => Ok(String::from_str(alloc, "nothing")?),
+    }
+}
+
+/// `under REVISION SOURCE`: the same where it is kept under the revision.
+pub fn under(alloc: Global, mut words: Row<'_>) -> Result<String, RowFault> {
+    let revision = RevisionWord::of(alloc, words.word())?;
+    let lock = FileLock::unlocked();
+    let source = Source::of(alloc, words)?;
+    let entry = source.entry(alloc, &lock)?;
+    read_under(alloc, &entry, &revision_of(&revision, revision.http()))
+}
+
+fn push_item(alloc: Global, out: &mut String, item: IndexEntryVersion<'_>) -> Result<(), RowFault> {
+    let text = shown_word(alloc, item.raw().0.as_bytes())?;
+    Ok(write!(out, " {text}")?)
+}
+
+fn items_line(alloc: Global, entry: &IndexEntry<'_, '_>) -> Result<String, RowFault> {
+    let mut out = String::from_str(alloc, "items:")?;
+    if let Ok(items) = entry.iter() {
+        for item in items {
+            push_item(alloc, &mut out, item)?;
+        }
+    } else {
+        out.push_str(" refused")?;
+    }
+    Ok(out)
+}
+
+/// `items SOURCE`: the version's text of each item of an index entry.
+pub fn items(alloc: Global, words: Row<'_>) -> Result<String, RowFault> {
+    let lock = FileLock::unlocked();
+    let source = Source::of(alloc, words)?;
+    let entry = source.entry(alloc, &lock)?;
+    items_line(alloc, &entry)
+}
+
+/// `line LINE`: a line as a record, or why it is none.
+pub fn line(alloc: Global, mut words: Row<'_>) -> Result<String, RowFault> {
+    let line = words.bytes(alloc)?;
+    let version = IndexEntryVersion::of_line(line.as_slice()).deserialize(alloc)?;
+    Ok(format!(in alloc; "{} {}", version.version, version.yanked)?)
+}
+
+/// `map PATH`: the bytes of a file.
+pub fn map(alloc: Global, files: &mut MemFiles, mut words: Row<'_>) -> Result<String, RowFault> {
+    let lock = FileLock::unlocked();
+    let file = LockedMmap::mmap(alloc, files, words.word(), &lock)?;
+    Ok(shown(alloc, file.as_slice())?)
+}
+
+/// `laws`: entries read back as they were written, and as their bodies.
+pub fn laws(alloc: Global) -> Result<String, RowFault> {
+    entries_read_back();
     entries_read_as_bodies();
-    let body = body(&rt, true)?;
-    let lines = JsonLines::validate(body.as_bytes())?;
-    let tag = Revision::Http(HttpRevision::Etag("x"));
-    let other = Revision::Http(HttpRevision::Etag("y"));
-    let lock = FileLock::unlocked();
-    let bytes = CacheWrite::from(lines).entry(alloc, &tag)?;
-    let cache = IndexEntry::Cache(LockedMmap::of(bytes, &lock));
-    let remote = IndexEntry::Remote(lines);
-    let of_cache = cache.deserialize(alloc)?;
-    let of_body = remote.deserialize(alloc)?;
-    assert_eq!(rt; of_cache.versions.as_slice().len(), 1);
-    assert_eq!(rt; of_body.versions.as_slice().len(), 1);
-    let (first, same) = (
-        &of_cache.versions.as_slice()[0],
-        &of_body.versions.as_slice()[0],
-    );
-    assert!(rt; first.version == same.version && first.yanked && same.yanked);
-    assert!(rt; cache.deserialize_with_revision(alloc, &tag)?.is_some());
-    assert!(rt; cache.deserialize_with_revision(alloc, &other)?.is_none());
-    assert!(rt; remote.deserialize_with_revision(alloc, &other)?.is_some());
-    Ok(())
-}
-
-fn fault(rt: &HostRuntime, entry: &IndexEntry<'_, '_>) -> Result<String, Fail> {
-    let alloc = rt.alloc();
-    Ok(match entry.deserialize(alloc) {
-        Ok(_) => String::from_str(alloc, "read")?,
-        Err(error) => format!(in alloc; "{error:?}")?,
-    })
-}
-
-#[test]
-fn refused(rt: HostRuntime) -> Result<(), Fail> {
-    let alloc = rt.alloc();
-    let lock = FileLock::unlocked();
-    let mut two = body(&rt, true)?;
-    two.push_str("{}\n")?;
-    let remote = IndexEntry::Remote(JsonLines::validate(two.as_bytes())?);
-    assert_eq!(rt; fault(&rt, &remote)?.as_str(), "Json { line: 1 }");
-    let local = IndexEntry::Local(LockedMmap::of(Vec::new(alloc), &lock));
-    assert_eq!(rt; fault(&rt, &local)?.as_str(), "NoCrateVersions");
-    let cases: [(&[u8], &str); 3] = [
-        (b"", "Cache(InvalidCacheEntry)"),
-        (
-            b"\x03\x02\x00\x00\x00Unknown\x00v\x00{}\x00",
-            "Json { line: 0 }",
-        ),
-        (
-            b"\x03\x02\x00\x00\x00foo: x\x00v\x00{}\x00",
-            "Cache(InvalidCacheEntry)",
-        ),
-    ];
-    for (bytes, want) in cases {
-        let entry = IndexEntry::Cache(LockedMmap::of(Vec::from_slice(alloc, bytes)?, &lock));
-        let fault = fault(&rt, &entry)?;
-        assert_eq!(rt; fault.as_str(), want);
-    }
-    Ok(())
-}
-
-#[test]
-fn version_without_a_line(rt: HostRuntime) -> Result<(), Fail> {
-    let alloc = rt.alloc();
-    let lock = FileLock::unlocked();
-    let body = body(&rt, true)?;
-    let lines = JsonLines::validate(body.as_bytes())?;
-    let revision = Revision::Http(HttpRevision::Etag("x"));
-    let mut bytes = CacheWrite::from(lines).entry(alloc, &revision)?;
-    bytes.extend_from_slice(b"1.0.0\x00")?;
-    let entry = IndexEntry::Cache(LockedMmap::of(bytes, &lock));
-    assert_eq!(rt; fault(&rt, &entry)?.as_str(), "Cache(InvalidCrateVersion)");
-    let Ok(mut items) = entry.iter() else {
-        return Err(Fail::from("not read"));
-    };
-    assert!(rt; items.next().is_some());
-    assert!(rt; items.next().is_none());
-    Ok(())
-}
-
-#[test]
-fn items(rt: HostRuntime) -> Result<(), Fail> {
-    let alloc = rt.alloc();
-    let lock = FileLock::unlocked();
-    let file = Vec::from_slice(alloc, b"{}\n{\"vers\":\"1.0.0\",}\n\n".as_slice())?;
-    let local = IndexEntry::Local(LockedMmap::of(file, &lock));
-    let Ok(mut items) = local.iter() else {
-        return Err(Fail::from("not read"));
-    };
-    for want in ["", "1.0.0", ""] {
-        let Some(item) = items.next() else {
-            return Err(Fail::from("too few"));
-        };
-        assert_eq!(rt; item.raw().0, want);
-    }
-    assert!(rt; items.next().is_none());
-    let Err(Error::Json { line: 0 }) = IndexEntryVersion::of_line(b"{}").deserialize(alloc) else {
-        return Err(Fail::from("read"));
-    };
-    Ok(())
-}
-
-#[test]
-fn mapped(rt: HostRuntime) -> Result<(), Fail> {
-    let alloc = rt.alloc();
-    let lock = FileLock::unlocked();
-    let mut there = Items::new(alloc);
-    there.add(MemFile {
-        path: Text::of(alloc, "f")?,
-        bytes: Items::copied(alloc, b"{}")?,
-    })?;
-    let failing = Items::of(Vec::from_slice(alloc, [3].as_slice())?);
-    let mut files = MemFiles::new(alloc, there, failing);
-    let mapped = LockedMmap::mmap(alloc, &mut files, "f", &lock)?;
-    assert!(rt; mapped.as_slice() == b"{}".as_slice());
-    let Err(Error::Io(IoKind::NotFound)) = LockedMmap::mmap(alloc, &mut files, "g", &lock) else {
-        return Err(Fail::from("there"));
-    };
-    let Err(Error::Io(IoKind::Failed)) = LockedMmap::mmap(alloc, &mut files, "f", &lock) else {
-        return Err(Fail::from("read"));
-    };
-    Ok(())
+    Ok(String::from_str(alloc, "hold")?)
 }

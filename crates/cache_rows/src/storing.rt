@@ -1,193 +1,201 @@
 //! Entries stored on a disk in memory that fails and crashes.
-use crate::lines::body;
-use std::test::Fail;
+use crate::revisions::revision_of;
+use row_fixtures::{
+    FLAGGED_FILE, RevisionWord, Row, RowFault, body_of, crashed, disk_failing, disk_with,
+    flagged_body, flagged_entry, stop, told,
+};
+use std::alloc::{AllocError, Global};
 use tame_cache::{
-    CacheDisk, CacheFault, IndexCache, Kept, MemCacheDisk, Peek, empty_is_kept, histories_keep,
+    CacheDisk, CacheFault, IndexCache, Kept, MemCacheDisk, empty_is_kept, histories_keep,
     kept_for_more,
 };
 use tame_entry::{CacheWrite, HttpRevision, IndexEntry, JsonLines, Revision, ValidCacheEntry};
-use tame_names::{Error, FileLock, IoKind, KrateName, Text};
+use tame_names::{FileLock, KrateName, Text};
 
-/// What a read of the crate `a` finds.
-#[derive(Clone, Copy, Debug, PartialEq, Eq)]
-enum Found {
-    Nothing,
-    Refused,
-    Old,
-    New,
-    Other,
+/// The cache of an index in the folder of the empty path.
+fn root_cache(alloc: Global) -> Result<IndexCache, RowFault> {
+    Ok(IndexCache::at_path(Text::of(alloc, "")?))
 }
 
-fn cache(rt: &HostRuntime) -> Result<IndexCache, Fail> {
-    Ok(IndexCache::at_path(Text::of(rt.alloc(), "")?))
+/// Stores lines under a revision as the entry of the crate `a`.
+fn store_lines(
+    alloc: Global,
+    cache: &IndexCache,
+    disk: &mut MemCacheDisk,
+    lines: JsonLines<'_>,
+    revision: &Revision<'_>,
+) -> Result<Result<Kept, CacheFault>, RowFault> {
+    let name = KrateName::try_from("a")?;
+    let lock = FileLock::unlocked();
+    Ok(cache.write_to_cache(
+        alloc,
+        name,
+        CacheWrite::Remote(lines),
+        revision,
+        &lock,
+        disk,
+    ))
+}
+
+/// What storing a body under a revision as the entry of the crate `a` answers.
+fn stored(
+    alloc: Global,
+    disk: &mut MemCacheDisk,
+    body: &[u8],
+    revision: &Revision<'_>,
+) -> Result<String, RowFault> {
+    let Ok(lines) = JsonLines::validate(body) else {
+        return Err(RowFault::Unread);
+    };
+    let cache = root_cache(alloc)?;
+    match store_lines(alloc, &cache, disk, lines, revision)? {
+        Ok(kept) => Ok(format!(in alloc; "{kept:?}")?),
+        Err(fault) => Ok(format!(in alloc; "fault {fault:?}")?),
+    }
 }
 
 /// Stores the line with this flag under an entity tag: `x` for the yanked one, else `y`.
-fn write(rt: &HostRuntime, disk: &mut MemCacheDisk, yanked: bool) -> Result<Option<Kept>, Fail> {
-    let body = body(rt, yanked)?;
-    let written = CacheWrite::Remote(JsonLines::validate(body.as_bytes())?);
+fn write(alloc: Global, disk: &mut MemCacheDisk, yanked: bool) -> Result<String, RowFault> {
+    let body = flagged_body(alloc, yanked)?;
     let revision = Revision::Http(HttpRevision::Etag(if yanked { "x" } else { "y" }));
+    stored(alloc, disk, body.as_bytes(), &revision)
+}
+
+/// What a file of the crate `a` is.
+fn found(alloc: Global, file: &[u8]) -> Result<&'static str, RowFault> {
+    Ok(if ValidCacheEntry::read(file).is_err() {
+        "refused"
+    } else if file == flagged_entry(alloc, true)?.as_slice() {
+        "the yanked entry"
+    } else if file == flagged_entry(alloc, false)?.as_slice() {
+        "the unyanked entry"
+    } else {
+        "another"
+    })
+}
+
+/// What a read of the crate `a` finds.
+fn found_in(
+    alloc: Global,
+    cache: &IndexCache,
+    disk: &mut MemCacheDisk,
+) -> Result<&'static str, RowFault> {
     let name = KrateName::try_from("a")?;
     let lock = FileLock::unlocked();
-    Ok(
-        cache(rt)?
-            .write_to_cache(rt.alloc(), name, written, &revision, &lock, disk)
-            .ok(),
+    match cache.read_cache_file(alloc, name, &lock, disk)? {
+        Some(IndexEntry::Cache(file)) => found(alloc, file.as_slice()),
+        Some(_entry) => Ok("no file"),
+        None => Ok("nothing"),
+    }
+}
+
+/// `look`: the same as a row's answer.
+pub fn look(alloc: Global, disk: &mut MemCacheDisk) -> Result<String, RowFault> {
+    let cache = root_cache(alloc)?;
+    let found = found_in(alloc, &cache, disk)?;
+    Ok(String::from_str(alloc, found)?)
+}
+
+/// Stores the line with this flag, and looks.
+fn write_and_look(
+    alloc: Global,
+    disk: &mut MemCacheDisk,
+    yanked: bool,
+) -> Result<String, RowFault> {
+    let done = write(alloc, disk, yanked)?;
+    let found = told(alloc, look(alloc, disk))?;
+    Ok(format!(in alloc; "{done}: {found}")?)
+}
+
+/// `first FAILING`: the first entry stored where these calls fail, and what a read finds then.
+pub fn first(alloc: Global, mut words: Row<'_>) -> Result<String, RowFault> {
+    let mut disk = disk_failing(alloc, words.numbers(alloc)?);
+    write_and_look(alloc, &mut disk, false)
+}
+
+/// `second FAILING`: the same over a disk that keeps the yanked line.
+pub fn second(alloc: Global, mut words: Row<'_>) -> Result<String, RowFault> {
+    let mut disk = disk_failing(alloc, words.numbers(alloc)?);
+    let first = write(alloc, &mut disk, true)?;
+    let then = write_and_look(alloc, &mut disk, false)?;
+    Ok(format!(in alloc; "{first}, {then}")?)
+}
+
+/// What a read finds after a crash, and what storing once more does.
+fn after_crash(alloc: Global, disk: MemCacheDisk, pick: u8) -> Result<String, RowFault> {
+    let mut disk = crashed(alloc, disk, pick)?;
+    let found = look(alloc, &mut disk)?;
+    let again = write_and_look(alloc, &mut disk, false)?;
+    Ok(format!(in alloc; "{found}; {again}")?)
+}
+
+/// `crashed STOP PICK`: the yanked line is stored, then the other one, stopped at this call, then
+/// the disk crashes; what a read finds, and what storing once more does.
+pub fn crashed_write(alloc: Global, mut words: Row<'_>) -> Result<String, RowFault> {
+    let at = words.number()?;
+    let pick = words.byte_or_none()?.unwrap_or(0);
+    let mut disk = disk_failing(alloc, Vec::new(alloc));
+    let first = write(alloc, &mut disk, true)?;
+    stop(&mut disk, at);
+    let done = write(alloc, &mut disk, false)?;
+    let after = after_crash(alloc, disk, pick)?;
+    Ok(format!(in alloc; "{first}, {done}: {after}")?)
+}
+
+/// The entry of the yanked line with another first byte; no bytes without one.
+fn foreign_bytes(alloc: Global, first: Option<u8>) -> Result<Vec<u8>, RowFault> {
+    let Some(first) = first else {
+        return Ok(Vec::new(alloc));
+    };
+    let mut bytes = flagged_entry(alloc, true)?;
+    if let Some(place) = bytes.first_mut() {
+        *place = first;
+    }
+    Ok(bytes)
+}
+
+/// What stands first in the file of the crate `a`.
+fn seen(alloc: Global, disk: &mut MemCacheDisk) -> Result<String, AllocError> {
+    match disk.peek(FLAGGED_FILE) {
+        Ok(seen) => format!(in alloc; "{seen:?}"),
+        Err(_) => String::from_str(alloc, "fault"),
+    }
+}
+
+/// `foreign (HH | -) (YANKED | UNYANKED)`: storing a line over a file with another first byte, or
+/// without one.
+pub fn foreign(alloc: Global, mut words: Row<'_>) -> Result<String, RowFault> {
+    let bytes = foreign_bytes(alloc, words.byte_or_none()?)?;
+    let yanked = words.is("YANKED", "UNYANKED")?;
+    let mut disk = disk_with(alloc, bytes.as_slice(), Vec::new(alloc))?;
+    let seen = seen(alloc, &mut disk)?;
+    let then = write_and_look(alloc, &mut disk, yanked)?;
+    let (len, faults) = (bytes.len(), disk.disk_faults());
+    Ok(format!(in alloc; "{len} bytes, {seen}; {then}; {faults} faults")?)
+}
+
+/// `store REVISION BODY`: what storing a body under a revision answers.
+pub fn store(
+    alloc: Global,
+    disk: &mut MemCacheDisk,
+    mut words: Row<'_>,
+) -> Result<String, RowFault> {
+    let revision = RevisionWord::of(alloc, words.word())?;
+    let body = body_of(alloc, words.word())?;
+    stored(
+        alloc,
+        disk,
+        body.as_slice(),
+        &revision_of(&revision, revision.http()),
     )
 }
 
-fn entry(rt: &HostRuntime, yanked: bool) -> Result<Vec<u8>, Fail> {
-    let body = body(rt, yanked)?;
-    let written = CacheWrite::Remote(JsonLines::validate(body.as_bytes())?);
-    let tag = if yanked { "x" } else { "y" };
-    Ok(written.entry(rt.alloc(), &Revision::Http(HttpRevision::Etag(tag)))?)
-}
-
-fn look_up(rt: &HostRuntime, disk: &mut MemCacheDisk) -> Result<Found, Fail> {
-    let lock = FileLock::unlocked();
-    let name = KrateName::try_from("a")?;
-    let old = entry(rt, true)?;
-    let new = entry(rt, false)?;
-    let cache = cache(rt)?;
-    match cache.cached_krate(rt.alloc(), name, &lock, disk) {
-        Ok(None) => Ok(Found::Nothing),
-        Ok(Some(IndexEntry::Cache(file))) => Ok(if ValidCacheEntry::read(file.as_slice()).is_err() {
-            Found::Refused
-        } else if file.as_slice() == old.as_slice() {
-            Found::Old
-        } else if file.as_slice() == new.as_slice() {
-            Found::New
-        } else {
-            Found::Other
-        }),
-        Ok(Some(_)) => Ok(Found::Other),
-        Err(error) => Err(Fail::from(error)),
-    }
-}
-
-#[test]
-fn first_write_fails(rt: HostRuntime) -> Result<(), Fail> {
-    let alloc = rt.alloc();
-    for number in 0..10u64 {
-        let failing = Vec::from_slice(alloc, [number].as_slice())?;
-        let mut disk = MemCacheDisk::new(alloc, failing);
-        let kept = write(&rt, &mut disk, false)?;
-        let is_written = number >= 9;
-        assert!(rt; (kept == Some(Kept::Written)) == is_written, "at {number}");
-        let after = if number < 9 {
-            look_up(&rt, &mut disk)?
-        } else {
-            Found::New
-        };
-        let is_right = match after {
-            Found::Nothing | Found::Refused => !is_written,
-            Found::New => is_written || number == 8,
-            Found::Old | Found::Other => false,
-        };
-        assert!(rt; is_right, "at {number}: {after:?}");
-    }
-    Ok(())
-}
-
-#[test]
-fn second_write_fails(rt: HostRuntime) -> Result<(), Fail> {
-    let alloc = rt.alloc();
-    let before = 9;
-    for number in 0..11u64 {
-        let failing = Vec::from_slice(alloc, [before + number].as_slice())?;
-        let mut disk = MemCacheDisk::new(alloc, failing);
-        assert!(rt; write(&rt, &mut disk, true)? == Some(Kept::Written));
-        let kept = write(&rt, &mut disk, false)?;
-        assert!(rt;
-            (kept == Some(Kept::Written)) == (number >= 10),
-            "at {number}"
-        );
-        if number < 10 {
-            let after = look_up(&rt, &mut disk)?;
-            assert!(rt;
-                after != Found::Other && after != Found::Nothing,
-                "at {number}"
-            );
-        }
-    }
-    Ok(())
-}
-
-#[test]
-fn crashes(rt: HostRuntime) -> Result<(), Fail> {
-    let alloc = rt.alloc();
+/// `path NAME`: the path of a crate's file; and the laws of kept disks.
+pub fn path(alloc: Global, mut words: Row<'_>) -> Result<String, RowFault> {
     empty_is_kept();
     kept_for_more();
     histories_keep();
-    for number in 0..11u64 {
-        for pick in 0..4u8 {
-            let mut disk = MemCacheDisk::new(alloc, Vec::new(alloc));
-            assert!(rt; write(&rt, &mut disk, true)? == Some(Kept::Written));
-            disk.stop_at(number);
-            let kept = write(&rt, &mut disk, false)?;
-            assert!(rt;
-                (kept == Some(Kept::Written)) == (number >= 10),
-                "at {number}"
-            );
-            let mut crashed = disk.after_crash(alloc, pick)?;
-            let after = look_up(&rt, &mut crashed)?;
-            assert!(rt;
-                after != Found::Other && after != Found::Nothing,
-                "at {number}, {pick}"
-            );
-            assert!(rt; number < 10 || after == Found::New);
-            assert!(rt; write(&rt, &mut crashed, false)? == Some(Kept::Written));
-            assert!(rt; look_up(&rt, &mut crashed)? == Found::New);
-        }
-    }
-    Ok(())
-}
-
-#[test]
-fn foreign_files(rt: HostRuntime) -> Result<(), Fail> {
-    let alloc = rt.alloc();
-    let good = entry(&rt, true)?;
-    assert_eq!(rt; good.len(), 160);
-    for first in [7u8, 0, 3, 255] {
-        let mut disk = MemCacheDisk::new(alloc, Vec::new(alloc));
-        let mut bytes = good.as_slice().to_vec(alloc)?;
-        bytes[0] = first;
-        disk.put_file(".cache/1/a", bytes.as_slice())?;
-        assert!(rt; disk.peek(".cache/1/a").ok() == Some(Peek::Byte(first)));
-        assert!(rt; write(&rt, &mut disk, false)? == Some(Kept::Written));
-        assert!(rt; look_up(&rt, &mut disk)? == Found::New);
-    }
-    let mut disk = MemCacheDisk::new(alloc, Vec::new(alloc));
-    disk.put_file(".cache/1/a", b"")?;
-    assert!(rt; disk.peek(".cache/1/a").ok() == Some(Peek::Empty));
-    assert!(rt; write(&rt, &mut disk, true)? == Some(Kept::Written));
-    assert!(rt; look_up(&rt, &mut disk)? == Found::Old);
-    assert_eq!(rt; disk.disk_faults(), 0);
-    Ok(())
-}
-
-#[test]
-fn not_stored(rt: HostRuntime) -> Result<(), Fail> {
-    let alloc = rt.alloc();
-    let lock = FileLock::unlocked();
-    let name = KrateName::try_from("a")?;
-    let mut disk = MemCacheDisk::new(alloc, Vec::from_slice(alloc, [0u64].as_slice())?);
-    let whole = CacheWrite::Remote(JsonLines::validate(b"{}")?);
-    let zero = CacheWrite::Remote(JsonLines::validate(b"{}\n{\x00}")?);
-    let plain = Revision::Unknown;
-    let split = Revision::Http(HttpRevision::Etag("x\0"));
-    let cache = cache(&rt)?;
-    let answer = cache.write_to_cache(alloc, name, zero, &plain, &lock, &mut disk);
-    assert!(rt; answer.ok() == Some(Kept::NotStored));
-    let answer = cache.write_to_cache(alloc, name, whole, &split, &lock, &mut disk);
-    assert!(rt; answer.ok() == Some(Kept::NotStored));
-    let answer = cache.write_to_cache(alloc, name, whole, &plain, &lock, &mut disk);
-    assert!(rt; answer.err() == Some(CacheFault::Disk));
-    assert_eq!(rt; cache.cache_path(alloc, name)?.as_str(), ".cache/1/a");
-    let mut failing = MemCacheDisk::new(alloc, Vec::from_slice(alloc, [0u64].as_slice())?);
-    let Err(Error::Io(IoKind::Failed)) = cache.read_cache_file(alloc, name, &lock, &mut failing)
-    else {
-        return Err(Fail::from("the read fails"));
-    };
-    Ok(())
+    let name = words.name()?;
+    let path = root_cache(alloc)?.cache_path(alloc, name)?;
+    Ok(String::from_str(alloc, path.as_str())?)
 }

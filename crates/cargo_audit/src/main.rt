@@ -1,18 +1,18 @@
 //! The program `cargo_audit`: makes the real outside and runs the command over it.
 #![tactic(auto)]
 
-use audit_edges::{FileCacheDisk, MirrorWire, StdFiles, StdSink};
+use audit_edges::{FileCacheDisk, MirrorWire, StdFiles, StdSink, folder_named};
 use audit_program::run;
 use std::env::VarError;
 use std::io::ErrorKind;
 use std::process::ExitCode;
 use std::{env, io};
-use tame_names::FileLock;
+use tame_names::{FileLock, NoMemory, Text};
 
-/// The folder of the mirror, where `CARGO_AUDIT_MIRROR` names none.
+/// The folder of the mirror, where `CARGO_AUDIT_MIRROR` is unset or empty.
 const DEFAULT_MIRROR: &str = "index-mirror";
 
-/// The folder of the cache, where `CARGO_AUDIT_INDEX` names none.
+/// The folder of the cache, where `CARGO_AUDIT_INDEX` is unset or empty.
 const DEFAULT_CACHE: &str = "index-cache";
 
 /// The words behind the program's own path.
@@ -24,13 +24,21 @@ fn words(rt: &HostRuntime) -> io::Result<Vec<String>> {
     Ok(words)
 }
 
-/// The folder that a variable names, or else the default.
-fn folder(rt: &HostRuntime, variable: &str, default: &str) -> io::Result<String> {
-    match env::var(rt, variable) {
+/// The folder that a variable names; where it is unset or empty, the default.
+fn folder(rt: &HostRuntime, variable: &str, default: &str) -> io::Result<Text> {
+    let named = match env::var(rt, variable) {
+        Ok(folder) => Some(folder),
+        Err(VarError::NotPresent) => None,
+        Err(VarError::NotUnicode) => return Err(io::Error::from(ErrorKind::InvalidData)),
+        Err(VarError::OutOfMemory) => return Err(io::Error::from(ErrorKind::OutOfMemory)),
+    };
+    match folder_named(
+        rt.alloc(),
+        named.as_ref().map(|name| name.as_str()),
+        default,
+    ) {
         Ok(folder) => Ok(folder),
-        Err(VarError::NotPresent) => Ok(String::from_str(rt.alloc(), default)?),
-        Err(VarError::NotUnicode) => Err(io::Error::from(ErrorKind::InvalidData)),
-        Err(VarError::OutOfMemory) => Err(io::Error::from(ErrorKind::OutOfMemory)),
+        Err(NoMemory) => Err(io::Error::from(ErrorKind::OutOfMemory)),
     }
 }
 

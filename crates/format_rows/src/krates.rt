@@ -1,105 +1,80 @@
-//! The versions of a crate, over memory.
-use std::test::Fail;
-use tame_names::{Error, IoKind, Items, MemFile, MemFiles, Text};
+//! The versions of a crate.
+use row_fixtures::{Row, RowFault, body_of, told};
+use std::alloc::{AllocError, Global};
+use tame_names::MemFiles;
 use tame_records::{DependencyKind, IndexKrate};
 
-/// Index lines of these versions of the crate `a`, each with its yanked flag.
-fn body(rt: &HostRuntime, versions: &[(&str, bool)]) -> Result<String, Fail> {
-    let digest = "0000000000000000000000000000000000000000000000000000000000000000";
-    let mut text = String::new(rt.alloc());
-    for (version, yanked) in versions {
-        let line = format!(in rt.alloc();
-            "{{\"name\":\"a\",\"vers\":\"{version}\",\"deps\":[],\"cksum\":\"{digest}\",\"features\":{{}},\"yanked\":{yanked}}}\n"
-        )?;
-        text.push_str(line.as_str())?;
+/// The first and the last version, and the name.
+fn ends_of(alloc: Global, krate: &IndexKrate) -> Result<String, AllocError> {
+    if krate.versions.as_slice().is_empty() {
+        return String::from_str(alloc, "none");
     }
-    Ok(text)
+    let (name, count) = (krate.name(), krate.versions.as_slice().len());
+    let first = krate.earliest_version().version.as_str();
+    let last = krate.most_recent_version().version.as_str();
+    format!(in alloc; "{count} of {name}: {first} to {last}")
 }
 
-#[test]
-fn versions(rt: HostRuntime) -> Result<(), Fail> {
-    let list = [
-        ("0.1.0", false),
-        ("0.1.1", false),
-        ("0.1.0", false),
-        ("0.2.0", false),
-        ("0.3.0", false),
-        ("0.4.0", false),
-        ("0.4.0-alpha.00", false),
-        ("0.5.0", true),
-    ];
-    let text = body(&rt, list.as_slice())?;
-    let krate = IndexKrate::from_slice(rt.alloc(), text.as_bytes())?;
-    assert_eq!(rt; krate.versions.as_slice().len(), 8);
-    assert_eq!(rt; krate.name(), "a");
-    assert_eq!(rt; krate.earliest_version().version.as_str(), "0.1.0");
-    assert_eq!(rt; krate.most_recent_version().version.as_str(), "0.5.0");
-    let highest = krate.highest_version(rt.alloc())?;
-    assert_eq!(rt; highest.version.as_str(), "0.5.0");
-    let Some(normal) = krate.highest_normal_version(rt.alloc())? else {
-        return Err(Fail::from("no normal version"));
+/// The highest version, and the highest that is no prerelease and isn't yanked.
+fn highest_of(alloc: Global, krate: &IndexKrate) -> Result<String, RowFault> {
+    if krate.versions.as_slice().is_empty() {
+        return Ok(String::from_str(alloc, "none")?);
+    }
+    let highest = krate.highest_version(alloc)?.version.as_str();
+    let normal = match krate.highest_normal_version(alloc)? {
+        Some(version) => version.version.as_str(),
+        None => "nothing",
     };
-    assert_eq!(rt; normal.version.as_str(), "0.4.0");
-    Ok(())
+    Ok(format!(in alloc; "highest {highest}, normal {normal}")?)
 }
 
-#[test]
-fn equal_by_contents(rt: HostRuntime) -> Result<(), Fail> {
-    let text = body(&rt, &[("0.1.0", false), ("0.2.0", true)])?;
-    let other = body(&rt, &[("0.1.0", false), ("0.2.0", false)])?;
-    let krate = IndexKrate::from_slice(rt.alloc(), text.as_bytes())?;
-    let same = IndexKrate::from_slice(rt.alloc(), text.as_bytes())?;
-    let flagged = IndexKrate::from_slice(rt.alloc(), other.as_bytes())?;
-    assert!(rt; krate == same);
-    assert!(rt; krate != flagged);
-    let (first, other) = (krate.versions.as_slice(), flagged.versions.as_slice());
-    assert!(rt; first.first() == other.first());
-    assert!(rt; first.last() != other.last());
-    assert!(rt; DependencyKind::default() == DependencyKind::Normal);
-    Ok(())
+/// What a crate is told as.
+fn krate_line(alloc: Global, krate: &IndexKrate) -> Result<String, RowFault> {
+    let ends = ends_of(alloc, krate)?;
+    let highest = highest_of(alloc, krate)?;
+    Ok(format!(in alloc; "{ends}; {highest}")?)
 }
 
-#[test]
-fn no_normal_version(rt: HostRuntime) -> Result<(), Fail> {
-    let list = [("1.0.0-rc.1", false), ("1", false), ("0.1.0", true)];
-    let text = body(&rt, list.as_slice())?;
-    let krate = IndexKrate::from_slice(rt.alloc(), text.as_bytes())?;
-    assert!(rt; krate.highest_normal_version(rt.alloc())?.is_none());
-    Ok(())
+/// `krate BODY`: how many versions, of which crate, which is first, last, highest, and highest of
+/// those that are no prerelease and not yanked.
+pub fn krate(alloc: Global, mut words: Row<'_>) -> Result<String, RowFault> {
+    let body = body_of(alloc, words.word())?;
+    let krate = IndexKrate::from_slice(alloc, body.as_slice())?;
+    krate_line(alloc, &krate)
 }
 
-#[test]
-fn refused(rt: HostRuntime) -> Result<(), Fail> {
-    let Err(Error::NoCrateVersions) = IndexKrate::from_slice(rt.alloc(), b"\n\n") else {
-        return Err(Fail::from("newlines alone"));
-    };
-    let mut text = body(&rt, &[("0.1.0", false)])?;
-    text.push_str("{}\n{}\n")?;
-    let Err(Error::Json { line: 1 }) = IndexKrate::from_slice(rt.alloc(), text.as_bytes()) else {
-        return Err(Fail::from("the second line has no record"));
-    };
-    Ok(())
+/// The same of a file.
+fn file_line(alloc: Global, files: &mut MemFiles, path: &str) -> Result<String, RowFault> {
+    let krate = IndexKrate::new(alloc, files, path)?;
+    krate_line(alloc, &krate)
 }
 
-#[test]
-fn files(rt: HostRuntime) -> Result<(), Fail> {
-    let alloc = rt.alloc();
-    let text = body(&rt, &[("0.1.0", false)])?;
-    let mut there = Items::new(alloc);
-    there.add(MemFile {
-        path: Text::of(alloc, "1/a")?,
-        bytes: Items::copied(alloc, text.as_bytes())?,
-    })?;
-    let failing = Items::of(Vec::from_slice(alloc, [3].as_slice())?);
-    let mut files = MemFiles::new(alloc, there, failing);
-    let krate = IndexKrate::new(alloc, &mut files, "1/a")?;
-    assert_eq!(rt; krate.versions.as_slice().len(), 1);
-    let Err(Error::Io(IoKind::NotFound)) = IndexKrate::new(alloc, &mut files, "1/b") else {
-        return Err(Fail::from("nothing is there"));
-    };
-    let Err(Error::Io(IoKind::Failed)) = IndexKrate::new(alloc, &mut files, "1/a") else {
-        return Err(Fail::from("the third read fails"));
-    };
-    assert_eq!(rt; files.failed().len(), 1);
-    Ok(())
+/// `file PATH`: the same of a file, and how many reads have failed.
+pub fn file(alloc: Global, files: &mut MemFiles, mut words: Row<'_>) -> Result<String, RowFault> {
+    let line = told(alloc, file_line(alloc, files, words.word()))?;
+    let failed = files.failed().len();
+    Ok(format!(in alloc; "{line}; {failed} failed")?)
+}
+
+/// Whether two crates are equal, their first versions, and their last.
+fn same_line(alloc: Global, one: &IndexKrate, other: &IndexKrate) -> Result<String, AllocError> {
+    let is_same = *one == *other;
+    let first = one.versions.as_slice().first() == other.versions.as_slice().first();
+    let last = one.versions.as_slice().last() == other.versions.as_slice().last();
+    format!(in alloc; "{is_same} {first} {last}")
+}
+
+/// `same BODY BODY`: whether two crates are equal, their first versions, and their last.
+pub fn same(alloc: Global, mut words: Row<'_>) -> Result<String, RowFault> {
+    let one = body_of(alloc, words.word())?;
+    let other = body_of(alloc, words.word())?;
+    let one = IndexKrate::from_slice(alloc, one.as_slice())?;
+    let other = IndexKrate::from_slice(alloc, other.as_slice())?;
+    Ok(same_line(alloc, &one, &other)?)
+}
+
+/// `kind`: the kind of a dependency that names none.
+pub fn kind(alloc: Global) -> Result<String, RowFault> {
+    let kind = DependencyKind::default();
+    Ok(format!(in alloc; "{kind:?}")?)
 }

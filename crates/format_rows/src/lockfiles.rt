@@ -1,131 +1,70 @@
-//! A table of lockfiles.
-use audit_lock::{Lockfile, LockfileFault, is_default_registry};
-use std::test::Fail;
+//! Lockfiles.
+use audit_lock::{Lockfile, LockfileFault, Package, is_default_registry};
+use row_fixtures::{Row, RowFault};
+use std::alloc::{AllocError, Global};
 
-const REGISTRY: &str = "registry+https://github.com/rust-lang/crates.io-index";
-
-/// The number of packages, or the fault, as text.
-fn read(rt: &HostRuntime, text: &str) -> Result<String, Fail> {
-    Ok(match Lockfile::read(rt.alloc(), text) {
-        Ok(lockfile) => format!(in rt.alloc(); "{} packages", lockfile.packages().len())?,
-        Err(LockfileFault::Rule { package, rule }) => match package {
-            None => format!(in rt.alloc(); "{rule:?}")?,
-            Some(place) => format!(in rt.alloc(); "{rule:?} of {place}")?,
+fn fault_text(alloc: Global, fault: LockfileFault) -> Result<String, AllocError> {
+    match fault {
+        LockfileFault::Rule { package, rule } => match package {
+            None => format!(in alloc; "{rule:?}"),
+            Some(place) => format!(in alloc; "{rule:?} of {place}"),
         },
-        Err(fault) => format!(in rt.alloc(); "{fault:?}")?,
-    })
+        _ => format!(in alloc; "{fault:?}"),
+    }
 }
 
-/// A table of a package.
-fn package(rt: &HostRuntime, name: &str, version: &str, more: &str) -> Result<String, Fail> {
-    Ok(format!(in rt.alloc(); "[[package]]\nname = \"{name}\"\nversion = \"{version}\"\n{more}\n")?)
+/// The number of packages, or the fault.
+fn read(alloc: Global, text: &str) -> Result<String, AllocError> {
+    match Lockfile::read(alloc, text) {
+        Ok(lockfile) => {
+            let count = lockfile.packages().len();
+            format!(in alloc; "{count} packages")
+        }
+        Err(fault) => fault_text(alloc, fault),
+    }
 }
 
-#[test]
-fn rules(rt: HostRuntime) -> Result<(), Fail> {
-    let cases = [
-        ("", "0 packages"),
-        ("\u{feff}version = 4", "0 packages"),
-        ("version = 4\r\n", "0 packages"),
-        ("version = 0", "Version"),
-        ("version = 5", "Version"),
-        ("version = \"4\"", "Version"),
-        ("version = 1979-05-27", "Version"),
-        ("x =", "Toml"),
-        ("x = 1\nx = 2", "Toml"),
-        ("[metadata]\nx = 1.5", "Float"),
-        ("[a]\nb = [{c = [nan]}]\nversion = 9", "Float"),
-        ("package = 1", "Packages"),
-        ("package = [1]", "Packages"),
-        ("root = 1", "Root"),
-        (
-            "[metadata]\n\"checksum a\" = \"x\"\n[patch]\nunused = []",
-            "0 packages",
-        ),
-    ];
-    for (text, want) in cases {
-        assert_eq!(rt; read(&rt, text)?.as_str(), want);
+/// `lock TEXT`: the number of packages of a lockfile, or why it is none.
+pub fn lock(alloc: Global, mut words: Row<'_>) -> Result<String, RowFault> {
+    let text = words.text(alloc)?;
+    Ok(read(alloc, text.as_str())?)
+}
+
+/// `package NAME VERSION MORE`: the same of a lockfile with one package, and these lines behind it.
+pub fn package(alloc: Global, mut words: Row<'_>) -> Result<String, RowFault> {
+    let name = words.word();
+    let version = words.word();
+    let more = words.text(alloc)?;
+    let text = format!(in alloc;
+        "[[package]]\nname = \"{name}\"\nversion = \"{version}\"\n{more}\n"
+    )?;
+    Ok(read(alloc, text.as_str())?)
+}
+
+fn push_package(out: &mut String, package: &Package) -> Result<(), AllocError> {
+    write!(out, "; {} {}:", package.name, package.version)?;
+    for place in package.dependencies.as_slice() {
+        write!(out, " {place}")?;
     }
     Ok(())
 }
 
-#[test]
-fn package_rules(rt: HostRuntime) -> Result<(), Fail> {
-    let cases = [
-        ("a", "0.1.0", "", "1 packages"),
-        ("a b.c", "0.1.0", "", "1 packages"),
-        ("a", "0.1", "", "PackageVersion of 0"),
-        ("a", "18446744073709551616.0.0", "", "PackageVersion of 0"),
-        ("a", "1.0.0-99999999999999999999", "", "1 packages"),
-        ("a", "0.1.0", "source = \"svn+x\"", "Source of 0"),
-        ("a", "0.1.0", "source = 1", "Source of 0"),
-        (
-            "a",
-            "0.1.0",
-            "source = \"git+https://example.org/a#0123\"",
-            "1 packages",
-        ),
-        (
-            "a",
-            "0.1.0",
-            "source = \"sparse+https://example.org/\"",
-            "1 packages",
-        ),
-        ("a", "0.1.0", "checksum = 1", "Checksum of 0"),
-        ("a", "0.1.0", "replace = 1", "Replace of 0"),
-        ("a", "0.1.0", "dependencies = 1", "Dependencies of 0"),
-        ("a", "0.1.0", "dependencies = [1]", "Dependencies of 0"),
-        ("a", "0.1.0", "dependencies = [\"b\"]", "Names of 0"),
-        ("a", "0.1.0", "dependencies = [\"a 0.2.0\"]", "Names of 0"),
-        (
-            "a",
-            "0.1.0",
-            "dependencies = [\"a\", \"a 0.1.0\"]",
-            "1 packages",
-        ),
-        (
-            "a",
-            "0.1.0",
-            "dependencies = 1\nreplace = 1\nchecksum = 1",
-            "Checksum of 0",
-        ),
-    ];
-    for (name, version, more, want) in cases {
-        let text = package(&rt, name, version, more)?;
-        assert_eq!(rt; read(&rt, text.as_str())?.as_str(), want);
-    }
-    assert_eq!(rt;
-        read(&rt, "[[package]]\nversion = \"0.1.0\"")?.as_str(),
-        "Name of 0"
-    );
-    Ok(())
-}
-
-#[test]
-fn dependencies(rt: HostRuntime) -> Result<(), Fail> {
-    let source = "source = \"git+https://example.org/a?branch=main#0123\"";
-    let mut text = package(&rt, "a", "0.1.0", source)?;
-    text.push_str(package(&rt, "a", "0.2.0", "")?.as_str())?;
-    let wanted =
-        "dependencies = [\"a\", \"a 0.2.0\", \"a 0.1.0 (git+https://example.org/a?branch=main)\", \"a 0.1.0 (git+https://example.org/a?branch=main#0123)\", \"r\"]";
-    text.push_str(package(&rt, "b", "1.0.0", wanted)?.as_str())?;
-    text.push_str("[root]\nname = \"r\"\nversion = \"1.0.0\"\ndependencies = [\"b\"]\n")?;
-    let Ok(lockfile) = Lockfile::read(rt.alloc(), text.as_str()) else {
-        return Err(Fail::from("no lockfile"));
+/// `packages`: each package of the text, with the places of its dependencies.
+pub fn packages(alloc: Global, text: &str) -> Result<String, RowFault> {
+    let lockfile = match Lockfile::read(alloc, text) {
+        Ok(lockfile) => lockfile,
+        Err(fault) => return Ok(fault_text(alloc, fault)?),
     };
-    let packages = lockfile.packages();
-    assert_eq!(rt; packages.len(), 4);
-    assert!(rt; packages[2].dependencies.as_slice() == [0, 1, 0, 0, 3].as_slice());
-    assert!(rt; packages[3].dependencies.as_slice() == [2].as_slice());
-    assert_eq!(rt; packages[3].name.as_str(), "r");
-    Ok(())
+    let count = lockfile.packages().len();
+    let mut out = format!(in alloc; "{count} packages")?;
+    for package in lockfile.packages() {
+        push_package(&mut out, package)?;
+    }
+    Ok(out)
 }
 
-#[test]
-fn registries(rt: HostRuntime) {
-    assert!(rt; is_default_registry(REGISTRY));
-    assert!(rt; is_default_registry("sparse+https://index.crates.io/"));
-    assert!(rt; !is_default_registry("sparse+https://index.crates.io"));
-    assert!(rt; !is_default_registry("sparse+https://example.org/"));
-    assert!(rt; !is_default_registry("git+https://github.com/rust-lang/crates.io-index"));
+/// `registry SOURCE`: whether a source is the default registry.
+pub fn registry(alloc: Global, mut words: Row<'_>) -> Result<String, RowFault> {
+    let is_default = is_default_registry(words.word());
+    Ok(format!(in alloc; "{is_default}")?)
 }

@@ -1,118 +1,105 @@
 //! Git indices and what they store.
-ghost use Rattle.std.specs.Prelude.{◌<◌, length, IfOk};
-
-use std::test::Fail;
-use tame_cache::{Kept, MemCacheDisk};
+use row_fixtures::{Row, RowFault, shown, shown_word};
+use std::alloc::Global;
+use tame_cache::MemCacheDisk;
 use tame_entry::{GitRevision, HttpRevision, IndexEntry, Revision, Sha1Hex};
-use tame_names::{Error, FileLock, InvalidUrlError, IoKind, Items, KrateName, Text, utf8_text};
+use tame_names::{FileLock, Items, KrateName, Text};
 use tame_records::{IndexKrate, IndexVersion};
-use tame_sparse::{CRATES_IO_HTTP_INDEX, CRATES_IO_INDEX, GitIndex};
+use tame_sparse::GitIndex;
 
-fn git_index(rt: &HostRuntime) -> Result<GitIndex, Fail> {
-    let alloc = rt.alloc();
-    Ok(GitIndex::at(alloc, Text::of(alloc, "")?, CRATES_IO_INDEX)?)
+/// `head (HH | -)`: sets the head to a commit of twenty equal bytes, or to none; the head as
+/// digits, and whether it equals its bytes, and an entity tag.
+pub fn head(alloc: Global, git: &mut GitIndex, mut words: Row<'_>) -> Result<String, RowFault> {
+    let commit = words.byte_or_none()?.map(|byte| [byte; 20]);
+    git.set_head_commit(commit);
+    let (Some(head), Some(commit)) = (git.head_commit(), commit) else {
+        let absent = git.head_commit().is_none();
+        return Ok(format!(in alloc; "no head: {absent}")?);
+    };
+    let raw = Revision::Git(GitRevision::Raw(commit));
+    let is_raw = raw == Revision::Git(GitRevision::Hex(*head));
+    let is_tag = raw == Revision::Http(HttpRevision::Etag("x"));
+    let head = head.as_str();
+    Ok(format!(in alloc; "{head}; its bytes: {is_raw}; a tag: {is_tag}")?)
 }
 
 /// A crate with one version.
-fn krate(rt: &HostRuntime, name: &str, version: &str) -> Result<IndexKrate, Fail>
-    ensures { IfOk result (λ k. 0 < length k.versions) }
-{
-    let alloc = rt.alloc();
+fn krate(alloc: Global, name: &str, version: &str) -> Result<IndexKrate, RowFault> {
     let mut versions = Items::new(alloc);
     versions.add(IndexVersion::fake(alloc, name, version)?)?;
     Ok(IndexKrate { versions })
 }
 
-/// The bytes of the file of the crate `a`, up to the end of its version's text.
-fn front(rt: &HostRuntime, index: &GitIndex, disk: &mut MemCacheDisk) -> Result<Text, Fail> {
-    let alloc = rt.alloc();
+/// What storing a crate answers.
+fn stored(
+    alloc: Global,
+    git: &GitIndex,
+    krate: &IndexKrate,
+    blob: Option<Sha1Hex>,
+    disk: &mut MemCacheDisk,
+) -> Result<String, RowFault> {
+    if krate.versions.as_slice().is_empty() {
+        return Err(RowFault::Unread);
+    }
     let lock = FileLock::unlocked();
-    let name = KrateName::try_from("a")?;
-    match index.cached_krate(alloc, name, &lock, disk) {
-        Ok(Some(IndexEntry::Cache(file))) => match file.as_slice().get(5..51) {
-            Some(bytes) => match utf8_text(bytes) {
-                Some(text) => Ok(Text::of(alloc, text)?),
-                None => Ok(Text::of(alloc, "no text")?),
-            },
-            None => Ok(Text::of(alloc, "short")?),
-        },
-        _ => Ok(Text::of(alloc, "nothing")?),
+    Ok(match git.write_to_cache(alloc, krate, blob, &lock, disk)? {
+        None => String::from_str(alloc, "nothing")?,
+        Some(kept) => format!(in alloc; "{kept:?}")?,
+    })
+}
+
+/// `store NAME VERSION (HH | -)`: stores a crate of one version, under a blob of twenty equal
+/// bytes or under the head.
+pub fn store(
+    alloc: Global,
+    git: &GitIndex,
+    disk: &mut MemCacheDisk,
+    mut words: Row<'_>,
+) -> Result<String, RowFault> {
+    let name = words.text(alloc)?;
+    let version = words.text(alloc)?;
+    let krate = krate(alloc, name.as_str(), version.as_str())?;
+    let blob = words.byte_or_none()?.map(|byte| Sha1Hex::from([byte; 20]));
+    stored(alloc, git, &krate, blob, disk)
+}
+
+/// The bytes of an entry behind its five first, up to the end of its version's text.
+fn front_of(alloc: Global, entry: &[u8]) -> Result<String, RowFault> {
+    match entry.get(5..51) {
+        Some(bytes) => Ok(shown(alloc, bytes)?),
+        None => Ok(String::from_str(alloc, "short")?),
     }
 }
 
-#[test]
-fn heads(rt: HostRuntime) -> Result<(), Fail> {
-    let alloc = rt.alloc();
-    let mut index = git_index(&rt)?;
-    assert!(rt; index.head_commit().is_none());
-    index.set_head_commit(Some([0xab; 20]));
-    let Some(head) = index.head_commit() else {
-        return Err(Fail::from("no head"));
-    };
-    let raw = Revision::Git(GitRevision::Raw([0xab; 20]));
-    assert!(rt; raw == Revision::Git(GitRevision::Hex(*head)));
-    assert!(rt; raw != Revision::Http(HttpRevision::Etag("x")));
-    index.set_head_commit(None);
-    assert!(rt; index.head_commit().is_none());
+/// The same of the file of a crate.
+fn kept_front(
+    alloc: Global,
+    git: &GitIndex,
+    name: KrateName<'_>,
+    disk: &mut MemCacheDisk,
+) -> Result<String, RowFault> {
     let lock = FileLock::unlocked();
-    let mut disk = MemCacheDisk::new(alloc, Vec::new(alloc));
-    let krate = krate(&rt, "a", "0.1.0")?;
-    let done = index.write_to_cache(alloc, &krate, None, &lock, &mut disk)?;
-    assert!(rt; done.is_none());
-    assert_eq!(rt; front(&rt, &index, &mut disk)?.as_str(), "nothing");
-    Ok(())
+    match git.cached_krate(alloc, name, &lock, disk)? {
+        Some(IndexEntry::Cache(file)) => front_of(alloc, file.as_slice()),
+        _ => Ok(String::from_str(alloc, "nothing")?),
+    }
 }
 
-#[test]
-fn stored(rt: HostRuntime) -> Result<(), Fail> {
-    let alloc = rt.alloc();
-    let lock = FileLock::unlocked();
-    let krate = krate(&rt, "a", "0.1.0")?;
-    let mut index = git_index(&rt)?;
-    index.set_head_commit(Some([0xab; 20]));
-    let mut disk = MemCacheDisk::new(alloc, Vec::new(alloc));
-    let done = index.write_to_cache(alloc, &krate, None, &lock, &mut disk)?;
-    assert!(rt; done == Some(Kept::Written));
-    let head = "abababababababababababababababababababab\x000.1.0";
-    assert_eq!(rt; front(&rt, &index, &mut disk)?.as_str(), head);
-    let blob = Sha1Hex::from([0xcd; 20]);
-    let done = index.write_to_cache(alloc, &krate, Some(blob), &lock, &mut disk)?;
-    assert!(rt; done == Some(Kept::Written));
-    let under = "cdcdcdcdcdcdcdcdcdcdcdcdcdcdcdcdcdcdcdcd\x000.1.0";
-    assert_eq!(rt; front(&rt, &index, &mut disk)?.as_str(), under);
-    assert_eq!(rt; index.cache().path(), "");
-    Ok(())
+/// `front NAME`: the bytes of a crate's file behind the five first, up to the end of its version's
+/// text, and the path of the cache.
+pub fn front(
+    alloc: Global,
+    git: &GitIndex,
+    disk: &mut MemCacheDisk,
+    mut words: Row<'_>,
+) -> Result<String, RowFault> {
+    let path = shown_word(alloc, git.cache().path().as_bytes())?;
+    let front = kept_front(alloc, git, words.name()?, disk)?;
+    Ok(format!(in alloc; "{front}; in {path}")?)
 }
 
-#[test]
-fn refused(rt: HostRuntime) -> Result<(), Fail> {
-    let alloc = rt.alloc();
-    let lock = FileLock::unlocked();
-    let mut index = git_index(&rt)?;
-    index.set_head_commit(Some([0xab; 20]));
-    let failing = Vec::from_slice(alloc, [0].as_slice())?;
-    let mut disk = MemCacheDisk::new(alloc, failing);
-    let sound = krate(&rt, "a", "0.1.0")?;
-    let Err(Error::Io(IoKind::Failed)) = index.write_to_cache(alloc, &sound, None, &lock, &mut disk)
-    else {
-        return Err(Fail::from("stored"));
-    };
-    let nameless = krate(&rt, "a.b", "0.1.0")?;
-    let Err(Error::InvalidKrateName(_)) = index.write_to_cache(
-        alloc, &nameless, None, &lock, &mut disk,
-    ) else {
-        return Err(Fail::from("a name"));
-    };
-    let zero = krate(&rt, "a", "0\x00")?;
-    let done = index.write_to_cache(alloc, &zero, None, &lock, &mut disk)?;
-    assert!(rt; done == Some(Kept::NotStored));
-    let Err(Error::InvalidUrl(sparse)) = GitIndex::at(
-        alloc,
-        Text::of(alloc, "")?,
-        CRATES_IO_HTTP_INDEX,
-    ) else {
-        return Err(Fail::from("git"));
-    };
-    assert!(rt; sparse.source == InvalidUrlError::SparseForGit);
-    Ok(())
+/// `git-url URL`: the git index of a url.
+pub fn of_url(alloc: Global, mut words: Row<'_>) -> Result<String, RowFault> {
+    let _index = GitIndex::at(alloc, Text::of(alloc, "")?, words.word())?;
+    Ok(String::from_str(alloc, "an index")?)
 }

@@ -1,107 +1,90 @@
 //! What requests name.
-use crate::lines::{body, index};
-use std::test::Fail;
-use tame_cache::MemCacheDisk;
-use tame_entry::{
-    CacheWrite, GitRevision, HttpRevision, JsonLines, OwnedRevision, Revision, Sha1Hex,
+use row_fixtures::{
+    RevisionWord, Row, RowFault, disk_failing, disk_with, entry_of, flagged_body, owned_text, told,
 };
-use tame_names::{FileLock, KrateName, Text};
-use tame_sparse::Request;
+use std::alloc::Global;
+use tame_cache::MemCacheDisk;
+use tame_entry::{HttpRevision, Revision};
+use tame_names::{FileLock, KrateName};
+use tame_sparse::SparseIndex;
 
-/// What a request names, as text.
-fn told(rt: &HostRuntime, request: &Request) -> Result<Text, Fail> {
-    match &request.named {
-        None => Ok(Text::of(rt.alloc(), "nothing")?),
-        Some(OwnedRevision::Etag(text)) => Ok(text.try_clone(rt.alloc())?),
-        Some(OwnedRevision::LastModified(text)) => Ok(text.try_clone(rt.alloc())?),
-    }
+/// What the request for the crate `a` names, over a disk.
+fn named_over(
+    alloc: Global,
+    index: &SparseIndex,
+    revision: Option<HttpRevision<'_>>,
+    disk: &mut MemCacheDisk,
+) -> Result<String, RowFault> {
+    let lock = FileLock::unlocked();
+    let name = KrateName::try_from("a")?;
+    let request = index.make_remote_request(alloc, name, revision, &lock, disk)?;
+    owned_text(alloc, &request.named)
+}
+
+/// `name`: what the request for the crate `a` names, of the file that is kept.
+pub fn named(
+    alloc: Global,
+    index: &SparseIndex,
+    disk: &mut MemCacheDisk,
+) -> Result<String, RowFault> {
+    named_over(alloc, index, None, disk)
 }
 
 /// What is named of a revision that is handed in.
-fn of_handed(rt: &HostRuntime, revision: HttpRevision<'_>) -> Result<Text, Fail> {
-    let alloc = rt.alloc();
-    let lock = FileLock::unlocked();
-    let mut disk = MemCacheDisk::new(alloc, Vec::new(alloc));
-    let name = KrateName::try_from("a")?;
-    match index(rt)?.make_remote_request(alloc, name, Some(revision), &lock, &mut disk) {
-        Ok(request) => told(rt, &request),
-        Err(error) => Ok(Text::from_string(format!(in alloc; "{error:?}")?)),
-    }
+fn of_handed(
+    alloc: Global,
+    index: &SparseIndex,
+    revision: HttpRevision<'_>,
+) -> Result<String, RowFault> {
+    let mut disk = disk_failing(alloc, Vec::new(alloc));
+    named_over(alloc, index, Some(revision), &mut disk)
 }
 
-/// What is named where the file of the crate has these bytes, and these calls on the disk fail.
-fn of_file(rt: &HostRuntime, bytes: &[u8], failing: &[u64]) -> Result<Text, Fail> {
-    let alloc = rt.alloc();
-    let lock = FileLock::unlocked();
-    let mut disk = MemCacheDisk::new(alloc, Vec::from_slice(alloc, failing)?);
-    disk.put_file(".cache/1/a", bytes)?;
-    let name = KrateName::try_from("a")?;
-    let request = index(rt)?.make_remote_request(alloc, name, None, &lock, &mut disk)?;
-    told(rt, &request)
+/// What is named where the file of the crate is the entry of a line under a revision.
+fn of_entry(
+    alloc: Global,
+    index: &SparseIndex,
+    revision: &Revision<'_>,
+) -> Result<String, RowFault> {
+    let entry = entry_of(alloc, flagged_body(alloc, true)?.as_bytes(), revision)?;
+    let mut disk = disk_with(alloc, entry.as_slice(), Vec::new(alloc))?;
+    named_over(alloc, index, None, &mut disk)
 }
 
-fn entry(rt: &HostRuntime, revision: &Revision<'_>) -> Result<Vec<u8>, Fail> {
-    let body = body(rt, true)?;
-    let lines = JsonLines::validate(body.as_bytes())?;
-    Ok(CacheWrite::from(lines).entry(rt.alloc(), revision)?)
-}
-
-#[test]
-fn texts_at_their_edges(rt: HostRuntime) -> Result<(), Fail> {
-    let refused = "Http(InvalidHeaderValue)";
-    let cases = [
-        ("x", "x", "x"),
-        (" x ", "x", "x"),
-        ("a\tb", "a\tb", "a\tb"),
-        ("~", "~", "~"),
-        ("\u{a0}x\u{3000}", "x", "x"),
-        ("", "nothing", "nothing"),
-        (" \t", "nothing", "nothing"),
-        ("\u{85}", "nothing", "nothing"),
-        ("\u{1f}", refused, "nothing"),
-        ("\u{7f}", refused, "nothing"),
-        ("\u{80}", refused, "nothing"),
-        ("a\nb", refused, "nothing"),
-    ];
-    for (text, handed, kept) in cases {
-        let etag = HttpRevision::Etag(text);
-        assert_eq!(rt; of_handed(&rt, etag)?.as_str(), handed, "{text:?}");
-        let date = HttpRevision::LastModified(text);
-        assert_eq!(rt; of_handed(&rt, date)?.as_str(), handed, "{text:?}");
-        let file = entry(&rt, &Revision::Http(etag))?;
-        assert_eq!(rt;
-            of_file(&rt, file.as_slice(), &[])?.as_str(),
-            kept,
-            "{text:?}"
-        );
-        let file = entry(&rt, &Revision::Http(date))?;
-        assert_eq!(rt;
-            of_file(&rt, file.as_slice(), &[])?.as_str(),
-            kept,
-            "{text:?}"
-        );
-    }
-    Ok(())
-}
-
-#[test]
-fn files_that_name_nothing(rt: HostRuntime) -> Result<(), Fail> {
-    let alloc = rt.alloc();
-    let file = entry(&rt, &Revision::Http(HttpRevision::Etag("x")))?;
-    assert_eq!(rt; of_file(&rt, file.as_slice(), &[])?.as_str(), "x");
-    assert_eq!(rt; of_file(&rt, file.as_slice(), &[0])?.as_str(), "nothing");
-    let Some((_, rest)) = file.as_slice().split_first() else {
-        return Err(Fail::from("no byte"));
+/// `edge REVISION`: what is named of a revision that is handed in, and of the entry that is kept
+/// under it.
+pub fn edge(alloc: Global, index: &SparseIndex, mut words: Row<'_>) -> Result<String, RowFault> {
+    let revision = RevisionWord::of(alloc, words.word())?;
+    let Some(http) = revision.http() else {
+        return Err(RowFault::Unread);
     };
-    let mut closed = Vec::new(alloc);
-    closed.push(0)?;
-    closed.extend_from_slice(rest)?;
-    assert_eq!(rt; of_file(&rt, closed.as_slice(), &[])?.as_str(), "nothing");
-    assert_eq!(rt; of_file(&rt, b"", &[])?.as_str(), "nothing");
-    let digits = Sha1Hex::from([0xab; 20]);
-    let file = entry(&rt, &Revision::Git(GitRevision::Hex(digits)))?;
-    assert_eq!(rt; of_file(&rt, file.as_slice(), &[])?.as_str(), "nothing");
-    let file = b"\x03\x02\x00\x00\x00Unknown\x000.1.0\x00{}\x00";
-    assert_eq!(rt; of_file(&rt, file, &[])?.as_str(), "nothing");
-    Ok(())
+    let handed = told(alloc, of_handed(alloc, index, http))?;
+    let kept = told(alloc, of_entry(alloc, index, &revision.revision()))?;
+    Ok(format!(in alloc; "handed {handed}; kept {kept}")?)
+}
+
+/// The bytes with another first byte, where one is given.
+fn with_first(alloc: Global, bytes: &[u8], first: Option<u8>) -> Result<Vec<u8>, RowFault> {
+    let mut changed = bytes.to_vec(alloc)?;
+    if let (Some(place), Some(first)) = (changed.first_mut(), first) {
+        *place = first;
+    }
+    Ok(changed)
+}
+
+/// `kept REVISION FIRST FAILING`: what is named where the file of the crate is an entry under a
+/// revision, with another first byte or its own, and these calls on the disk fail.
+pub fn kept(alloc: Global, index: &SparseIndex, mut words: Row<'_>) -> Result<String, RowFault> {
+    let revision = RevisionWord::of(alloc, words.word())?;
+    let body = flagged_body(alloc, true)?;
+    let entry = entry_of(alloc, body.as_bytes(), &revision.revision())?;
+    let entry = with_first(alloc, entry.as_slice(), words.byte_or_none()?)?;
+    let mut disk = disk_with(alloc, entry.as_slice(), words.numbers(alloc)?)?;
+    named_over(alloc, index, None, &mut disk)
+}
+
+/// `file BYTES`: what is named where the file of the crate has these bytes.
+pub fn file(alloc: Global, index: &SparseIndex, mut words: Row<'_>) -> Result<String, RowFault> {
+    let mut disk = disk_with(alloc, words.bytes(alloc)?.as_slice(), Vec::new(alloc))?;
+    named_over(alloc, index, None, &mut disk)
 }

@@ -15,7 +15,7 @@ use Rattle.tame_entry.specs.declared.revisions.OwnedRevision.TheVariants.{Etag, 
 use Rattle.tame_entry.proofs.EntryLemmas.{entry_revision, honest_utf8}
 use Rattle.tame_cache.specs.Disk.{File, Step, Synced, reads, content, may_leave, EachMoment}
 use Rattle.tame_cache.specs.Gate.{IsOrderly, IsRefused}
-use Rattle.tame_cache.specs.Kept.{Disk, History, IsAddedTo, IsGood, IsGoodRead, IsGoodUnder, IsKept, IsWithoutFiles, IsWrittenFor, Keeps, begins, cache_file, calls, crashes}
+use Rattle.tame_cache.specs.Kept.{Disk, History, IsAddedTo, IsFileKept, IsGood, IsGoodRead, IsGoodUnder, IsKept, IsWithoutFiles, IsWrittenFor, Keeps, KeepsFile, begins, cache_file, calls, crashes}
 use Rattle.tame_cache.proofs.Moments.{started, joined, ends, weaker}
 
 -- ---- places
@@ -34,6 +34,10 @@ folder_some root = go (length root == 0) (ends_with_slash root)
 -- two index paths with one cache file are one path
 pub one_file : (root p q : List ℕ) → IsIndexPath p → IsIndexPath q → cache_file root p ≡ cache_file root q → p ≡ q
 one_file root p q hp hq same = join_same (join root (codes ".cache")) p q (folder_some root) (path_relative p hp) (path_relative q hq) same
+
+-- a name has one path
+pub one_path : (p q : List ℕ) → Some p ≡ Some q → p ≡ q
+one_path p q h = cc
 
 -- ---- good files
 
@@ -66,63 +70,64 @@ written_good m p r ps f w whole =
     let is = formed m p r ps f w in
     under_good m p (entry r ps) r (read_entry (entry r ps)) (λ e h. entry_revision r ps e is whole h) (written_under m p r ps w)
 
--- ---- one call after another
+-- ---- one call after another, of a file and of a disk
+
+pub file_kept_after : (m : ServerMap) (p : List ℕ) (old new : List Step) → KeepsFile m p old new → IsFileKept m p new
+file_kept_after m p old new keeps = record { orderly = keeps.orderly; all_good = ends old new (IsGood m p) keeps.any_moment }
+
+pub keeps_file_none : (m : ServerMap) (p : List ℕ) (past : List Step) → IsFileKept m p past → KeepsFile m p past past
+keeps_file_none m p past kept = record { orderly = kept.orderly; any_moment = started past (IsGood m p) kept.all_good }
 
 pub kept_after : (m : ServerMap) (root : List ℕ) (old new : Disk) → Keeps m root old new → IsKept m root new
-kept_after m root old new keeps = record {
-  orderly = keeps.orderly;
-  all_good = λ p is. ends (old (cache_file root p)) (new (cache_file root p)) (IsGood m p) (keeps.any_moment p is);
-}
+kept_after m root old new keeps p is = file_kept_after m p (old (cache_file root p)) (new (cache_file root p)) (keeps p is)
 
 pub keeps_none : (m : ServerMap) (root : List ℕ) (disk : Disk) → IsKept m root disk → Keeps m root disk disk
-keeps_none m root disk kept = record { orderly = kept.orderly; any_moment = λ p is. started (disk (cache_file root p)) (IsGood m p) (kept.all_good p is) }
+keeps_none m root disk kept p is = keeps_file_none m p (disk (cache_file root p)) (kept p is)
 
 -- where no file changes
 pub keeps_same : (m : ServerMap) (root : List ℕ) (old new : Disk) → ((q : List ℕ) → new q ≡ old q) → IsKept m root old → Keeps m root old new
-keeps_same m root old new same kept = record {
-  orderly = λ p is. subst IsOrderly (sym (same (cache_file root p))) (kept.orderly p is);
-  any_moment = λ p is. subst (λ (past : List Step). EachMoment (old (cache_file root p)) past (IsGood m p)) (sym (same (cache_file root p))) (started (old (cache_file root p)) (IsGood m p) (kept.all_good p is));
-}
+keeps_same m root old new same kept p is =
+    subst (λ (past : List Step). KeepsFile m p (old (cache_file root p)) past) (sym (same (cache_file root p))) (keeps_file_none m p (old (cache_file root p)) (kept p is))
 
 pub keeps_then : (m : ServerMap) (root : List ℕ) (old mid new : Disk) → Keeps m root old mid → (IsKept m root mid → Keeps m root mid new) → Keeps m root old new
-keeps_then m root old mid new first then_keeps =
-    let second = then_keeps (kept_after m root old mid first) in
+keeps_then m root old mid new first then_keeps p is =
+    let second = then_keeps (kept_after m root old mid first) p is in
     record {
       orderly = second.orderly;
-      any_moment = λ p is. joined (old (cache_file root p)) (mid (cache_file root p)) (new (cache_file root p)) (IsGood m p) (first.any_moment p is) (second.any_moment p is);
+      any_moment = joined (old (cache_file root p)) (mid (cache_file root p)) (new (cache_file root p)) (IsGood m p) (first p is).any_moment second.any_moment;
     }
 
--- ---- a write to one path
+-- ---- a write of a file
 
-module _ (m : ServerMap) (root path entry : List ℕ) (old new : Disk) (there : IsIndexPath path) (whole : IsGood m path (Some entry)) (kept : IsKept m root old) (others : (q : List ℕ) → q ≢ cache_file root path → new q ≡ old q)
-    (each : IsOrderly (old (cache_file root path)) → EachMoment (old (cache_file root path)) (new (cache_file root path)) (λ file. may_leave (old (cache_file root path)) file ⊎ (IsRefused file ⊎ (file ≡ Some entry))))
-    (ordered : IsOrderly (old (cache_file root path)) → IsOrderly (new (cache_file root path))) where
-  one : (file : File) → may_leave (old (cache_file root path)) file ⊎ (IsRefused file ⊎ (file ≡ Some entry)) → IsGood m path file
-  one file (inl now) = kept.all_good path there file now
+module _ (m : ServerMap) (path entry : List ℕ) (old new : List Step) (whole : IsGood m path (Some entry)) (kept : IsFileKept m path old)
+    (each : IsOrderly old → EachMoment old new (λ file. may_leave old file ⊎ (IsRefused file ⊎ (file ≡ Some entry)))) (ordered : IsOrderly old → IsOrderly new) where
+  one : (file : File) → may_leave old file ⊎ (IsRefused file ⊎ (file ≡ Some entry)) → IsGood m path file
+  one file (inl now) = kept.all_good file now
   one file (inr (inl none)) = refused_good m path file none
   one file (inr (inr is)) = subst (IsGood m path) (sym is) whole
 
-  at_path : (p : List ℕ) (P : List Step → Type 0) → IsIndexPath p → P (old (cache_file root p)) → (p ≡ path → P (new (cache_file root p))) → P (new (cache_file root p))
-  at_path p P is same changed = go (bytes_eq (cache_file root p) (cache_file root path)) refl
-    where
-      go : (b : Bool) → bytes_eq (cache_file root p) (cache_file root path) ≡ b → P (new (cache_file root p))
-      go true e = changed (one_file root p path is there ((bytes_eq-Decides (cache_file root p) (cache_file root path)).0 e))
-      go false differs = subst P (sym (others (cache_file root p) (λ e. let both = (bytes_eq-Decides (cache_file root p) (cache_file root path)).1 e in cc (both, differs)))) same
+  pub write_keeps_file : KeepsFile m path old new
+  write_keeps_file = record { orderly = ordered kept.orderly; any_moment = weaker old new _ (IsGood m path) one (each kept.orderly) }
 
-  pub write_keeps : Keeps m root old new
-  write_keeps = record {
-    orderly = λ p is. at_path p IsOrderly is (kept.orderly p is) (λ same. subst (λ (q : List ℕ). IsOrderly (new (cache_file root q))) (sym same) (ordered (kept.orderly path there)));
-    any_moment = λ p is. at_path p (λ past. EachMoment (old (cache_file root p)) past (IsGood m p)) is (started (old (cache_file root p)) (IsGood m p) (kept.all_good p is))
-        (λ same. subst (λ (q : List ℕ). EachMoment (old (cache_file root q)) (new (cache_file root q)) (IsGood m q)) (sym same)
-        (weaker (old (cache_file root path)) (new (cache_file root path)) _ (IsGood m path) one (each (kept.orderly path there))));
-  }
+-- of a disk whose other files stay
+pub write_keeps : (m : ServerMap) (root path : List ℕ) (old new : Disk) → IsIndexPath path → IsKept m root old → ((q : List ℕ) → q ≢ cache_file root path → new q ≡ old q)
+    → KeepsFile m path (old (cache_file root path)) (new (cache_file root path)) → Keeps m root old new
+write_keeps m root path old new there kept others here p is = go (bytes_eq (cache_file root p) (cache_file root path)) refl
+  where
+    go : (b : Bool) → bytes_eq (cache_file root p) (cache_file root path) ≡ b → KeepsFile m p (old (cache_file root p)) (new (cache_file root p))
+    go true e =
+        let same : p ≡ path = one_file root p path is there ((bytes_eq-Decides (cache_file root p) (cache_file root path)).0 e) in
+        subst (λ (q : List ℕ). KeepsFile m q (old (cache_file root q)) (new (cache_file root q))) (sym same) here
+    go false differs =
+        let same = others (cache_file root p) (λ e. let both = (bytes_eq-Decides (cache_file root p) (cache_file root path)).1 e in cc (both, differs)) in
+        subst (λ (past : List Step). KeepsFile m p (old (cache_file root p)) past) (sym same) (keeps_file_none m p (old (cache_file root p)) (kept p is))
 
 -- ---- laws
 
 pub empty_kept : (m : ServerMap) (root : List ℕ) (disk : Disk) → IsWithoutFiles root disk → IsKept m root disk
-empty_kept m root disk none = record {
-  orderly = λ p is absent file now. omega (arith, ap (λ (f : File). length (content f)) (none p is file now));
-  all_good = λ p is file now. subst (IsGood m p) (sym (none p is file now)) tt;
+empty_kept m root disk none p is = record {
+  orderly = λ absent file now. omega (arith, ap (λ (f : File). length (content f)) (none p is file now));
+  all_good = λ file now. subst (IsGood m p) (sym (none p is file now)) tt;
 }
 
 more_under : (m more : ServerMap) (p bytes : List ℕ) (r : EntryRevision) → IsAddedTo m more → IsGoodUnder m p bytes r → IsGoodUnder more p bytes r
@@ -139,7 +144,7 @@ more_good m more p None added good = tt
 more_good m more p (Some bytes) added good = more_read m more p bytes (read_entry bytes) added good
 
 pub more_kept : (m more : ServerMap) (root : List ℕ) (disk : Disk) → IsAddedTo m more → IsKept m root disk → IsKept more root disk
-more_kept m more root disk added kept = record { orderly = kept.orderly; all_good = λ p is file now. more_good m more p file added (kept.all_good p is file now) }
+more_kept m more root disk added kept p is = record { orderly = (kept p is).orderly; all_good = λ file now. more_good m more p file added ((kept p is).all_good file now) }
 
 -- the disk is kept, and was at each moment since the last call began
 record SoFar (m : ServerMap) (root : List ℕ) (began now : Disk) : Type 0 where
@@ -147,7 +152,7 @@ record SoFar (m : ServerMap) (root : List ℕ) (began now : Disk) : Type 0 where
   since : (p : List ℕ) → IsIndexPath p → EachMoment (began (cache_file root p)) (now (cache_file root p)) (IsGood m p)
 
 at_rest : (m : ServerMap) (root : List ℕ) (disk : Disk) → IsKept m root disk → SoFar m root disk disk
-at_rest m root disk kept = record { kept = kept; since = λ p is. started (disk (cache_file root p)) (IsGood m p) (kept.all_good p is) }
+at_rest m root disk kept = record { kept = kept; since = λ p is. started (disk (cache_file root p)) (IsGood m p) (kept p is).all_good }
 
 synced_orderly : (past : List Step) (file : File) → past ≡ Synced file ∷ [] → IsOrderly past
 synced_orderly past file is none left now =
@@ -159,16 +164,17 @@ so_far : (m : ServerMap) (root : List ℕ) (began now : Disk) → History m root
 so_far m root began now (begins disk none) = at_rest m root disk (empty_kept m root disk none)
 so_far m root began now (calls first mid next run keeps) =
     let last = keeps (so_far m root first mid run).kept in
-    record { kept = kept_after m root mid next last; since = last.any_moment }
+    record { kept = kept_after m root mid next last; since = λ p is. (last p is).any_moment }
 so_far m root began now (crashes first mid next run crash) =
     let before = so_far m root first mid run in
-    at_rest m root next record {
-      orderly = λ p is. let at = crash (cache_file root p) in synced_orderly (next (cache_file root p)) at.0 at.2;
-      all_good = λ p is file now.
-          let at = crash (cache_file root p) in
+    at_rest m root next (λ p is.
+    let at = crash (cache_file root p) in
+    record {
+      orderly = synced_orderly (next (cache_file root p)) at.0 at.2;
+      all_good = λ file now.
           let same : file ≡ at.0 = subst (λ (l : List Step). may_leave l file) at.2 now in
           subst (IsGood m p) (sym same) ((before.since p is).each at.0 at.1);
-    }
+    })
 
 pub history_kept : (m : ServerMap) (root : List ℕ) (began now : Disk) → History m root began now → IsKept m root now
 history_kept m root began now run = (so_far m root began now run).kept
@@ -189,10 +195,16 @@ moments_at old new q place bytes made there is each =
     subst (λ (x : List ℕ). IsOrderly (old x) → EachMoment (old x) (new x) (MayStore (old x) made)) (sym there)
     (subst (λ (b : List ℕ). IsOrderly (old q) → EachMoment (old q) (new q) (MayStore (old q) b)) is each)
 
+-- the file of a path is kept
+pub store_keeps_file : (m : ServerMap) (p q bytes : List ℕ) (r : EntryRevision) (ps : List Pair) (old new : Disk) (place : List ℕ) → q ≡ place → bytes ≡ entry r ps → IsFormed r → IsWrittenFor m p r ps → is_storable r ps ≡ true
+    → IsFileKept m p (old place) → (IsOrderly (old q) → EachMoment (old q) (new q) (MayStore (old q) bytes)) → (IsOrderly (old q) → IsOrderly (new q)) → KeepsFile m p (old place) (new place)
+store_keeps_file m p q bytes r ps old new place there is formed written storable kept each ordered =
+    write_keeps_file m p (entry r ps) (old place) (new place) (written_good m p r ps formed written (first_true (has_no_zero (entry_text r)) _ storable)) kept
+    (moments_at old new q place bytes (entry r ps) (sym there) is each)
+    (subst (λ (x : List ℕ). IsOrderly (old x) → IsOrderly (new x)) there ordered)
+
 pub store_keeps : (m : ServerMap) (root p q bytes : List ℕ) (r : EntryRevision) (ps : List Pair) (old new : Disk) → IsIndexPath p → q ≡ cache_file root p → bytes ≡ entry r ps → IsFormed r → IsWrittenFor m p r ps → is_storable r ps ≡ true
     → IsKept m root old → ((x : List ℕ) → x ≢ q → new x ≡ old x) → (IsOrderly (old q) → EachMoment (old q) (new q) (MayStore (old q) bytes)) → (IsOrderly (old q) → IsOrderly (new q)) → Keeps m root old new
 store_keeps m root p q bytes r ps old new there place is formed written storable kept others each ordered =
-    write_keeps m root p (entry r ps) old new there (written_good m p r ps formed written (first_true (has_no_zero (entry_text r)) _ storable)) kept
-    (λ x other. others x (λ same. other (same ∙ place)))
-    (moments_at old new q (cache_file root p) bytes (entry r ps) (sym place) is each)
-    (subst (λ (x : List ℕ). IsOrderly (old x) → IsOrderly (new x)) place ordered)
+    write_keeps m root p old new there kept (λ x other. others x (λ same. other (same ∙ place)))
+    (store_keeps_file m p q bytes r ps old new (cache_file root p) place is formed written storable (kept p there) each ordered)

@@ -5,3 +5,5 @@ mod Steps
 mod Whole
 mod Record
 pub mod KeptLemmas
+pub mod FolderLemmas
+mod CrashLemmas

@@ -1,5 +1,5 @@
 -- One call more in the record of a disk in memory.
-use Rattle.std.proofs.Common.{◌≡◌, ◌≢◌, inl, inr, ℕ, ◌+◌, ◌-◌, ◌≤◌, min, List, [], ◌∷◌, ◌++◌, length, take, drop, Some, None, Bool, true, false, refl, sym, ◌∙◌, ap, subst, arith, append_assoc, length-append, length-drop}
+use Rattle.std.proofs.Common.{◌≡◌, ◌≢◌, inl, inr, ℕ, ◌+◌, ◌-◌, ◌≤◌, min, List, [], ◌∷◌, ◌++◌, length, take, drop, Some, None, Bool, true, false, refl, sym, ◌∙◌, ap, subst, arith, append_assoc, length-append, length-drop, drop-drop}
 use Rattle.std.specs.Prelude.{option_map, Result, Ok, Err, OnOk, OnErr}
 use Rattle.std.specs.String.{string_bytes}
 use Rattle.std.specs.Str.{bytes_eq}
@@ -51,6 +51,22 @@ whole_torn old piece at le =
       no_longer = omega (arith, size);
     }
 
+-- so is the front of one
+pub part_torn : (old front : List ℕ) (at n : ℕ) → at ≤ length old → length front ≤ n → Torn at n old (with_piece old at front)
+part_torn old front at n le short =
+    let torn = whole_torn old front at le in
+    let more : at + n ≡ (at + length front) + (n - length front) = omega (arith, short) in
+    record {
+      before = torn.before;
+      after = rw (more, sym (drop-drop (n - length front) (at + length front) (with_piece old at front)), sym (drop-drop (n - length front) (at + length front) old)) (ap (λ (l : List ℕ). drop (n - length front) l) torn.after);
+      no_shorter = torn.no_shorter;
+      no_longer = omega (arith, torn.no_longer, short);
+    }
+
+pub part_torn_file : (old : File) (front : List ℕ) (at n : ℕ) → at ≤ length (content old) → length front ≤ n → TornFile at n old (Some (with_piece (content old) at front))
+part_torn_file None front at n le short = inr (with_piece [] at front, refl, part_torn [] front at n le short)
+part_torn_file (Some bytes) front at n le short = (with_piece bytes at front, refl, part_torn bytes front at n le short)
+
 pub whole_torn_file : (old : File) (piece : List ℕ) (at : ℕ) → at ≤ length (content old) → TornFile at (length piece) old (Some (with_piece (content old) at piece))
 whole_torn_file None piece at le = inr (with_piece [] at piece, refl, whole_torn [] piece at le)
 whole_torn_file (Some bytes) piece at le = (with_piece bytes at piece, refl, whole_torn bytes piece at le)
@@ -78,3 +94,10 @@ left_same path changed past change now left same here = rw same here
 
 pub left_other : (path changed : List ℕ) (past : List Step) (change : Change) (now left : File) → bytes_eq changed path ≡ false → may_leave past left → may_leave (after path past changed change now) left
 left_other path changed past change now left differs here = rw differs here
+
+-- anything that is told of a file's changes after a call, by what a test of its path answered
+pub told_same : {X : Type 0} (f : List Step → X) (path changed : List ℕ) (past : List Step) (change : Change) (now : File) → bytes_eq changed path ≡ true → f (after path past changed change now) ≡ f (step_of change now ∷ past)
+told_same f path changed past change now same = rw same refl
+
+pub told_other : {X : Type 0} (f : List Step → X) (path changed : List ℕ) (past : List Step) (change : Change) (now : File) → bytes_eq changed path ≡ false → f (after path past changed change now) ≡ f past
+told_other f path changed past change now differs = rw differs refl

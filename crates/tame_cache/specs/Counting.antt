@@ -1,15 +1,21 @@
 -- Calls that are made to fail by their numbers.
-use Rattle.std.specs.Prelude.{◌≡◌, ◌⊎◌, ◌≤◌, ℕ, List, Result, IsErr}
-use Rattle.tame_names.specs.Counts.{IsListed, next_call}
+use Rattle.std.specs.Prelude.{◌≡◌, ◌⊎◌, ◌≤◌, Result, IsOk, IsErr}
+use Rattle.tame_names.specs.Counts.{IsListed, Rose, next_call}
 use Rattle.tame_cache.specs.declared.counting.Counts.{Counts}
 
--- the next call is to fail: its number is listed, or isn't below the stop
+-- the next call is to fail: its number, from 1, is listed, or isn't below the stop
 abbrev pub IsToFail : Counts → Type 0
-IsToFail counts = (counts.stop ≤ counts.made) ⊎ IsListed counts.made counts.failing.items
+IsToFail counts = (counts.stop ≤ next_call counts.made) ⊎ IsListed (next_call counts.made) counts.failing.items
 
--- one call was made, and failed where it was to; which calls are to fail stays
+-- the object itself ran out of memory, which it counts apart
+abbrev pub WasStarved : Counts → Counts → Type 0
+WasStarved old new = Rose old.starved new.starved
+
+-- one call was made, and failed where it was to; which calls are to fail stays, and so do both counts where the call succeeds
 pub record IsCalled {T E : Type 0} (old new : Counts) (result : Result T E) : Type 0 where
   pub made : new.made ≡ next_call old.made
   pub failing : new.failing ≡ old.failing
   pub stop : new.stop ≡ old.stop
   pub fails : IsToFail old → IsErr result
+  pub quiet : IsOk result → new.faults ≡ old.faults
+  pub fed : IsOk result → new.starved ≡ old.starved

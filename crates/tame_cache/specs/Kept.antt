@@ -40,17 +40,27 @@ abbrev pub IsGood : ServerMap → List ℕ → File → Type 0
 IsGood m p None = Unit {0}
 IsGood m p (Some bytes) = IsGoodRead m p bytes (read_entry bytes)
 
+-- ---- kept files
+
+-- the file of an index path is kept: it is orderly, and each file that a crash now may leave is good
+pub record IsFileKept (m : ServerMap) (p : List ℕ) (past : List Step) : Type 0 where
+  pub orderly : IsOrderly past
+  pub all_good : (file : File) → may_leave past file → IsGood m p file
+
+-- from one moment to another it was kept all the time
+pub record KeepsFile (m : ServerMap) (p : List ℕ) (old new : List Step) : Type 0 where
+  pub orderly : IsOrderly new
+  pub any_moment : EachMoment old new (IsGood m p)
+
 -- ---- kept disks
 
--- each cache file is orderly, and each file that a crash now may leave is good
-pub record IsKept (m : ServerMap) (root : List ℕ) (disk : Disk) : Type 0 where
-  pub orderly : (p : List ℕ) → IsIndexPath p → IsOrderly (disk (cache_file root p))
-  pub all_good : (p : List ℕ) → IsIndexPath p → (file : File) → may_leave (disk (cache_file root p)) file → IsGood m p file
+-- the file of each index path is kept
+abbrev pub IsKept : ServerMap → List ℕ → Disk → Type 0
+IsKept m root disk = (p : List ℕ) → IsIndexPath p → IsFileKept m p (disk (cache_file root p))
 
 -- from one moment to another a disk was kept all the time
-pub record Keeps (m : ServerMap) (root : List ℕ) (old new : Disk) : Type 0 where
-  pub orderly : (p : List ℕ) → IsIndexPath p → IsOrderly (new (cache_file root p))
-  pub any_moment : (p : List ℕ) → IsIndexPath p → EachMoment (old (cache_file root p)) (new (cache_file root p)) (IsGood m p)
+abbrev pub Keeps : ServerMap → List ℕ → Disk → Disk → Type 0
+Keeps m root old new = (p : List ℕ) → IsIndexPath p → KeepsFile m p (old (cache_file root p)) (new (cache_file root p))
 
 -- a crash now leaves no cache file
 abbrev pub IsWithoutFiles : List ℕ → Disk → Type 0

@@ -3,6 +3,7 @@ pub mod Calls
 pub mod Counting
 pub mod Disk
 pub mod Faults
+pub mod Folders
 pub mod Gate
 pub mod Kept
 pub mod MemoryDisk

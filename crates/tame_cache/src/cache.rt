@@ -9,7 +9,8 @@ ghost use Rattle.tame_entry.specs.Revision.{revision_value};
 ghost use Rattle.tame_cache.specs.CacheFiles.{HandsOut};
 ghost use Rattle.tame_cache.specs.Disk.{EachMoment, File, may_leave, reads};
 ghost use Rattle.tame_cache.specs.Gate.{IsOrderly, IsRefused, IsStored};
-ghost use Rattle.tame_cache.specs.Kept.{IsKept, IsWrittenFor, Keeps, cache_file, cache_file_of};
+ghost use Rattle.tame_cache.specs.Folders.{MakesOnly};
+ghost use Rattle.tame_cache.specs.Kept.{IsFileKept, IsKept, IsWrittenFor, Keeps, KeepsFile, cache_file, cache_file_of};
 
 use crate::disk::{CacheDisk, DiskReadFault};
 use crate::storing::store;
@@ -86,6 +87,7 @@ impl IndexCache {
     ) -> Result<Option<IndexEntry<'static, 'l>>, Error>
         ensures read { D.tells → (q : List ℕ) → cache_file_of self.now.path (text_of name.entry) ≡ Some q → IfOk result (λ e. HandsOut e (reads (D.past disk.old q))) }
         ensures same { D.tells → (q : List ℕ) → D.past disk.new q ≡ D.past disk.old q }
+        ensures folders { D.tells → D.folders disk.new ≡ D.folders disk.old }
         ensures calls { D.made disk.new ≤ D.made disk.old + 1 }
         ensures cause { HasCause Error.NoMemory (D.faults disk.old) (D.faults disk.new) result }
         ensures only { IfErr result (λ e. (e ≡ Error.NoMemory) ⊎ (e ≡ Error.Io IoKind.Failed)) }
@@ -109,6 +111,7 @@ impl IndexCache {
     ) -> Result<Option<IndexEntry<'static, 'l>>, Error>
         ensures read { D.tells → (q : List ℕ) → cache_file_of self.now.path (text_of name.entry) ≡ Some q → IfOk result (λ e. HandsOut e (reads (D.past disk.old q))) }
         ensures same { D.tells → (q : List ℕ) → D.past disk.new q ≡ D.past disk.old q }
+        ensures folders { D.tells → D.folders disk.new ≡ D.folders disk.old }
         ensures calls { D.made disk.new ≤ D.made disk.old + 1 }
         ensures cause { HasCause Error.NoMemory (D.faults disk.old) (D.faults disk.new) result }
         ensures only { IfErr result (λ e. (e ≡ Error.NoMemory) ⊎ (e ≡ Error.Io IoKind.Failed)) }
@@ -140,8 +143,14 @@ impl IndexCache {
         ensures orderly { D.tells → (q : List ℕ) → cache_file_of self.now.path (text_of name.entry) ≡ Some q → IsOrderly (D.past disk.old q) → IsOrderly (D.past disk.new q) }
         ensures others { D.tells → (q : List ℕ) → cache_file_of self.now.path (text_of name.entry) ≢ Some q → D.past disk.new q ≡ D.past disk.old q }
 
-        // a kept disk is kept at every moment, where what is written is what the server held
-        ensures kept { D.tells → (m : ServerMap) → ((p : List ℕ) → path (text_of name.entry) ≡ Some p → IsTrue (is_storable (revision_value revision.now) (written_pairs cw.entry)) → IsWrittenFor m p (revision_value revision.now) (written_pairs cw.entry))
+        // no folders are made but those above its file
+        ensures folders { D.tells → MakesOnly (λ q. cache_file_of self.now.path (text_of name.entry) ≡ Some q) (D.folders disk.old) (D.folders disk.new) }
+
+        // a kept file is kept at every moment, whatever stands at others, where what is written is what the server held; and so is a kept disk
+        ensures kept { D.tells → (m : ServerMap) (p : List ℕ) → path (text_of name.entry) ≡ Some p
+            → (IsTrue (is_storable (revision_value revision.now) (written_pairs cw.entry)) → IsWrittenFor m p (revision_value revision.now) (written_pairs cw.entry))
+            → IsFileKept m p (D.past disk.old (cache_file self.now.path p)) → KeepsFile m p (D.past disk.old (cache_file self.now.path p)) (D.past disk.new (cache_file self.now.path p)) }
+        ensures disk_kept { D.tells → (m : ServerMap) → ((p : List ℕ) → path (text_of name.entry) ≡ Some p → IsTrue (is_storable (revision_value revision.now) (written_pairs cw.entry)) → IsWrittenFor m p (revision_value revision.now) (written_pairs cw.entry))
             → IsKept m self.now.path (D.past disk.old) → Keeps m self.now.path (D.past disk.old) (D.past disk.new) }
         ensures calls { D.made disk.new ≤ D.made disk.old + 13 }
         ensures cause { HasCause CacheFault.NoMemory (D.faults disk.old) (D.faults disk.new) result }

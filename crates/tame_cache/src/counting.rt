@@ -1,19 +1,21 @@
 //! Calls counted, and made to fail by their numbers.
-ghost use Rattle.std.specs.Prelude.{◌≡◌, ◌≤◌, ◌+◌};
+ghost use Rattle.std.specs.Prelude.{◌≡◌, ◌≤◌, ◌+◌, IsErr};
 ghost use Rattle.tame_names.specs.Counts.{Rose};
-ghost use Rattle.tame_cache.specs.Counting.{IsCalled};
+ghost use Rattle.tame_cache.specs.Counting.{IsCalled, IsToFail, WasStarved};
 ghost use Rattle.tame_cache.specs.Faults.{HasDiskCause};
 
 use crate::disk::DiskFault;
 
-/// How many calls were made, which fail by their numbers, the number from which on all fail, and
-/// how many have failed. The first call has number 0.
+/// How many calls were made, which fail by their numbers, the number from which on all fail, how
+/// many have failed, and how many of these for want of the object's own memory. The first call has
+/// number 1.
 #[derive(Drop)]
 pub struct Counts {
     pub made: u64,
     pub failing: Vec<u64>,
     pub stop: u64,
     pub faults: u64,
+    pub starved: u64,
 }
 
 impl Counts {
@@ -24,9 +26,23 @@ impl Counts {
         ensures made { self.new.made ≡ self.old.made }
         ensures failing { self.new.failing ≡ self.old.failing }
         ensures stop { self.new.stop ≡ self.old.stop }
+        ensures starved { self.new.starved ≡ self.old.starved }
     {
         self.faults = self.faults.saturating_add(1);
         DiskFault
+    }
+
+    /// Counts a fault for want of memory.
+    pub fn starve(&mut self) -> DiskFault
+        ensures rose { Rose self.old.faults self.new.faults }
+        ensures later { self.old.faults ≤ self.new.faults }
+        ensures made { self.new.made ≡ self.old.made }
+        ensures failing { self.new.failing ≡ self.old.failing }
+        ensures stop { self.new.stop ≡ self.old.stop }
+        ensures starved { WasStarved self.old self.new }
+    {
+        self.starved = self.starved.saturating_add(1);
+        self.fail()
     }
 
     /// Begins a call, which fails where its number is listed or isn't below the stop.
@@ -34,10 +50,14 @@ impl Counts {
         ensures cause { HasDiskCause self.old.faults self.new.faults result }
         ensures made { self.new.made ≤ self.old.made + 1 }
         ensures called { IsCalled self.old self.new result }
+        ensures only { IsErr result → IsToFail self.old }
+        ensures starved { self.new.starved ≡ self.old.starved }
     {
-        let number = self.made;
-        self.made = number.saturating_add(1);
-        if number >= self.stop || self.failing.contains(&number) {
+        self.made = self.made.saturating_add(1);
+        if self.made >= self.stop {
+            return Err(self.fail());
+        }
+        if self.failing.contains(&self.made) {
             return Err(self.fail());
         }
         Ok(())

@@ -1,8 +1,9 @@
 //! A disk of cache files. Contracts see a file as the list of its changes, the newest in front.
-ghost use Rattle.std.specs.Prelude.{◌≡◌, ◌≢◌, ◌≤◌, ◌+◌, List, ℕ, ◌∷◌, length, take, Some, IfOk, OnOk, option_map};
+ghost use Rattle.std.specs.Prelude.{◌≡◌, ◌≢◌, ◌≤◌, ◌+◌, List, ℕ, [], ◌∷◌, ◌++◌, length, take, Some, IfOk, OnOk, option_map};
 ghost use Rattle.tame_names.specs.Counts.{HasCause};
 ghost use Rattle.tame_cache.specs.Faults.{HasDiskCause};
 ghost use Rattle.tame_cache.specs.Disk.{File, Step, Synced, first_of, content, with_piece, reads, MayWrite, MayCut, MaySync};
+ghost use Rattle.tame_cache.specs.Folders.{MakesOnly};
 
 use std::alloc::Global;
 
@@ -39,6 +40,9 @@ pub trait CacheDisk {
     /// The changes of the file at a path, the newest first.
     ghost past: { Self → List ℕ → List Step };
 
+    /// The paths above which folders were made, the first in front, where they are told.
+    ghost folders: { Self → List (List ℕ) };
+
     /// How often a call has failed.
     ghost faults: { Self → ℕ };
 
@@ -53,6 +57,7 @@ pub trait CacheDisk {
     fn peek(&mut self, path: &str) -> Result<Peek, DiskFault>
         ensures first { tells → IfOk result (λ first. first ≡ first_of (reads (past self.old path.now))) }
         ensures same { tells → (q : List ℕ) → past self.new q ≡ past self.old q }
+        ensures folders { tells → folders self.new ≡ folders self.old }
         ensures calls { made self.new ≤ made self.old + 1 }
         ensures cause { HasDiskCause (faults self.old) (faults self.new) result };
 
@@ -60,12 +65,15 @@ pub trait CacheDisk {
     fn read(&mut self, alloc: Global, path: &str) -> Result<Option<Vec<u8>>, DiskReadFault>
         ensures file { tells → IfOk result (λ file. option_map (λ bytes. bytes.items) file ≡ reads (past self.old path.now)) }
         ensures same { tells → (q : List ℕ) → past self.new q ≡ past self.old q }
+        ensures folders { tells → folders self.new ≡ folders self.old }
         ensures calls { made self.new ≤ made self.old + 1 }
         ensures cause { HasCause DiskReadFault.NoMemory (faults self.old) (faults self.new) result };
 
-    /// Makes the folders above a path.
+    /// Makes the folders above a path, and no others.
     fn make_dirs(&mut self, path: &str) -> Result<(), DiskFault>
         ensures same { tells → (q : List ℕ) → past self.new q ≡ past self.old q }
+        ensures folders { tells → MakesOnly (λ q. q ≡ path.now) (folders self.old) (folders self.new) }
+        ensures made { tells → OnOk result (folders self.new ≡ folders self.old ++ path.now ∷ []) }
         ensures calls { made self.new ≤ made self.old + 1 }
         ensures cause { HasDiskCause (faults self.old) (faults self.new) result };
 
@@ -75,6 +83,7 @@ pub trait CacheDisk {
         ensures written { tells → OnOk result (at ≤ length (content (reads (past self.old path.now))) → reads (past self.new path.now) ≡ Some (with_piece (content (reads (past self.old path.now))) at piece.now)) }
         ensures step { tells → MayWrite at (length piece.now) (past self.old path.now) (past self.new path.now) }
         ensures others { tells → (q : List ℕ) → q ≢ path.now → past self.new q ≡ past self.old q }
+        ensures folders { tells → folders self.new ≡ folders self.old }
         ensures calls { made self.new ≤ made self.old + 1 }
         ensures cause { HasDiskCause (faults self.old) (faults self.new) result };
 
@@ -83,6 +92,7 @@ pub trait CacheDisk {
         ensures cut { tells → OnOk result (reads (past self.new path.now) ≡ option_map (take len) (reads (past self.old path.now))) }
         ensures step { tells → MayCut len (past self.old path.now) (past self.new path.now) }
         ensures others { tells → (q : List ℕ) → q ≢ path.now → past self.new q ≡ past self.old q }
+        ensures folders { tells → folders self.new ≡ folders self.old }
         ensures calls { made self.new ≤ made self.old + 1 }
         ensures cause { HasDiskCause (faults self.old) (faults self.new) result };
 
@@ -91,6 +101,7 @@ pub trait CacheDisk {
         ensures synced { tells → OnOk result (past self.new path.now ≡ Synced (reads (past self.old path.now)) ∷ past self.old path.now) }
         ensures step { tells → MaySync (past self.old path.now) (past self.new path.now) }
         ensures others { tells → (q : List ℕ) → q ≢ path.now → past self.new q ≡ past self.old q }
+        ensures folders { tells → folders self.new ≡ folders self.old }
         ensures calls { made self.new ≤ made self.old + 1 }
         ensures cause { HasDiskCause (faults self.old) (faults self.new) result };
 }

@@ -13,6 +13,7 @@ fn write_first<D: CacheDisk>(disk: &mut D, path: &str, byte: u8) -> Result<(), D
     ensures any_moment { D.tells → EachMoment (D.past disk.old path.now) (D.past disk.new path.now)
         (λ file. may_leave (D.past disk.old path.now) file ⊎ ((old : File) × may_leave (D.past disk.old path.now) old × TornFile 0 1 old file)) }
     ensures others { D.tells → (q : List ℕ) → q ≢ path.now → D.past disk.new q ≡ D.past disk.old q }
+    ensures folders { D.tells → D.folders disk.new ≡ D.folders disk.old }
     ensures calls { D.made disk.new ≤ D.made disk.old + 2 }
     ensures cause { HasDiskCause (D.faults disk.old) (D.faults disk.new) result }
 {
@@ -30,6 +31,7 @@ pub fn close<D: CacheDisk>(disk: &mut D, path: &str, seen: Peek) -> Result<(), D
         (λ file. may_leave (D.past disk.old path.now) file ⊎ IsRefused file) }
     ensures orderly { D.tells → IsOrderly (D.past disk.old path.now) → IsOrderly (D.past disk.new path.now) }
     ensures others { D.tells → (q : List ℕ) → q ≢ path.now → D.past disk.new q ≡ D.past disk.old q }
+    ensures folders { D.tells → D.folders disk.new ≡ D.folders disk.old }
     ensures calls { D.made disk.new ≤ D.made disk.old + 4 }
     ensures cause { HasDiskCause (D.faults disk.old) (D.faults disk.new) result }
 {
@@ -52,6 +54,7 @@ pub fn open_gate<D: CacheDisk>(disk: &mut D, path: &str) -> Result<(), DiskFault
     ensures opened { D.tells → OnOk result (IsStored (3 ∷ drop 1 (content (reads (D.past disk.old path.now)))) (D.past disk.new path.now)) }
     ensures any_moment { D.tells → EachMoment (D.past disk.old path.now) (D.past disk.new path.now) (DiffersInFirst (reads (D.past disk.old path.now))) }
     ensures others { D.tells → (q : List ℕ) → q ≢ path.now → D.past disk.new q ≡ D.past disk.old q }
+    ensures folders { D.tells → D.folders disk.new ≡ D.folders disk.old }
     ensures calls { D.made disk.new ≤ D.made disk.old + 2 }
     ensures cause { HasDiskCause (D.faults disk.old) (D.faults disk.new) result }
 {

@@ -15,6 +15,7 @@ pub fn lay<D: CacheDisk>(disk: &mut D, path: &str, entry: &[u8]) -> Result<(), D
     ensures laid { D.tells → OnOk result (IsStored (0 ∷ drop 1 entry.now) (D.past disk.new path.now)) }
     ensures any_moment { D.tells → EachMoment (D.past disk.old path.now) (D.past disk.new path.now) BeginsWithZero }
     ensures others { D.tells → (q : List ℕ) → q ≢ path.now → D.past disk.new q ≡ D.past disk.old q }
+    ensures folders { D.tells → D.folders disk.new ≡ D.folders disk.old }
     ensures calls { D.made disk.new ≤ D.made disk.old + 3 }
     ensures cause { HasDiskCause (D.faults disk.old) (D.faults disk.new) result }
 {

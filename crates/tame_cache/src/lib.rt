@@ -3,6 +3,7 @@
 
 mod cache;
 mod counting;
+mod crashing;
 mod disk;
 mod gating;
 mod laws;

@@ -1,42 +1,47 @@
 //! A disk in memory, which keeps a record of all its changes.
-ghost use Rattle.std.specs.Prelude.{◌≡◌, ◌≢◌, ◌≤◌, ◌+◌, ◌-◌, ◌^◌, ◌++◌, min, ⊤, Some, [], ◌∷◌, List, ℕ, length, take, IfOk, OnOk, OnErr, option_map, option_copied};
+ghost use Rattle.std.specs.Prelude.{◌≡◌, ◌≢◌, ◌⊎◌, ◌<◌, ◌≤◌, ◌+◌, ◌-◌, ◌/◌, ◌^◌, ◌++◌, min, map, ⊤, Some, Err, [], ◌∷◌, List, ℕ, length, take, false, IfOk, IsErr, OnOk, OnErr, option_map, option_copied};
 ghost use Rattle.std.specs.String.{string_bytes};
 ghost use Rattle.tame_names.specs.Counts.{HasCause};
-ghost use Rattle.tame_cache.specs.Counting.{IsCalled};
+ghost use Rattle.tame_cache.specs.Counting.{IsCalled, IsToFail, WasStarved};
 ghost use Rattle.tame_cache.specs.Faults.{HasDiskCause};
-ghost use Rattle.tame_cache.specs.Disk.{File, Step, Synced, TornFile, MayCut, MaySync, MayWrite, may_leave, content, reads, first_of, with_piece};
-ghost use Rattle.tame_cache.specs.Calls.{file_of, step_of, after, past_of};
+ghost use Rattle.tame_cache.specs.Disk.{Step, Synced, Wrote, MayCut, MaySync, MayWrite, content, reads, first_of, with_piece};
+ghost use Rattle.tame_cache.specs.Folders.{MakesOnly};
+ghost use Rattle.tame_cache.specs.Calls.{file_of, after, past_of};
 
 use crate::counting::Counts;
 use crate::disk::{CacheDisk, DiskFault, DiskReadFault, Peek};
 use std::alloc::{AllocError, Global};
 use tame_names::NoMemory;
 
+/// A change of a file: a write of this many bytes at a place, a cut to a length, or a sync.
 #[derive(Clone, Copy, Debug, PartialEq, Eq)]
-enum Change {
+pub enum Change {
     Write(u64, u64),
     Cut(u64),
     Sync,
 }
 
+/// A change of the file of a path, and what a read gives after it.
 #[derive(Drop)]
-struct Call {
-    path: String,
-    change: Change,
-    file: Option<Vec<u8>>,
+pub struct Call {
+    pub path: String,
+    pub change: Change,
+    pub file: Option<Vec<u8>>,
 }
 
 /// A disk whose files are kept in memory, with each call that changed one. The calls whose numbers
-/// are listed, counted from 0, fail.
+/// are listed, counted from 1, fail.
 #[derive(Drop)]
 pub struct MemCacheDisk {
     alloc: Global,
-    calls: Vec<Call>,
+    pub(crate) calls: Vec<Call>,
+    folders: Vec<String>,
+    tears: bool,
     counts: Counts,
 }
 
 /// What a read of a path gives.
-fn current<'a>(calls: &'a [Call], path: &str) -> Option<&'a Vec<u8>>
+pub fn current<'a>(calls: &'a [Call], path: &str) -> Option<&'a Vec<u8>>
     ensures { file_of (option_copied result) ≡ reads (past_of path.now [] calls.now) }
 {
     let mut found = None;
@@ -57,7 +62,7 @@ fn current_content<'a>(calls: &'a [Call], path: &str) -> &'a [u8]
     }
 }
 
-fn with_bytes(alloc: Global, old: &[u8], at: usize, piece: &[u8]) -> Result<Vec<u8>, AllocError>
+pub fn with_bytes(alloc: Global, old: &[u8], at: usize, piece: &[u8]) -> Result<Vec<u8>, AllocError>
     requires { at ≤ length old.now }
     ensures { IfOk result (λ bytes. bytes.items ≡ with_piece old.now at piece.now) }
 {
@@ -69,7 +74,7 @@ fn with_bytes(alloc: Global, old: &[u8], at: usize, piece: &[u8]) -> Result<Vec<
     Ok(bytes)
 }
 
-fn copy_of(alloc: Global, file: Option<&Vec<u8>>) -> Result<Option<Vec<u8>>, AllocError>
+pub fn copy_of(alloc: Global, file: Option<&Vec<u8>>) -> Result<Option<Vec<u8>>, AllocError>
     ensures { IfOk result (λ now. file_of now ≡ file_of (option_copied file.entry)) }
 {
     match file {
@@ -78,7 +83,11 @@ fn copy_of(alloc: Global, file: Option<&Vec<u8>>) -> Result<Option<Vec<u8>>, All
     }
 }
 
-fn front_of(alloc: Global, file: Option<&Vec<u8>>, len: u64) -> Result<Option<Vec<u8>>, AllocError>
+pub fn front_of(
+    alloc: Global,
+    file: Option<&Vec<u8>>,
+    len: u64,
+) -> Result<Option<Vec<u8>>, AllocError>
     ensures { IfOk result (λ now. file_of now ≡ option_map (take len) (file_of (option_copied file.entry))) }
 {
     match file {
@@ -89,29 +98,36 @@ fn front_of(alloc: Global, file: Option<&Vec<u8>>, len: u64) -> Result<Option<Ve
 }
 
 impl MemCacheDisk {
-    ghost use Rattle.tame_cache.specs.MemoryDisk.{past_in};
+    ghost use Rattle.tame_cache.specs.MemoryDisk.{folders_in, past_in};
 
     /// A disk without files, of which the calls with these numbers fail.
     pub fn new(alloc: Global, failing: Vec<u64>) -> Self
         ensures files { (q : List ℕ) → past_in result q ≡ [] }
+        ensures folders { folders_in result ≡ [] }
+        ensures tears { result.tears ≡ false }
         ensures failing { result.counts.failing ≡ failing }
+        ensures stop { result.counts.stop ≡ 2 ^ 64 - 1 }
         ensures made { result.counts.made ≡ 0 }
         ensures faults { result.counts.faults ≡ 0 }
+        ensures starved { result.counts.starved ≡ 0 }
     {
         MemCacheDisk {
             alloc,
             calls: Vec::new(alloc),
+            folders: Vec::new(alloc),
+            tears: false,
             counts: Counts {
                 made: 0,
                 failing,
                 stop: u64::MAX,
                 faults: 0,
+                starved: 0,
             },
         }
     }
 }
 
-fn add_call(
+pub fn add_call(
     alloc: Global,
     calls: &mut Vec<Call>,
     path: &str,
@@ -130,108 +146,25 @@ fn add_call(
     Ok(())
 }
 
-/// What a crash does with a change that isn't synced.
-#[derive(Clone, Copy, Debug, PartialEq, Eq)]
-enum Fate {
-    Kept,
-    Lost,
-    Spoiled,
-}
-
-/// A file that a crash may leave after one change more.
-fn after_change(
-    alloc: Global,
-    file: Option<Vec<u8>>,
-    call: &Call,
-    fate: Fate,
-) -> Result<Option<Vec<u8>>, AllocError>
-    ensures { IfOk result (λ next. (past : List Step) → may_leave past (file_of file) → may_leave (step_of call.now.change (file_of call.now.file) ∷ past) (file_of next)) }
+fn add_folder(alloc: Global, folders: &mut Vec<String>, path: &str) -> Result<(), AllocError>
+    ensures added { OnOk result (map (λ p. string_bytes p) folders.new.items ≡ map (λ p. string_bytes p) folders.old.items ++ path.now ∷ []) }
+    ensures same { OnErr result (folders.new.items ≡ folders.old.items) }
 {
-    match (call.change, fate) {
-        (Change::Sync, _) | (_, Fate::Kept) => copy_of(alloc, call.file.as_ref()),
-        (Change::Write(at, len), Fate::Spoiled) => spoiled(alloc, file, at, len),
-        (Change::Cut(len), Fate::Spoiled) => front_of(alloc, file.as_ref(), len),
-        (_, Fate::Lost) => Ok(file),
-    }
-}
-
-/// A write of threes.
-fn spoiled(
-    alloc: Global,
-    file: Option<Vec<u8>>,
-    at: u64,
-    len: u64,
-) -> Result<Option<Vec<u8>>, AllocError>
-    ensures { IfOk result (λ next. TornFile at len (file_of file) (file_of next)) }
-{
-    let threes = vec![in alloc; 3u8; len as usize]?;
-    match file {
-        None if at == 0 => Ok(Some(threes)),
-        Some(bytes) if at <= bytes.len() as u64 => {
-            Ok(Some(with_bytes(alloc, &bytes, at as usize, &threes)?))
-        }
-        same => Ok(same),
-    }
-}
-
-/// A file that a crash may leave at a path.
-fn picked(
-    alloc: Global,
-    calls: &[Call],
-    path: &str,
-    pick: u8,
-) -> Result<Option<Vec<u8>>, AllocError>
-    ensures { IfOk result (λ file. may_leave (past_of path.now [] calls.now) (file_of file)) }
-{
-    let half = pending(calls, path) / 2;
-    let mut place = 0u64;
-    let mut file = None;
-    for call in calls {
-        if call.path.as_str() == path {
-            let fate = fate_of(pick, place < half);
-            file = after_change(alloc, file, call, fate)?;
-            place = next_place(call.change, place);
-        }
-    }
-    Ok(file)
-}
-
-/// The place among the changes that aren't synced.
-fn next_place(change: Change, place: u64) -> u64 {
-    match change {
-        Change::Sync => 0,
-        _ => place.saturating_add(1),
-    }
-}
-
-fn fate_of(pick: u8, early: bool) -> Fate {
-    match pick {
-        0 => Fate::Lost,
-        1 => Fate::Kept,
-        2 => Fate::Spoiled,
-        _ if early => Fate::Kept,
-        _ => Fate::Lost,
-    }
-}
-
-/// How many changes of a file aren't synced.
-fn pending(calls: &[Call], path: &str) -> u64 {
-    let mut count = 0u64;
-    for call in calls {
-        if call.path.as_str() == path {
-            count = next_place(call.change, count);
-        }
-    }
-    count
+    folders.push(String::from_str(alloc, path)?)?;
+    Ok(())
 }
 
 impl MemCacheDisk {
-    ghost use Rattle.tame_cache.specs.MemoryDisk.{past_in};
+    ghost use Rattle.tame_cache.specs.MemoryDisk.{folders_in, past_in};
 
     /// Notes a change of a file.
     fn note(&mut self, path: &str, change: Change, now: Option<Vec<u8>>) -> Result<(), DiskFault>
         ensures noted { OnOk result ((q : List ℕ) → past_of q [] self.new.calls.items ≡ after q (past_of q [] self.old.calls.items) path.now change (file_of now)) }
         ensures same { OnErr result (self.new.calls.items ≡ self.old.calls.items) }
+        ensures folders { self.new.folders ≡ self.old.folders }
+        ensures tears { self.new.tears ≡ self.old.tears }
+        ensures counted { OnOk result (self.new.counts ≡ self.old.counts) }
+        ensures starved { OnErr result (WasStarved self.old.counts self.new.counts) }
         ensures cause { HasDiskCause self.old.counts.faults self.new.counts.faults result }
         ensures made { self.new.counts.made ≡ self.old.counts.made }
         ensures failing { self.new.counts.failing ≡ self.old.counts.failing }
@@ -239,37 +172,108 @@ impl MemCacheDisk {
     {
         match add_call(self.alloc, &mut self.calls, path, change, now) {
             Ok(()) => Ok(()),
-            Err(_) => Err(self.counts.fail()),
+            Err(_) => Err(self.counts.starve()),
         }
     }
 
     /// Sets a file that is on the disk.
-    pub fn put_file(&mut self, path: &str, bytes: &[u8]) -> Result<(), AllocError>
+    pub fn put_file(&mut self, alloc: Global, path: &str, bytes: &[u8]) -> Result<(), NoMemory>
         ensures put { OnOk result (past_in self.new path.now ≡ Synced (Some bytes.now) ∷ past_in self.old path.now) }
         ensures others { (q : List ℕ) → q ≢ path.now → past_in self.new q ≡ past_in self.old q }
         ensures same { OnErr result ((q : List ℕ) → past_in self.new q ≡ past_in self.old q) }
+        ensures folders { folders_in self.new ≡ folders_in self.old }
+        ensures counts { self.new.counts ≡ self.old.counts }
+        ensures tears { self.new.tears ≡ self.old.tears }
     {
-        let now = bytes.to_vec(self.alloc)?;
-        add_call(self.alloc, &mut self.calls, path, Change::Sync, Some(now))
+        let now = bytes.to_vec(alloc)?;
+        Ok(add_call(alloc, &mut self.calls, path, Change::Sync, Some(now))?)
     }
 
-    /// From now the n-th call fails, and each later one.
+    /// The n-th call from now and all later ones fail; 0 is as 1.
     pub fn stop_at(&mut self, n: u64)
         ensures same { (q : List ℕ) → past_in self.new q ≡ past_in self.old q }
+        ensures folders { folders_in self.new ≡ folders_in self.old }
         ensures faults { self.new.counts.faults ≡ self.old.counts.faults }
         ensures made { self.new.counts.made ≡ self.old.counts.made }
+        ensures failing { self.new.counts.failing ≡ self.old.counts.failing }
         ensures stop { self.new.counts.stop ≡ min (self.old.counts.made + n) (2 ^ 64 - 1) }
     {
         self.counts.stop = self.counts.made.saturating_add(n);
     }
+
+    /// From now a write that fails writes the first half of its piece.
+    pub fn tear(&mut self)
+        ensures same { (q : List ℕ) → past_in self.new q ≡ past_in self.old q }
+        ensures folders { folders_in self.new ≡ folders_in self.old }
+        ensures counts { self.new.counts ≡ self.old.counts }
+    {
+        self.tears = true;
+    }
+
+    /// How many calls have failed for want of the disk's own memory.
+    pub fn starved(&self) -> u64
+        ensures { result ≡ self.now.counts.starved }
+    {
+        self.counts.starved
+    }
+
+    /// Writes a piece at a place.
+    fn write_whole(&mut self, path: &str, at: u64, piece: &[u8]) -> Result<(), DiskFault>
+        ensures written { OnOk result (reads (past_in self.new path.now) ≡ Some (with_piece (content (reads (past_in self.old path.now))) at piece.now)) }
+        ensures step { MayWrite at (length piece.now) (past_in self.old path.now) (past_in self.new path.now) }
+        ensures same { OnErr result (past_in self.new path.now ≡ past_in self.old path.now) }
+        ensures others { (q : List ℕ) → q ≢ path.now → past_in self.new q ≡ past_in self.old q }
+        ensures folders { self.new.folders ≡ self.old.folders }
+        ensures tears { self.new.tears ≡ self.old.tears }
+        ensures counted { OnOk result (self.new.counts ≡ self.old.counts) }
+        ensures only { OnErr result ((length (content (reads (past_in self.old path.now))) < at) ⊎ WasStarved self.old.counts self.new.counts) }
+        ensures cause { HasDiskCause self.old.counts.faults self.new.counts.faults result }
+        ensures made { self.new.counts.made ≡ self.old.counts.made }
+        ensures failing { self.new.counts.failing ≡ self.old.counts.failing }
+        ensures stop { self.new.counts.stop ≡ self.old.counts.stop }
+    {
+        let old = current_content(&self.calls, path);
+        if at > old.len() as u64 {
+            return Err(self.counts.fail());
+        }
+        match with_bytes(self.alloc, old, at as usize, piece) {
+            Ok(now) => self.note(path, Change::Write(at, piece.len() as u64), Some(now)),
+            Err(_) => Err(self.counts.starve()),
+        }
+    }
+
+    /// Does half of a write, where there is memory for it.
+    fn write_half(&mut self, path: &str, at: u64, piece: &[u8])
+        ensures step { MayWrite at (length piece.now) (past_in self.old path.now) (past_in self.new path.now) }
+        ensures others { (q : List ℕ) → q ≢ path.now → past_in self.new q ≡ past_in self.old q }
+        ensures folders { self.new.folders ≡ self.old.folders }
+        ensures tears { self.new.tears ≡ self.old.tears }
+        ensures counts { self.new.counts ≡ self.old.counts }
+    {
+        let old = current_content(&self.calls, path);
+        if at > old.len() as u64 {
+            return;
+        }
+        let len = piece.len() as u64;
+        let front = &piece[..piece.len() / 2];
+        match with_bytes(self.alloc, old, at as usize, front) {
+            Ok(now) => {
+                let change = Change::Write(at, len);
+                let _noted = add_call(self.alloc, &mut self.calls, path, change, Some(now));
+            }
+            Err(_) => {}
+        }
+    }
 }
 
 impl CacheDisk for MemCacheDisk {
-    ghost use Rattle.tame_cache.specs.MemoryDisk.{past_in};
+    ghost use Rattle.tame_cache.specs.MemoryDisk.{folders_in, past_in};
 
     ghost tells = { ⊤ };
 
     ghost past = { λ disk path. past_of path [] disk.calls.items };
+
+    ghost folders = { λ disk. map (λ path. string_bytes path) disk.folders.items };
 
     ghost faults = { λ disk. disk.counts.faults };
 
@@ -282,9 +286,11 @@ impl CacheDisk for MemCacheDisk {
     fn peek(&mut self, path: &str) -> Result<Peek, DiskFault>
         ensures first { IfOk result (λ first. first ≡ first_of (reads (past_in self.old path.now))) }
         ensures same { (q : List ℕ) → past_in self.new q ≡ past_in self.old q }
+        ensures folders { folders_in self.new ≡ folders_in self.old }
         ensures calls { self.new.counts.made ≤ self.old.counts.made + 1 }
         ensures cause { HasDiskCause self.old.counts.faults self.new.counts.faults result }
         ensures called { IsCalled self.old.counts self.new.counts result }
+        ensures only { OnErr result (IsToFail self.old.counts) }
     {
         self.counts.begin()?;
         Ok(match current(&self.calls, path) {
@@ -299,9 +305,11 @@ impl CacheDisk for MemCacheDisk {
     fn read(&mut self, alloc: Global, path: &str) -> Result<Option<Vec<u8>>, DiskReadFault>
         ensures file { IfOk result (λ file. option_map (λ bytes. bytes.items) file ≡ reads (past_in self.old path.now)) }
         ensures same { (q : List ℕ) → past_in self.new q ≡ past_in self.old q }
+        ensures folders { folders_in self.new ≡ folders_in self.old }
         ensures calls { self.new.counts.made ≤ self.old.counts.made + 1 }
         ensures cause { HasCause DiskReadFault.NoMemory self.old.counts.faults self.new.counts.faults result }
         ensures called { IsCalled self.old.counts self.new.counts result }
+        ensures only { result ≡ Err DiskReadFault.Failed → IsToFail self.old.counts }
     {
         if self.counts.begin().is_err() {
             return Err(DiskReadFault::Failed);
@@ -315,31 +323,44 @@ impl CacheDisk for MemCacheDisk {
         }
     }
 
-    fn make_dirs(&mut self, _path: &str) -> Result<(), DiskFault>
+    fn make_dirs(&mut self, path: &str) -> Result<(), DiskFault>
         ensures same { (q : List ℕ) → past_in self.new q ≡ past_in self.old q }
+        ensures folders { MakesOnly (λ q. q ≡ path.now) (folders_in self.old) (folders_in self.new) }
+        ensures made { OnOk result (folders_in self.new ≡ folders_in self.old ++ path.now ∷ []) }
         ensures calls { self.new.counts.made ≤ self.old.counts.made + 1 }
         ensures cause { HasDiskCause self.old.counts.faults self.new.counts.faults result }
         ensures called { IsCalled self.old.counts self.new.counts result }
+        ensures only { OnErr result (IsToFail self.old.counts ⊎ WasStarved self.old.counts self.new.counts) }
     {
-        self.counts.begin()
+        self.counts.begin()?;
+        match add_folder(self.alloc, &mut self.folders, path) {
+            Ok(()) => Ok(()),
+            Err(_) => Err(self.counts.starve()),
+        }
     }
 
     fn write_at(&mut self, path: &str, at: u64, piece: &[u8]) -> Result<(), DiskFault>
         ensures written { OnOk result (at ≤ length (content (reads (past_in self.old path.now))) → reads (past_in self.new path.now) ≡ Some (with_piece (content (reads (past_in self.old path.now))) at piece.now)) }
         ensures step { MayWrite at (length piece.now) (past_in self.old path.now) (past_in self.new path.now) }
         ensures others { (q : List ℕ) → q ≢ path.now → past_in self.new q ≡ past_in self.old q }
+        ensures folders { folders_in self.new ≡ folders_in self.old }
         ensures calls { self.new.counts.made ≤ self.old.counts.made + 1 }
         ensures cause { HasDiskCause self.old.counts.faults self.new.counts.faults result }
         ensures called { IsCalled self.old.counts self.new.counts result }
+        // which writes fail, and what they leave
+        ensures only { OnErr result (IsToFail self.old.counts
+            ⊎ ((length (content (reads (past_in self.old path.now))) < at) ⊎ WasStarved self.old.counts self.new.counts)) }
+        ensures untorn { OnErr result (self.old.tears ≡ false → past_in self.new path.now ≡ past_in self.old path.now) }
+        ensures tears { self.new.tears ≡ self.old.tears }
     {
-        self.counts.begin()?;
-        let old = current_content(&self.calls, path);
-        if at > old.len() as u64 {
-            return Err(self.counts.fail());
-        }
-        match with_bytes(self.alloc, old, at as usize, piece) {
-            Ok(now) => self.note(path, Change::Write(at, piece.len() as u64), Some(now)),
-            Err(_) => Err(self.counts.fail()),
+        match self.counts.begin() {
+            Ok(()) => self.write_whole(path, at, piece),
+            Err(fault) => {
+                if self.tears {
+                    self.write_half(path, at, piece);
+                }
+                Err(fault)
+            }
         }
     }
 
@@ -347,14 +368,16 @@ impl CacheDisk for MemCacheDisk {
         ensures cut { OnOk result (reads (past_in self.new path.now) ≡ option_map (take len) (reads (past_in self.old path.now))) }
         ensures step { MayCut len (past_in self.old path.now) (past_in self.new path.now) }
         ensures others { (q : List ℕ) → q ≢ path.now → past_in self.new q ≡ past_in self.old q }
+        ensures folders { folders_in self.new ≡ folders_in self.old }
         ensures calls { self.new.counts.made ≤ self.old.counts.made + 1 }
         ensures cause { HasDiskCause self.old.counts.faults self.new.counts.faults result }
         ensures called { IsCalled self.old.counts self.new.counts result }
+        ensures only { OnErr result (IsToFail self.old.counts ⊎ WasStarved self.old.counts self.new.counts) }
     {
         self.counts.begin()?;
         match front_of(self.alloc, current(&self.calls, path), len) {
             Ok(now) => self.note(path, Change::Cut(len), now),
-            Err(_) => Err(self.counts.fail()),
+            Err(_) => Err(self.counts.starve()),
         }
     }
 
@@ -362,32 +385,16 @@ impl CacheDisk for MemCacheDisk {
         ensures synced { OnOk result (past_in self.new path.now ≡ Synced (reads (past_in self.old path.now)) ∷ past_in self.old path.now) }
         ensures step { MaySync (past_in self.old path.now) (past_in self.new path.now) }
         ensures others { (q : List ℕ) → q ≢ path.now → past_in self.new q ≡ past_in self.old q }
+        ensures folders { folders_in self.new ≡ folders_in self.old }
         ensures calls { self.new.counts.made ≤ self.old.counts.made + 1 }
         ensures cause { HasDiskCause self.old.counts.faults self.new.counts.faults result }
         ensures called { IsCalled self.old.counts self.new.counts result }
+        ensures only { OnErr result (IsToFail self.old.counts ⊎ WasStarved self.old.counts self.new.counts) }
     {
         self.counts.begin()?;
         match copy_of(self.alloc, current(&self.calls, path)) {
             Ok(now) => self.note(path, Change::Sync, now),
-            Err(_) => Err(self.counts.fail()),
+            Err(_) => Err(self.counts.starve()),
         }
-    }
-}
-
-impl MemCacheDisk {
-    ghost use Rattle.tame_cache.specs.MemoryDisk.{IsCrashed};
-
-    /// The disk after a crash, with nothing pending: by 0 as after the last sync, by 1 as a read gives,
-    /// by 2 as a read gives with each pending byte replaced by 3, else with the first half of what is pending.
-    pub fn after_crash(self, alloc: Global, pick: u8) -> Result<MemCacheDisk, AllocError>
-        ensures { IfOk result (λ disk. (q : List ℕ) → IsCrashed q self disk) }
-    {
-        let mut next = MemCacheDisk::new(alloc, Vec::new(alloc));
-        for call in &self.calls {
-            let path = call.path.as_str();
-            let file = picked(alloc, &self.calls, path, pick)?;
-            add_call(alloc, &mut next.calls, path, Change::Sync, file)?;
-        }
-        Ok(next)
     }
 }

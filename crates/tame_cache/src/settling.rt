@@ -1,6 +1,7 @@
 //! The first step of a write: what a read gives is brought onto the disk.
 ghost use Rattle.std.specs.Prelude.{◌≡◌, ◌≢◌, ◌≤◌, ◌+◌, List, ℕ, IfOk};
 ghost use Rattle.tame_cache.specs.Disk.{reads, may_leave, EachMoment};
+ghost use Rattle.tame_cache.specs.Folders.{MakesOnly};
 ghost use Rattle.tame_cache.specs.Faults.{HasDiskCause};
 ghost use Rattle.tame_cache.specs.Gate.{IsSettled};
 
@@ -14,6 +15,7 @@ pub fn settle<D: CacheDisk>(disk: &mut D, path: &str) -> Result<Peek, DiskFault>
     ensures seen { D.tells → reads (D.past disk.new path.now) ≡ reads (D.past disk.old path.now) }
     ensures any_moment { D.tells → EachMoment (D.past disk.old path.now) (D.past disk.new path.now) (may_leave (D.past disk.old path.now)) }
     ensures others { D.tells → (q : List ℕ) → q ≢ path.now → D.past disk.new q ≡ D.past disk.old q }
+    ensures folders { D.tells → MakesOnly (λ q. q ≡ path.now) (D.folders disk.old) (D.folders disk.new) }
     ensures calls { D.made disk.new ≤ D.made disk.old + 4 }
     ensures cause { HasDiskCause (D.faults disk.old) (D.faults disk.new) result }
 {

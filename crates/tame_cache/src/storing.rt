@@ -1,6 +1,7 @@
 //! A whole write: a crash at any moment leaves the file of before, a refused one or the new entry.
 ghost use Rattle.std.specs.Prelude.{◌≡◌, ◌≢◌, ◌⊎◌, ◌≤◌, ◌+◌, List, ℕ, ◌∷◌, Some, OnOk};
 ghost use Rattle.tame_cache.specs.Disk.{may_leave, EachMoment};
+ghost use Rattle.tame_cache.specs.Folders.{MakesOnly};
 ghost use Rattle.tame_cache.specs.Faults.{HasDiskCause};
 ghost use Rattle.tame_cache.specs.Gate.{IsRefused, IsOrderly, IsStored};
 
@@ -18,6 +19,7 @@ pub fn store<D: CacheDisk>(disk: &mut D, path: &str, entry: &[u8]) -> Result<(),
         (λ file. may_leave (D.past disk.old path.now) file ⊎ (IsRefused file ⊎ (file ≡ Some entry.now))) }
     ensures orderly { D.tells → IsOrderly (D.past disk.old path.now) → IsOrderly (D.past disk.new path.now) }
     ensures others { D.tells → (q : List ℕ) → q ≢ path.now → D.past disk.new q ≡ D.past disk.old q }
+    ensures folders { D.tells → MakesOnly (λ q. q ≡ path.now) (D.folders disk.old) (D.folders disk.new) }
     ensures calls { D.made disk.new ≤ D.made disk.old + 13 }
     ensures cause { HasDiskCause (D.faults disk.old) (D.faults disk.new) result }
 {

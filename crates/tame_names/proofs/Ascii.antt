@@ -8,7 +8,7 @@ use Rattle.std.specs.List.{enumerate_from}
 use Rattle.std.specs.Str.{chars, IsAscii, IsUtf8}
 use Rattle.std.proofs.lemmas.Str.{encodes-IsAscii, encodes-chars}
 use Rattle.std.proofs.lemmas.Bool.Decides.{nat_tests}
-use Rattle.tame_names.specs.Names.{HasCharacter, HasLength, IsReserved, NameRefusal, by_characters, first_bad, first_invalid, is_char_at, is_longer, is_name, is_name_char, refusal_of, reserved_kind, strict_refusal}
+use Rattle.tame_names.specs.Names.{HasCharacter, HasLength, IsReserved, by_characters, first_bad, first_invalid, is_char_at, is_longer, is_name, is_name_char, refusal_of, reserved_kind, strict_refusal}
 
 below : (c : ℕ) → is_name_char c ≡ true → c < 128
 below c h = grind (arith, nat_tests)

@@ -6,3 +6,4 @@ pub mod Utf8Lemmas
 pub mod Prefixes
 pub mod Cases
 pub mod Relative
+pub mod Trims

@@ -1,12 +1,12 @@
 -- The path of a name doesn't begin with `/`, so that one folder has it in one place.
-use Rattle.std.proofs.Common.{◌≡◌, ℕ, zero, suc, ◌+◌, ◌<◌, List, [], ◌∷◌, ◌++◌, length, take, drop, map, Bool, true, false, not, cond, Option, Some, None, option_map, IsTrue, refl, sym, ap, ◌∙◌, subst, arith, codes}
-use Rattle.std.specs.Prelude.{◌==◌, ◌||◌, ◌&&◌, find, is_none, nat_lt}
+use Rattle.std.proofs.Common.{◌≡◌, ℕ, ◌+◌, List, [], ◌∷◌, ◌++◌, length, take, drop, map, Bool, true, false, not, cond, Option, Some, None, option_map, refl, sym, ap, ◌∙◌, arith, codes}
+use Rattle.std.specs.Prelude.{◌==◌, ◌||◌, find, is_none, nat_lt}
 use Rattle.std.specs.Char.{to_ascii_lowercase}
 use Rattle.std.specs.List.{enumerate_from}
 use Rattle.std.specs.Str.{IsUtf8, chars}
 use Rattle.std.proofs.lemmas.Bool.Decides.{nat_tests}
 use Rattle.std.proofs.lemmas.Str.{chars-IsAscii}
-use Rattle.tame_names.specs.Names.{IsIndexPath, HasCharacter, HasLength, NameRefusal, first_invalid, is_name, is_name_char, path, prefix, relative_path, separator}
+use Rattle.tame_names.specs.Names.{IsIndexPath, HasCharacter, HasLength, first_invalid, is_name, is_name_char, relative_path, separator}
 use Rattle.tame_names.specs.Paths.{begins_with_slash, ends_with_slash, join}
 use Rattle.tame_names.proofs.Ascii.{name-IsAscii}
 

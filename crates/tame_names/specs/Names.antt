@@ -1,6 +1,6 @@
 -- Names of crates and their places in an index.
 -- Cargo Book, "Registry Index" (characters of a name, folders of index files) and "The Manifest Format" (names).
-use Rattle.std.specs.Prelude.{◌≡◌, ℕ, codes, List, [], ◌∷◌, ◌++◌, length, take, drop, Bool, true, false, not, nat_lt, ◌==◌, ◌||◌, bytes_eq, Option, Some, None, is_none, option_map, unwrap_or, find, if◌then◌else◌, encode_utf8}
+use Rattle.std.specs.Prelude.{◌≡◌, ℕ, codes, List, ◌++◌, length, take, drop, Bool, true, false, not, nat_lt, ◌==◌, ◌||◌, bytes_eq, Option, Some, None, is_none, option_map, unwrap_or, find, if◌then◌else◌, encode_utf8}
 use Rattle.std.specs.List.{enumerate_from, list_any}
 use Rattle.std.specs.Char.{is_ascii_alphabetic, is_ascii_alphanumeric}
 use Rattle.std.specs.Str.{IsUtf8, chars, str_to_ascii_lowercase}

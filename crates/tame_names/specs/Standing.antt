@@ -13,11 +13,11 @@ pub data Standing : Type 0 where
   Folder : Standing
   Other : Standing
 
--- absent exactly where nothing is there, whole exactly where a file within the limit is, over only where a longer one is
+-- absent exactly where nothing is there, whole exactly where a file within the limit is, over exactly where a longer one is, with its length
 abbrev pub Reads : Standing → ℕ → Result ReadAnswer FileFault → Type 0
 Reads s limit (Ok answer.Absent) = s ≡ Nothing
 Reads s limit (Ok (answer.Whole bytes)) = (s ≡ File bytes.items) × (length bytes.items ≤ limit)
-Reads s limit (Ok (answer.Over n)) = (bytes : List ℕ) × (s ≡ File bytes) × (n ≤ length bytes) × (limit < n)
+Reads s limit (Ok (answer.Over n)) = (bytes : List ℕ) × (s ≡ File bytes) × (n ≡ length bytes) × (limit < n)
 Reads s limit (Err fault) = Unit {0}
 
 -- a number of bytes that is over the limit is above it

@@ -31,7 +31,8 @@ pub enum ReadAnswer {
     Absent,
     /// The bytes of the file, no more than the limit.
     Whole(Vec<u8>),
-    /// The file has this number of bytes or more, which is above the limit.
+    /// The file has this number of bytes, which is above the limit; where it grows meanwhile, this
+    /// number or more.
     Over(u64),
 }
 
@@ -69,7 +70,8 @@ pub trait Files {
     fn file_faults(&self) -> u64
         ensures { result ≡ faults self.now };
 
-    /// Reads the file at a path, where it has no more than `limit` bytes.
+    /// Reads the file at a path, where it has no more than `limit` bytes. A path that ends with `/`
+    /// stands for the path without it, but for `/` itself.
     fn read(&mut self, alloc: Global, path: &str, limit: u64) -> Result<ReadAnswer, FileFault>
         ensures cause { HasCause FileFault.NoMemory (faults self.old) (faults self.new) result }
         ensures above { IsAboveLimit limit result }

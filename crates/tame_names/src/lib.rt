@@ -27,6 +27,6 @@ pub use memory_files::{MemFile, MemFiles};
 pub use memory_sink::MemSink;
 pub use names::KrateName;
 pub use output::{Sink, SinkFault, put_counted};
-pub use paths::join;
-pub use pieces::{SplitIter, split};
+pub use paths::{is_same_path, join};
+pub use pieces::{SplitIter, split, without_end};
 pub use texts::{Text, utf8_text};

@@ -1,11 +1,12 @@
 //! Files in memory.
-ghost use Rattle.std.specs.Prelude.{◌≡◌, [], ⊤, Some, IfErr, IsErr, option_copied};
+ghost use Rattle.std.specs.Prelude.{◌≡◌, ◌≢◌, [], ⊤, Some, Err, IfErr, IsErr, option_copied};
 ghost use Rattle.tame_names.specs.Counts.{HasCause, IsListed, next_call};
 ghost use Rattle.tame_names.specs.MemoryFiles.{file_at, standing_in};
 ghost use Rattle.tame_names.specs.Standing.{IsAboveLimit, Reads, File, failed_calls};
 
 use crate::host::{FailedCall, FileCall, FileFault, Files, ReadAnswer};
 use crate::lists::Items;
+use crate::paths::is_same_path;
 use crate::texts::Text;
 use std::alloc::Global;
 
@@ -16,8 +17,8 @@ pub struct MemFile {
     pub bytes: Items<u8>,
 }
 
-/// Files in memory; of equal paths the first counts. The calls whose numbers are listed,
-/// counted from 1, fail.
+/// Files in memory; of paths that are equal but for slashes at their ends the first counts. The
+/// calls whose numbers are listed, counted from 1, fail.
 #[derive(Drop)]
 pub struct MemFiles {
     files: Items<MemFile>,
@@ -57,7 +58,7 @@ fn file_at<'a>(files: &'a [MemFile], path: &str) -> Option<&'a MemFile>
     ensures { option_copied result ≡ file_at files.now path.now }
 {
     for file in files {
-        if file.path.as_str() == path {
+        if is_same_path(file.path.as_str(), path) {
             return Some(file);
         }
     }
@@ -87,6 +88,9 @@ impl Files for MemFiles {
         ensures count { self.new.calls ≡ next_call self.old.calls }
         ensures listed { self.new.fails ≡ self.old.fails }
         ensures fails { IsListed self.new.calls self.old.fails → IsErr result }
+        ensures unlisted { ¬ (IsListed self.new.calls self.old.fails) → result ≢ Err FileFault.Failed }
+        ensures counted { result ≡ Err FileFault.Failed → self.new.faults ≡ next_call self.old.faults }
+        ensures uncounted { result ≢ Err FileFault.Failed → self.new.faults ≡ self.old.faults }
     {
         self.calls = self.calls.saturating_add(1);
         if self.fails.as_slice().contains(&self.calls) {

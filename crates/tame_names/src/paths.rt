@@ -1,8 +1,9 @@
 //! Paths as text.
-ghost use Rattle.std.specs.Prelude.{◌≡◌, IfOk};
-ghost use Rattle.tame_names.specs.Paths.{begins_with_slash, ends_with_slash, join};
+ghost use Rattle.std.specs.Prelude.{◌≡◌, bytes_eq, IfOk};
+ghost use Rattle.tame_names.specs.Paths.{begins_with_slash, ends_with_slash, join, plain_path};
 
 use crate::errors::NoMemory;
+use crate::pieces::without_end;
 use crate::texts::Text;
 use std::alloc::Global;
 
@@ -20,6 +21,19 @@ fn ends_with_slash(path: &str) -> bool
 {
     let bytes = path.as_bytes();
     !bytes.is_empty() && bytes[bytes.len() - 1] == b'/'
+}
+
+/// Whether two paths stand for the same, whatever slashes stand at their ends.
+pub fn is_same_path(one: &str, other: &str) -> bool
+    ensures { result ≡ bytes_eq (plain_path one.now) (plain_path other.now) }
+{
+    match (one.as_bytes(), other.as_bytes()) {
+        ([], []) => true,
+        ([first, rest @ ..], [second, others @ ..]) => {
+            *first == *second && without_end(rest, b'/') == without_end(others, b'/')
+        }
+        _ => false,
+    }
 }
 
 /// A path below a folder: the path itself where the folder is empty or the path begins with `/`,

@@ -1,7 +1,7 @@
 //! Bytes cut at a needle.
 ghost use Rattle.std.specs.Prelude.{◌≡◌, ◌<◌, ℕ, List, [], ◌∷◌, ◌++◌, length, if◌then◌else◌};
 ghost use Rattle.std.specs.Iterator.{YieldsFirstRef, item_count};
-ghost use Rattle.tame_names.specs.Pieces.{ends_with, pieces};
+ghost use Rattle.tame_names.specs.Pieces.{ends_with, pieces, without_end};
 ghost use Rattle.std.specs.List.{join_with_byte};
 
 use memchr::memchr;
@@ -46,6 +46,17 @@ impl<'a> Iterator for SplitIter<'a> {
         self.left = left;
         Some(piece)
     }
+}
+
+/// The bytes without the needles at their end.
+pub fn without_end(bytes: &[u8], needle: u8) -> &[u8]
+    ensures { result.now ≡ without_end needle bytes.now }
+{
+    let mut end = bytes.len();
+    while end > 0 && bytes[end - 1] == needle {
+        end -= 1;
+    }
+    &bytes[..end]
 }
 
 /// Cuts `haystack` at each `needle`. A needle at the end is followed by no last piece.

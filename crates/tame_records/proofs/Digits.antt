@@ -1,7 +1,7 @@
 -- 64 digits decode.
 use Rattle.std.proofs.Common.{◌≡◌, ℕ, zero, suc, ◌*◌, List, [], ◌∷◌, length, Bool, true, false, not, cond, Option, Some, None, Result, Ok, Err, refl, ap, ◌∙◌, arith}
-use Rattle.std.specs.Prelude.{IsOk, ◌==◌}
-use Rattle.std.specs.List.{AllPass}
+use Rattle.std.specs.Prelude.{◌↔◌, ◌&&◌, IsOk, IsTrue, ◌==◌}
+use Rattle.std.specs.List.{AllPass, list_all}
 use Rattle.std.specs.Result.{MatchResult, result_unwrap_or}
 use Rattle.std.specs.Char.{is_ascii_hexdigit}
 use Rattle.std.proofs.lemmas.Bool.Decides.{nat_tests}
@@ -11,6 +11,7 @@ use Rattle.hex.proofs.HexLemmas.{IsOk-decode_sized, decode_of-ok, decode_of-enco
 use Rattle.tame_records.specs.Checksums.{chksum_of, first_bad_digit, hex_bytes, unless_bad}
 use Rattle.tame_records.specs.declared.checksums.Chksum.{Chksum}
 use Rattle.tame_records.specs.declared.checksums.ChksumParseError.{ChksumParseError}
+use Rattle.tame_records.specs.declared.checksums.ChksumParseError.TheVariants.{InvalidLength}
 
 is_digit : (c : ℕ) → is_ascii_hexdigit c ≡ true → is_hex_digit c ≡ true
 is_digit c h = grind (arith, nat_tests)
@@ -63,3 +64,37 @@ parses text bytes is len fits =
     let long : (length text == 64) ≡ true = grind (arith, nat_tests, ok.2, len) in
     let out : hex_bytes text ≡ bytes = ap (λ (r : Result (List ℕ) FromHexError). result_unwrap_or r []) back in
     sized _ _ _ long ∙ unless_none (first_bad_digit text) (hex_bytes text) bytes (no_bad_digit text ok.1) out
+
+-- ---- exactly the texts of 64 digits parse
+
+all_pass : (text : List ℕ) → first_bad_digit text ≡ None → IsTrue (list_all is_ascii_hexdigit text)
+all_pass [] h = refl
+all_pass (c ∷ cs) h =
+    let both = none_found (is_ascii_hexdigit c) c (first_bad_digit cs) h in
+    rw both.0 (all_pass cs both.1)
+
+split : (a b : Bool) → (a && b) ≡ true → (a ≡ true) × (b ≡ true)
+split true b h = (refl, h)
+split false b h = cc
+
+none_bad_of : (text : List ℕ) → IsTrue (list_all is_ascii_hexdigit text) → first_bad_digit text ≡ None
+none_bad_of [] h = refl
+none_bad_of (c ∷ cs) h =
+    let both = split (is_ascii_hexdigit c) (list_all is_ascii_hexdigit cs) h in
+    none_bad (is_ascii_hexdigit c) c (first_bad_digit cs) both.0 (none_bad_of cs both.1)
+
+ok_then : (b : Bool) (n : ℕ) (bad : Option ℕ) (bytes : List ℕ) → IsOk (cond b (unless_bad bad bytes) (Err (InvalidLength n))) → (b ≡ true) × (bad ≡ None)
+ok_then true n None bytes h = (refl, refl)
+ok_then true n (Some x) bytes h = cc
+ok_then false n bad bytes h = cc
+
+then_ok : (b : Bool) (n : ℕ) (bad : Option ℕ) (bytes : List ℕ) → b ≡ true → bad ≡ None → IsOk (cond b (unless_bad bad bytes) (Err (InvalidLength n)))
+then_ok b n bad bytes h none = rw (h, none) refl
+
+pub parse_digits : (text : List ℕ) → IsOk (chksum_of text) ↔ ((length text ≡ 64) × IsTrue (list_all is_ascii_hexdigit text))
+parse_digits text = (
+  λ ok.
+      let both = ok_then (length text == 64) (length text) (first_bad_digit text) (hex_bytes text) ok in
+      (grind (arith, nat_tests), all_pass text both.1),
+  λ h. then_ok (length text == 64) (length text) (first_bad_digit text) (hex_bytes text) (grind (arith, nat_tests)) (none_bad_of text h.1),
+)

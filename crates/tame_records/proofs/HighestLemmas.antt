@@ -1,52 +1,31 @@
--- None of a list is greater than the one at a place, and the same of what the items are mapped to.
-use Rattle.std.proofs.Common.{◌≡◌, ℕ, zero, suc, ◌<◌, List, [], ◌∷◌, map, Bool, true, false, cond, length, get_or, Option, Some, None, refl, sym, ap, ◌∙◌, subst, arith, rules}
-use Rattle.std.specs.Prelude.{◌==◌, slice_get, option_and_then, is_some, IfSome, IfOk, Result, Ok, Err}
+-- The highest versions, from the greatest of their ranks.
+use Rattle.std.proofs.Common.{◌≡◌, ℕ, zero, suc, ◌<◌, List, [], ◌∷◌, ◌++◌, map, take, drop, Bool, true, false, cond, length, get_or, Option, Some, None, option_map, Bor, refl, sym, ap, subst, arith, rules}
+use Rattle.std.specs.Prelude.{◌==◌, slice_get, option_and_then, is_some, IsSomeAnd, MatchOption, IfOk, IfSome, Result, Ok, Err}
 use Rattle.std.specs.List.{AllByRecursion}
 use Rattle.std.proofs.lemmas.Bool.Decides.{nat_tests}
 use Rattle.std.specs.Option.{option_cmp}
 use Rattle.std.specs.Ordering.{is_lt}
+use Rattle.std.specs.Cmp.{IsStrictWeakOrder}
 use Rattle.std.specs.declared.cmp.Ordering.{Ordering}
+use Rattle.itertools.specs.Extremes.{by_cmp, by_cmp_reversed, flipped, position_of, wins}
 use Rattle.semver.specs.Parse.{Parts}
 use Rattle.tame_records.specs.declared.versions.IndexVersion.{IndexVersion}
-use Rattle.itertools.specs.Extremes.{PositionFacts}
-use Rattle.tame_records.specs.Highest.{IsHighestNormal, IsNormal, NoneAbove, normal_rank, parts_cmp, rank}
+use Rattle.tame_records.specs.Highest.{IsHighestNormal, IsLastGreatest, IsNormal, by_normal_rank, normal_rank, parts_cmp, rank}
+use Rattle.tame_records.proofs.Greatest.{both, greatest_mapped, last_greatest}
 
-each : {A : Type 0} (P : A → Type 0) (xs : List A) → ((k : ℕ) (d : A) → k < length xs → P (get_or xs k d)) → AllByRecursion P xs
-each P [] h = tt
-each P (x ∷ xs) h = (h zero x (omega arith), each P xs (λ k d low. h (suc k) d (omega (arith, low))))
+-- ---- where there is a place
 
-got : {A : Type 0} (xs : List A) (i : ℕ) (b : A) → slice_get xs i ≡ Some b → get_or xs i b ≡ b
-got [] i b h = cc
-got (x ∷ xs) zero b h = cc
-got (x ∷ xs) (suc i) b h = got xs i b h
+pub if_found : {A : Type 0} (cmp : A → A → Ordering) (o : IsStrictWeakOrder (by_cmp cmp)) (xs : List A) → IfSome (position_of (wins true (by_cmp_reversed cmp)) xs) (λ i. (best : A) × IsLastGreatest cmp xs i best)
+if_found cmp o xs = go (position_of (wins true (flipped (by_cmp cmp))) xs) (λ i is. last_greatest cmp o xs i is)
+  where
+    go : {A : Type 0} {P : ℕ → A → Type 0} (p : Option ℕ) → ((i : ℕ) → p ≡ Some i → (best : A) × P i best) → IfSome p (λ i. (best : A) × P i best)
+    go None f = tt
+    go (Some i) f = f i refl
 
-pub none_above : {A : Type 0} (cmp : A → A → Ordering) (xs : List A) (o : Option ℕ) → PositionFacts (λ y b. is_lt (cmp b y) ≡ false) xs o → (i : ℕ) → o ≡ Some i → NoneAbove cmp xs i
-none_above cmp xs None h i is = cc
-none_above cmp xs (Some j) h i is = λ b at.
-    let same : j ≡ i = cc in
-    let here : get_or xs j b ≡ b = got xs j b (ap (slice_get xs) same ∙ at) in
-    each (λ y. is_lt (cmp b y) ≡ false) xs (λ k d low. subst (λ c. is_lt (cmp c (get_or xs k d)) ≡ false) here (h.1 b k d low))
-
-module _ {A B : Type 0} (f : A → B) where
-  pub got_mapped : (xs : List A) (i : ℕ) (b : A) → slice_get xs i ≡ Some b → slice_get (map f xs) i ≡ Some (f b)
-  got_mapped [] i b h = cc
-  got_mapped (x ∷ xs) zero b h = cc
-  got_mapped (x ∷ xs) (suc i) b h = got_mapped xs i b h
-
-  got_back : (xs : List A) (i : ℕ) (c : B) → slice_get (map f xs) i ≡ Some c → (b : A) × (slice_get xs i ≡ Some b) × (f b ≡ c)
-  got_back [] i c h = cc
-  got_back (x ∷ xs) zero c h = (x, refl, cc)
-  got_back (x ∷ xs) (suc i) c h = got_back xs i c h
-
-  module _ (C : A → A → Ordering) (D : B → B → Ordering) (same : (x y : A) → C x y ≡ D (f x) (f y)) where
-    each_mapped : (b : A) (xs : List A) → AllByRecursion (λ y. is_lt (C b y) ≡ false) xs → AllByRecursion (λ z. is_lt (D (f b) z) ≡ false) (map f xs)
-    each_mapped b [] h = tt
-    each_mapped b (x ∷ xs) h = (ap is_lt (sym (same b x)) ∙ h.0, each_mapped b xs h.1)
-
-    pub mapped : (xs : List A) (i : ℕ) → NoneAbove C xs i → NoneAbove D (map f xs) i
-    mapped xs i h = λ c at.
-        let found = got_back xs i c at in
-        subst (λ d. AllByRecursion (λ z. is_lt (D d z) ≡ false) (map f xs)) found.2 (each_mapped found.0 xs (h found.0 found.1))
+pub if_mapped : {A B : Type 0} (f : A → B) (C : A → A → Ordering) (D : B → B → Ordering) (same : (x y : A) → C x y ≡ D (f x) (f y)) (xs : List A) (o : Option ℕ)
+    → IfSome o (λ i. (best : A) × IsLastGreatest C xs i best) → IfSome o (λ i. (best : B) × IsLastGreatest D (map f xs) i best)
+if_mapped f C D same xs None h = tt
+if_mapped f C D same xs (Some i) h = (f h.0, greatest_mapped f C D same xs i h.0 h.1)
 
 ranked : (yanked : Bool) (r : Option Parts) → is_some (cond yanked None (option_and_then (λ (p : Parts). cond (length p.3 == 0) (Some p) None) r)) ≡ true → (yanked ≡ false) × ((p : Parts) × (r ≡ Some p) × ((length p.3 == 0) ≡ true))
 ranked true r h = cc
@@ -57,14 +36,6 @@ ranked false (Some p) h = (refl, (p, refl, go (length p.3 == 0) h))
     go true e = refl
     go false e = cc
 
-pub if_placed : {A : Type 0} (cmp : A → A → Ordering) (xs : List A) (o : Option ℕ) → PositionFacts (λ y b. is_lt (cmp b y) ≡ false) xs o → IfSome o (NoneAbove cmp xs)
-if_placed cmp xs None h = tt
-if_placed cmp xs (Some i) h = none_above cmp xs (Some i) h i refl
-
-pub if_mapped : {A B : Type 0} (f : A → B) (C : A → A → Ordering) (D : B → B → Ordering) (same : (x y : A) → C x y ≡ D (f x) (f y)) (xs : List A) (o : Option ℕ) → IfSome o (NoneAbove C xs) → IfSome o (NoneAbove D (map f xs))
-if_mapped f C D same xs None h = tt
-if_mapped f C D same xs (Some i) h = mapped f C D same xs i h
-
 -- a version that has a normal rank is normal
 pub is_normal : (v : IndexVersion) → is_some (normal_rank v) ≡ true → IsNormal v
 is_normal v h =
@@ -74,16 +45,49 @@ is_normal v h =
     zero_length : (n : ℕ) → (n == 0) ≡ true → n ≡ 0
     zero_length n e = search (rules, nat_tests)
 
-pub is_highest : (versions : List IndexVersion) (ranks : List (Option Parts)) (place : ℕ) (v : IndexVersion) → ranks ≡ map normal_rank versions → NoneAbove (option_cmp parts_cmp) ranks place → slice_get versions place ≡ Some v → IsNormal v → IsHighestNormal versions v
-is_highest versions ranks place v same above at normal = record {
-  normal = normal;
-  none_above = subst (λ rs. NoneAbove (option_cmp parts_cmp) rs place) same above (normal_rank v) (got_mapped normal_rank versions place v at);
-}
+-- a version without a normal rank isn't normal
+pub not_normal : (v : IndexVersion) → normal_rank v ≡ None → IsNormal v → ⊥
+not_normal v none h = unranked v.yanked (rank v) none h.not_yanked h.no_pre
+  where
+    unranked : (yanked : Bool) (r : Option Parts) → cond yanked None (option_and_then (λ (p : Parts). cond (length p.3 == 0) (Some p) None) r) ≡ None → yanked ≡ false → IsSomeAnd r (λ (p : Parts). length p.3 ≡ 0) → ⊥
+    unranked true r none kept pre = cc
+    unranked false None none kept pre = absurd pre
+    unranked false (Some p) none kept pre = cc (rw pre at none)
 
-pub normal_then : {B E : Type 0} (r : Result (Option B) E) (now : B → IndexVersion) (x : IndexVersion) (P : IndexVersion → Type 0) → IfOk r (λ found. IfSome found (λ v. (now v ≡ x) × IsNormal x)) → (IsNormal x → P x) → IfOk r (λ found. IfSome found (λ v. P (now v)))
-normal_then (Ok None) now x P h f = tt
-normal_then (Ok (Some v)) now x P h f = subst P (sym h.0) (f h.1)
-normal_then (Err e) now x P h f = tt
+-- where the greatest of all has no normal rank, none has one
+lowest : (r : Option Parts) → is_lt (option_cmp parts_cmp None r) ≡ false → r ≡ None
+lowest None h = refl
+lowest (Some p) h = cc
+
+below_none : (r : Option Parts) → is_lt (option_cmp parts_cmp r None) ≡ true → ⊥
+below_none None h = cc
+below_none (Some p) h = cc
+
+unranked_front : (vs : List IndexVersion) → AllByRecursion (λ x. is_lt (option_cmp parts_cmp None (normal_rank x)) ≡ false) vs → AllByRecursion (λ x. ¬ (IsNormal x)) vs
+unranked_front [] h = tt
+unranked_front (v ∷ vs) h = (not_normal v (lowest (normal_rank v) h.0), unranked_front vs h.1)
+
+unranked_behind : (vs : List IndexVersion) → AllByRecursion (λ x. is_lt (option_cmp parts_cmp (normal_rank x) None) ≡ true) vs → AllByRecursion (λ x. ¬ (IsNormal x)) vs
+unranked_behind [] h = tt
+unranked_behind (v ∷ vs) h = absurd (below_none (normal_rank v) h.0)
+
+cut : {A : Type 0} (xs : List A) (i : ℕ) (b : A) → slice_get xs i ≡ Some b → take i xs ++ b ∷ drop (suc i) xs ≡ xs
+cut [] i b h = cc
+cut (x ∷ xs) zero b h = cc
+cut (x ∷ xs) (suc i) b h = ap (λ l. x ∷ l) (cut xs i b h)
+
+pub none_normal : (versions : List IndexVersion) (place : ℕ) (v : IndexVersion) → IsLastGreatest by_normal_rank versions place v → normal_rank v ≡ None → AllByRecursion (λ x. ¬ (IsNormal x)) versions
+none_normal versions place v h none =
+    let front = unranked_front (take place versions) (rw none at h.none_greater) in
+    let behind = unranked_behind (drop (suc place) versions) (rw none at h.all_less) in
+    subst (AllByRecursion (λ x. ¬ (IsNormal x))) (cut versions place v h.at) (both (λ x. ¬ (IsNormal x)) (take place versions) (v ∷ drop (suc place) versions) front (not_normal v none, behind))
+
+-- what was found of the version at the place
+pub highest_normal : {E : Type 0} (r : Result (Option (Bor IndexVersion)) E) (versions : List IndexVersion) (place : ℕ) (v : IndexVersion) → IsLastGreatest by_normal_rank versions place v
+    → IfOk r (λ found. MatchOption found (normal_rank v ≡ None) (λ x. (x.now ≡ v) × IsNormal v)) → IfOk r (λ found. IsHighestNormal versions (option_map (λ (x : Bor IndexVersion). x.now) found))
+highest_normal (Ok None) versions place v h none = none_normal versions place v h none
+highest_normal (Ok (Some x)) versions place v h is = subst (λ w. IsNormal w × ((i : ℕ) × IsLastGreatest by_normal_rank versions i w)) (sym is.0) (is.1, (place, h))
+highest_normal (Err e) versions place v h is = tt
 
 pub read_at : {A : Type 0} (xs ys : List A) (i : ℕ) (x : A) → ys ≡ xs → i < length ys → x ≡ get_or ys i x → slice_get xs i ≡ Some x
 read_at xs ys i x same low is = subst (λ zs. slice_get zs i ≡ Some x) same (go ys i low is)

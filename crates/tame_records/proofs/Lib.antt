@@ -1,6 +1,5 @@
 pub mod Ahead
 pub mod Digits
-pub mod Trims
 pub mod KrateLemmas
 mod WrittenTokens
 mod ReadBack

@@ -1,7 +1,9 @@
 //! SHA-256 digests as hex text.
-ghost use Rattle.std.specs.Prelude.{◌≡◌, Some, Ok, IfOk, is_none};
+ghost use Rattle.std.specs.Prelude.{◌≡◌, ◌↔◌, ℕ, List, length, IsOk, IsTrue, Some, Ok, IfOk, is_none};
+ghost use Rattle.std.specs.Char.{is_ascii_hexdigit};
+ghost use Rattle.std.specs.List.{list_all};
 ghost use Rattle.std.specs.Fmt.{WritesOnOk};
-ghost use Rattle.hex.specs.Hex.{encode_lower};
+ghost use Rattle.hex.specs.Hex.{IsBytes, encode_lower};
 ghost use Rattle.tame_records.specs.Checksums.{chksum_of, first_bad_digit};
 
 use hex::{decode_to_slice, encode, encode_to_slice};
@@ -90,6 +92,13 @@ impl Chksum {
         }
     }
 }
+
+/// Exactly the texts of 64 hex digits of either case parse, and the digits that a digest is printed
+/// with parse to it again.
+pub fn digests_are_digits()
+    ensures parsed { (text : List ℕ) → IsOk (chksum_of text) ↔ ((length text ≡ 64) × IsTrue (list_all is_ascii_hexdigit text)) }
+    ensures printed { (bytes : List ℕ) → length bytes ≡ 32 → IsBytes bytes → chksum_of (encode_lower bytes) ≡ Ok (record { 0 = bytes }) }
+{}
 
 impl FromStr for Chksum {
     type Err = ChksumParseError;

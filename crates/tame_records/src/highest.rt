@@ -1,9 +1,9 @@
 //! The highest versions of a crate.
-ghost use Rattle.std.specs.Prelude.{◌≡◌, ◌<◌, [], length, map, slice_get, option_map, option_and_then, Some, None, Ok, IfOk, IfSome, IsSomeAnd, MatchOption, true};
+ghost use Rattle.std.specs.Prelude.{◌≡◌, ◌<◌, [], length, map, option_map, Option, None, IfOk, IfSome, MatchOption};
 ghost use Rattle.std.specs.Option.{option_cmp};
 ghost use Rattle.semver.specs.Identifiers.{parts_of};
-ghost use Rattle.itertools.specs.Extremes.{by_cmp_reversed, position_of, wins};
-ghost use Rattle.tame_records.specs.Highest.{IsHighestNormal, IsNormal, NoneAbove, highest_normal, if_normal, last_greatest, normal_rank, parts_cmp, rank};
+ghost use Rattle.semver.specs.Parse.{Parts};
+ghost use Rattle.tame_records.specs.Highest.{IsHighest, IsHighestNormal, IsLastGreatest, IsNormal, normal_rank, parts_cmp, rank};
 
 use crate::dependencies::is_memory;
 use crate::krates::IndexKrate;
@@ -44,18 +44,16 @@ fn normal_rank(alloc: Global, version: &IndexVersion) -> Result<Option<Version>,
 
 /// The place of the greatest item, of several the last.
 fn last_greatest<T: Ord + Drop>(items: Vec<T>) -> Option<usize>
-    ensures place { result ≡ position_of (wins true (by_cmp_reversed T.cmp)) items.items }
     ensures within { MatchOption result (items.items ≡ []) (λ i. i < length items.items) }
-    ensures none_above { IfSome result (NoneAbove T.cmp items.items) }
+    ensures greatest { IfSome result (λ i. (best : T) × IsLastGreatest T.cmp items.items i best) }
 {
     items.into_iter().position_max()
 }
 
 /// The place of the greatest rank, of several the last; having none is lowest.
 fn highest_place(ranks: Vec<Option<Version>>) -> Option<usize>
-    ensures place { result ≡ last_greatest (map (option_map parts_of) ranks.items) }
     ensures within { MatchOption result (ranks.items ≡ []) (λ i. i < length ranks.items) }
-    ensures none_above { IfSome result (NoneAbove (option_cmp parts_cmp) (map (option_map parts_of) ranks.items)) }
+    ensures greatest { IfSome result (λ i. (best : Option Parts) × IsLastGreatest (option_cmp parts_cmp) (map (option_map parts_of) ranks.items) i best) }
 {
     last_greatest(ranks)
 }
@@ -82,8 +80,7 @@ fn normal_ranks(alloc: Global, versions: &[IndexVersion]) -> Result<Vec<Option<V
 
 /// The version, where it has a normal rank.
 fn if_normal(alloc: Global, version: &IndexVersion) -> Result<Option<&IndexVersion>, NoMemory>
-    ensures found { IfOk result (λ found. option_map (λ v. v.now) found ≡ if_normal version.now) }
-    ensures normal { IfOk result (λ found. IfSome found (λ v. (v.now ≡ version.now) × IsNormal version.now)) }
+    ensures { IfOk result (λ found. MatchOption found (normal_rank version.now ≡ None) (λ v. (v.now ≡ version.now) × IsNormal version.now)) }
 {
     match normal_rank(alloc, version)? {
         Some(_) => Ok(Some(version)),
@@ -96,7 +93,7 @@ impl IndexKrate {
     /// to be a version (Semantic Versioning 2.0.0, section 11; then build metadata).
     pub fn highest_version(&self, alloc: Global) -> Result<&IndexVersion, NoMemory>
         requires { 0 < length self.now.versions }
-        ensures { IfOk result (λ v. IsSomeAnd (last_greatest (map rank self.now.versions)) (λ i. slice_get self.now.versions i ≡ Some v.now)) }
+        ensures { IfOk result (λ v. IsHighest self.now.versions v.now) }
     {
         let versions = self.versions.as_slice();
         let ranks = ranks(alloc, versions)?;
@@ -109,9 +106,7 @@ impl IndexKrate {
     /// The greatest version that isn't yanked and has no pre-release, of several the last; none
     /// where there is no such version.
     pub fn highest_normal_version(&self, alloc: Global) -> Result<Option<&IndexVersion>, NoMemory>
-        ensures found { IfOk result (λ found. option_map (λ v. v.now) found ≡ highest_normal self.now.versions) }
-        // it is normal, and no normal version is greater
-        ensures greatest { IfOk result (λ found. IfSome found (λ v. IsHighestNormal self.now.versions v.now)) }
+        ensures { IfOk result (λ found. IsHighestNormal self.now.versions (option_map (λ v. v.now) found)) }
     {
         let versions = self.versions.as_slice();
         let ranks = normal_ranks(alloc, versions)?;

@@ -11,7 +11,7 @@ mod members;
 mod versions;
 mod writing;
 
-pub use checksums::{Chksum, ChksumParseError, is_hex_text};
+pub use checksums::{Chksum, ChksumParseError, digests_are_digits, is_hex_text};
 pub use dependencies::{DependencyKind, IndexDependency, is_memory};
 pub use features::FeatureIter;
 pub use krates::IndexKrate;

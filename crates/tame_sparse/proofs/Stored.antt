@@ -1,24 +1,25 @@
 -- What a response leaves of a cache.
-use Rattle.std.proofs.Common.{◌≡◌, ◌≢◌, ◌⊎◌, inl, ℕ, List, [], ◌∷◌, Bool, true, false, not, cond, length, map, Option, Some, None, IsTrue, refl, sym, ap, subst, rules, suc, arith}
+use Rattle.std.proofs.Common.{◌≡◌, ◌≢◌, ◌⊎◌, inl, ℕ, List, [], ◌∷◌, Bool, true, false, not, cond, length, map, Option, Some, None, IsTrue, refl, sym, ◌∙◌, ap, subst, rules, suc, arith}
 use Rattle.std.specs.Prelude.{◌==◌, ◌&&◌, IfSome, is_none}
 use Rattle.std.specs.List.{list_all}
 use Rattle.std.proofs.lemmas.Bool.Decides.{nat_tests}
 use Rattle.tame_names.specs.Names.{path}
 use Rattle.tame_names.specs.Pieces.{onto_first, pieces}
 use Rattle.tame_records.specs.Lines.{lines, trimmed}
-use Rattle.tame_entry.specs.Entry.{Pair, has_no_zero, is_storable, is_storable_pair, pair_of, pairs}
+use Rattle.tame_entry.specs.Entry.{has_no_zero, is_storable, is_storable_pair, pair_of, pairs}
 use Rattle.tame_entry.specs.Held.{Maps, ServerMap}
 use Rattle.tame_entry.specs.Lines.{invalid, plain}
-use Rattle.tame_entry.specs.Revision.{EntryRevision, entry_text, http_value}
-use Rattle.tame_entry.specs.declared.revisions.HttpRevision.{HttpRevision}
-use Rattle.tame_entry.proofs.Zeros.{NoZero, NoneZero, and_true}
+use Rattle.tame_entry.specs.Revision.{EntryRevision, entry_text}
+use Rattle.tame_entry.specs.declared.revisions.OwnedRevision.{OwnedRevision}
+use Rattle.tame_entry.proofs.EntryLemmas.{plain_lines}
+use Rattle.tame_entry.proofs.Zeros.{NoZero, NoneZero, and_true, pair_same}
 use Rattle.tame_cache.specs.Disk.{EachMoment, Step, may_leave}
 use Rattle.tame_cache.specs.Gate.{IsOrderly, IsRefused}
 use Rattle.tame_cache.specs.Kept.{Disk, IsKept, IsWrittenFor, Keeps, cache_file_of}
 use Rattle.tame_cache.proofs.KeptLemmas.{keeps_same}
 use Rattle.tame_cache.proofs.Moments.{started}
-use Rattle.tame_sparse.specs.Answered.{IsHeldBody, Stores, entry_of, stored_under}
-use Rattle.tame_sparse.specs.declared.responses.Response.{Response}
+use Rattle.tame_sparse.specs.Answered.{IsToStore, Stores, entry_of, stored_under}
+use Rattle.tame_sparse.specs.declared.network.WireAnswer.{WireAnswer}
 
 -- ---- a body whose lines have no zero byte has none
 
@@ -75,27 +76,37 @@ stored_plain r body right h =
     let P : Bool → Type 0 = λ b. (b && has_no_zero body) ≡ true in
     subst P (sym (ap is_none right)) whole
 
+-- what the test of the code passes is what is to be stored
+pub to_store : (answer : WireAnswer) → answer.status ≡ 200 → invalid answer.body ≡ None → IsTrue (is_storable (stored_under answer.revision) (pairs answer.body)) → IsToStore answer
+to_store answer sent right h = record {
+  sent = sent;
+  plain = stored_plain (stored_under answer.revision) answer.body right h;
+  storable = (both (has_no_zero (entry_text (stored_under answer.revision))) _ h).0;
+}
+
+-- and the other way round
+pairs_whole : (ls : List (List ℕ)) → NoneZero ls → list_all is_storable_pair (map pair_of ls) ≡ true
+pairs_whole [] h = refl
+pairs_whole (l ∷ ls) h = and_true _ _ (sym (pair_same l) ∙ h.0) (pairs_whole ls h.1)
+
+pub passes : (answer : WireAnswer) → IsToStore answer → IsTrue (is_storable (stored_under answer.revision) (pairs answer.body))
+passes answer is = and_true _ _ is.storable (pairs_whole (lines answer.body) (plain_lines answer.body is.plain))
+
 -- ---- what is written is what the server held
 
-written_for : (m : ServerMap) (p : List ℕ) (o : Option HttpRevision) (body : List ℕ) → IfSome o (λ r. Maps m p (http_value r) body) → IsTrue (plain body) → IsWrittenFor m p (stored_under o) (pairs body)
+written_for : (m : ServerMap) (p : List ℕ) (o : Option OwnedRevision) (body : List ℕ) → IfSome o (λ r. Maps m p r body) → IsTrue (plain body) → IsWrittenFor m p (stored_under o) (pairs body)
 written_for m p None body h whole = tt
 written_for m p (Some r) body h whole = (body, h, whole, refl)
 
-pub held_written : (m : ServerMap) (p : List ℕ) (response : Response) (ps : List Pair) → response.status ≡ 200 → invalid response.body.now ≡ None → ps ≡ pairs response.body.now → IsHeldBody m p response
-    → IsTrue (is_storable (stored_under response.revision) ps) → IsWrittenFor m p (stored_under response.revision) ps
-held_written m p response ps sent right same held h =
-    let P : List Pair → Type 0 = λ xs. IsTrue (is_storable (stored_under response.revision) xs) in
-    let Q : List Pair → Type 0 = λ xs. IsWrittenFor m p (stored_under response.revision) xs in
-    subst Q (sym same) (written_for m p response.revision response.body.now (held sent) (stored_plain (stored_under response.revision) response.body.now right (subst P same h)))
-
 -- ---- no file changes
 
-pub stores_same : (root name : List ℕ) (response : Response) (write : Bool) (old new : Disk) → ((q : List ℕ) → new q ≡ old q) → Stores root name response write old new
-stores_same root name response write old new same = record {
+pub stores_same : (root name : List ℕ) (answer : WireAnswer) (write : Bool) (old new : Disk) → ((q : List ℕ) → new q ≡ old q) → Stores root name answer write old new
+stores_same root name answer write old new same = record {
+  unwanted = λ no. same;
   unstored = λ other. same;
   others = λ q other. same q;
   any_moment = λ q is ordered.
-      let P : List Step → Type 0 = λ past. EachMoment (old q) past (λ file. may_leave (old q) file ⊎ (IsRefused file ⊎ (file ≡ Some (entry_of response)))) in
+      let P : List Step → Type 0 = λ past. EachMoment (old q) past (λ file. may_leave (old q) file ⊎ (IsRefused file ⊎ (file ≡ Some (entry_of answer)))) in
       subst P (sym (same q)) (started (old q) _ (λ file now. inl now));
   orderly = λ q is ordered. subst IsOrderly (sym (same q)) ordered;
   kept = λ m held kept. keeps_same m root old new same kept;
@@ -103,18 +114,20 @@ stores_same root name response write old new same = record {
 
 -- ---- the file of the name is written
 
-pub stores_written : (root name : List ℕ) (response : Response) (write : Bool) (old new : Disk) → response.status ≡ 200 → write ≡ true → invalid response.body.now ≡ None
-    → ((IsTrue (is_storable (stored_under response.revision) (pairs response.body.now)) → ⊥) → (q : List ℕ) → new q ≡ old q)
+pub stores_written : (root name : List ℕ) (answer : WireAnswer) (write : Bool) (old new : Disk) → answer.status ≡ 200 → write ≡ true → invalid answer.body ≡ None
+    → ((IsTrue (is_storable (stored_under answer.revision) (pairs answer.body)) → ⊥) → (q : List ℕ) → new q ≡ old q)
     → ((q : List ℕ) → cache_file_of root name ≢ Some q → new q ≡ old q)
-    → ((q : List ℕ) → cache_file_of root name ≡ Some q → IsOrderly (old q) → EachMoment (old q) (new q) (λ file. may_leave (old q) file ⊎ (IsRefused file ⊎ (file ≡ Some (entry_of response)))))
+    → ((q : List ℕ) → cache_file_of root name ≡ Some q → IsOrderly (old q) → EachMoment (old q) (new q) (λ file. may_leave (old q) file ⊎ (IsRefused file ⊎ (file ≡ Some (entry_of answer)))))
     → ((q : List ℕ) → cache_file_of root name ≡ Some q → IsOrderly (old q) → IsOrderly (new q))
-    → ((m : ServerMap) → ((p : List ℕ) → path name ≡ Some p → IsTrue (is_storable (stored_under response.revision) (pairs response.body.now)) → IsWrittenFor m p (stored_under response.revision) (pairs response.body.now))
+    → ((m : ServerMap) → ((p : List ℕ) → path name ≡ Some p → IsTrue (is_storable (stored_under answer.revision) (pairs answer.body)) → IsWrittenFor m p (stored_under answer.revision) (pairs answer.body))
     → IsKept m root old → Keeps m root old new)
-    → Stores root name response write old new
-stores_written root name response write old new sent asked right unstored others any orderly kept = record {
-  unstored = λ no. unstored (λ storable. no (record { sent = sent; asked = asked; valid = right; storable = storable }));
+    → Stores root name answer write old new
+stores_written root name answer write old new sent asked right unstored others any orderly kept = record {
+  unwanted = λ no. cc (asked, no);
+  unstored = λ no. unstored (λ storable. no (to_store answer sent right storable));
   others = others;
   any_moment = any;
   orderly = orderly;
-  kept = λ m held. kept m (λ p named storable. held_written m p response (pairs response.body.now) sent right refl (held p named) storable);
+  kept = λ m held. kept m (λ p named storable.
+      written_for m p answer.revision answer.body (held p named sent) (stored_plain (stored_under answer.revision) answer.body right storable));
 }

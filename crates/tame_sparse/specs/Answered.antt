@@ -1,5 +1,5 @@
 -- What an index makes of an answer (Cargo Book, "Registry Index", sparse protocol; RFC 9110, section 15), and what it stores of it.
-use Rattle.std.specs.Prelude.{◌≡◌, ◌≢◌, ◌⊎◌, ℕ, codes, List, Bool, true, IsTrue, Option, Some, None, IfSome, Result, Ok, Err, IfOk, IfErr}
+use Rattle.std.specs.Prelude.{◌≡◌, ◌≢◌, ◌⊎◌, ℕ, codes, List, Bool, false, IsTrue, Option, Some, None, option_map, IfSome, Result, Ok, Err, IfOk, IfErr}
 use Rattle.tame_names.specs.Names.{path}
 use Rattle.tame_names.specs.declared.errors.Error.{Error}
 use Rattle.tame_names.specs.declared.errors.Error.TheVariants as error
@@ -7,18 +7,19 @@ use Rattle.tame_names.specs.declared.errors.HttpError.TheVariants as http_error
 use Rattle.tame_names.specs.declared.errors.InvalidJsonLines.{InvalidJsonLines}
 use Rattle.tame_names.specs.declared.errors.IoKind.TheVariants as io_kind
 use Rattle.tame_records.specs.Lines.{lines}
-use Rattle.tame_entry.specs.Entry.{entry, is_storable, pairs}
+use Rattle.tame_entry.specs.Entry.{entry, has_no_zero, pairs}
 use Rattle.tame_entry.specs.Held.{Maps, ServerMap}
 use Rattle.tame_entry.specs.JsonLines.{lines_of}
-use Rattle.tame_entry.specs.Lines.{invalid}
-use Rattle.tame_entry.specs.Revision.{EntryRevision, Http, Unknown, http_value}
+use Rattle.tame_entry.specs.Lines.{invalid, plain}
+use Rattle.tame_entry.specs.Revision.{EntryRevision, Http, Unknown, entry_text, http_value}
 use Rattle.tame_entry.specs.declared.index_entries.IndexEntry.{IndexEntry}
 use Rattle.tame_entry.specs.declared.index_entries.IndexEntry.TheVariants.{Remote}
-use Rattle.tame_entry.specs.declared.revisions.HttpRevision.{HttpRevision}
+use Rattle.tame_entry.specs.declared.revisions.OwnedRevision.{OwnedRevision}
 use Rattle.tame_cache.specs.Disk.{EachMoment, may_leave}
 use Rattle.tame_cache.specs.Gate.{IsOrderly, IsRefused, IsStored}
 use Rattle.tame_cache.specs.Kept.{Disk, IsKept, Keeps, cache_file_of}
 use Rattle.tame_sparse.specs.Honest.{SaysAbsent}
+use Rattle.tame_sparse.specs.declared.network.WireAnswer.{WireAnswer}
 use Rattle.tame_sparse.specs.declared.responses.Response.{Response}
 
 -- ---- the answer
@@ -55,35 +56,40 @@ pub record IsTaken (response : Response) (taken : Taken) : Type 0 where
 
 -- ---- what is stored
 
-abbrev pub stored_under : Option HttpRevision → EntryRevision
+-- a response as the answer of a wire
+abbrev pub came : Response → WireAnswer
+came response = record { status = response.status; revision = option_map http_value response.revision; body = response.body.now }
+
+-- what a body is stored under: the revision that came with it
+abbrev pub stored_under : Option OwnedRevision → EntryRevision
 stored_under None = Unknown
-stored_under (Some r) = Http (http_value r)
+stored_under (Some r) = Http r
 
--- the entry of a response: the lines of its body under its revision
-abbrev pub entry_of : Response → List ℕ
-entry_of response = entry (stored_under response.revision) (pairs response.body.now)
+-- the entry of an answer: the lines of its body under its revision
+abbrev pub entry_of : WireAnswer → List ℕ
+entry_of answer = entry (stored_under answer.revision) (pairs answer.body)
 
--- a response is stored: a valid body was sent, it is to be written, and no zero byte stands in its entry
-pub record IsToStore (response : Response) (write : Bool) : Type 0 where
-  pub sent : response.status ≡ 200
-  pub asked : write ≡ true
-  pub valid : invalid response.body.now ≡ None
-  pub storable : IsTrue (is_storable (stored_under response.revision) (pairs response.body.now))
+-- an answer is stored: a plain body was sent, and no zero byte stands in its revision
+pub record IsToStore (answer : WireAnswer) : Type 0 where
+  pub sent : answer.status ≡ 200
+  pub plain : IsTrue (plain answer.body)
+  pub storable : IsTrue (has_no_zero (entry_text (stored_under answer.revision)))
 
 -- the map gives the body that was sent for its revision
-abbrev pub IsHeldBody : ServerMap → List ℕ → Response → Type 0
-IsHeldBody m p response = response.status ≡ 200 → IfSome response.revision (λ r. Maps m p (http_value r) response.body.now)
+abbrev pub IsHeldBody : ServerMap → List ℕ → WireAnswer → Type 0
+IsHeldBody m p answer = answer.status ≡ 200 → IfSome answer.revision (λ r. Maps m p r answer.body)
 
--- what becomes of the files of a cache: the file of the name alone may change, and only where the response is stored; a crash at any moment leaves
+-- what becomes of the files of a cache: the file of the name alone may change, and only where the answer is stored; a crash at any moment leaves
 -- a file that it could have left before, a refused one, or the entry whole; and a kept cache is kept at each moment
-pub record Stores (root name : List ℕ) (response : Response) (write : Bool) (old new : Disk) : Type 0 where
-  pub unstored : ¬ (IsToStore response write) → (q : List ℕ) → new q ≡ old q
+pub record Stores (root name : List ℕ) (answer : WireAnswer) (write : Bool) (old new : Disk) : Type 0 where
+  pub unwanted : write ≡ false → (q : List ℕ) → new q ≡ old q
+  pub unstored : ¬ (IsToStore answer) → (q : List ℕ) → new q ≡ old q
   pub others : (q : List ℕ) → cache_file_of root name ≢ Some q → new q ≡ old q
   pub any_moment : (q : List ℕ) → cache_file_of root name ≡ Some q → IsOrderly (old q)
-      → EachMoment (old q) (new q) (λ file. may_leave (old q) file ⊎ (IsRefused file ⊎ (file ≡ Some (entry_of response))))
+      → EachMoment (old q) (new q) (λ file. may_leave (old q) file ⊎ (IsRefused file ⊎ (file ≡ Some (entry_of answer))))
   pub orderly : (q : List ℕ) → cache_file_of root name ≡ Some q → IsOrderly (old q) → IsOrderly (new q)
-  pub kept : (m : ServerMap) → ((p : List ℕ) → path name ≡ Some p → IsHeldBody m p response) → IsKept m root old → Keeps m root old new
+  pub kept : (m : ServerMap) → ((p : List ℕ) → path name ≡ Some p → IsHeldBody m p answer) → IsKept m root old → Keeps m root old new
 
 -- the file of the name is the entry, and a crash leaves no other
-abbrev pub StoresWhole : List ℕ → List ℕ → Response → Disk → Type 0
-StoresWhole root name response new = (q : List ℕ) → cache_file_of root name ≡ Some q → IsStored (entry_of response) (new q)
+abbrev pub StoresWhole : List ℕ → List ℕ → WireAnswer → Disk → Type 0
+StoresWhole root name answer new = (q : List ℕ) → cache_file_of root name ≡ Some q → IsStored (entry_of answer) (new q)

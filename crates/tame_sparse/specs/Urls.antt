@@ -29,9 +29,9 @@ crate_url url name = option_map (λ p. http_url url ++ p) (path name)
 abbrev pub config_file : List ℕ → List ℕ
 config_file root = join root (codes "config.json")
 
--- what stands there, read as a configuration
-abbrev pub IsConfigRead : List ℕ → Standing → Result IndexConfig Error → Type 0
-IsConfigRead place standing (Ok config) = (bytes : List ℕ) × (standing ≡ File bytes) × (config_of bytes ≡ Some config)
-IsConfigRead place standing (Err (error.IoPath io_kind.NotFound p)) = (p ≡ place) × (standing ≡ Nothing)
-IsConfigRead place standing (Err (error.Json line)) = (line ≡ 0) × ((bytes : List ℕ) × (standing ≡ File bytes) × (config_of bytes ≡ None))
-IsConfigRead place standing (Err e) = (e ≡ error.NoMemory) ⊎ (e ≡ error.IoPath io_kind.Failed place)
+-- what stands there, read as a configuration, where the files tell it; and these refusals are all there are
+abbrev pub IsConfigRead : Type 0 → List ℕ → Standing → Result IndexConfig Error → Type 0
+IsConfigRead told place standing (Ok config) = told → (bytes : List ℕ) × (standing ≡ File bytes) × (config_of bytes ≡ Some config)
+IsConfigRead told place standing (Err (error.IoPath io_kind.NotFound p)) = (p ≡ place) × (told → standing ≡ Nothing)
+IsConfigRead told place standing (Err (error.Json line)) = (line ≡ 0) × (told → (bytes : List ℕ) × (standing ≡ File bytes) × (config_of bytes ≡ None))
+IsConfigRead told place standing (Err e) = (e ≡ error.NoMemory) ⊎ (e ≡ error.IoPath io_kind.Failed place)

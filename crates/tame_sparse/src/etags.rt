@@ -1,5 +1,5 @@
 //! The entity tags that were seen last.
-ghost use Rattle.std.specs.Prelude.{◌≡◌, ◌≢◌, ◌⊎◌, ◌≤◌, ◌+◌, ◌++◌, ℕ, List, Ok, Err, Some, None, IfOk, IfErr, OnOk, OnErr, bytes_eq, option_map, if◌then◌else◌};
+ghost use Rattle.std.specs.Prelude.{◌≡◌, ◌≢◌, ◌⊎◌, ◌≤◌, ◌+◌, ◌++◌, ℕ, List, Ok, Err, Some, None, IfOk, IfErr, OnOk, OnErr, bytes_eq, option_map, true, if◌then◌else◌};
 ghost use Rattle.tame_names.specs.Counts.{IsQuiet, Rose};
 ghost use Rattle.tame_names.specs.KrateNames.{text_of};
 ghost use Rattle.tame_names.specs.Names.{path};
@@ -7,8 +7,9 @@ ghost use Rattle.tame_entry.specs.Held.{ServerMap};
 ghost use Rattle.tame_entry.specs.declared.revisions.OwnedRevision.TheVariants.{Etag};
 ghost use Rattle.tame_cache.specs.CacheFiles.{HandsOut};
 ghost use Rattle.tame_cache.specs.Disk.{reads};
+ghost use Rattle.tame_cache.specs.Folders.{MakesOnly};
 ghost use Rattle.tame_cache.specs.Kept.{IsKept, Keeps, cache_file_of};
-ghost use Rattle.tame_sparse.specs.Answered.{IsTaken, IsToStore, Stores, StoresWhole};
+ghost use Rattle.tame_sparse.specs.Answered.{IsTaken, IsToStore, Stores, StoresWhole, came};
 ghost use Rattle.tame_sparse.specs.Etags.{after_response, etag_at, seen_etag, with_etag};
 ghost use Rattle.tame_sparse.specs.Named.{NamesKept, handed};
 ghost use Rattle.tame_sparse.specs.Urls.{http_url};
@@ -91,6 +92,7 @@ impl EtagCache {
         ensures refused { IfErr result (λ e. (e ≡ Error.NoMemory) ⊎ ((etag : List ℕ) × (etag_at self.now (text_of name.entry) ≡ Some etag) × (handed (Etag etag) ≡ Err e))) }
         // no file changes, and none is read where a tag was seen
         ensures same { D.tells → (q : List ℕ) → D.past disk.new q ≡ D.past disk.old q }
+        ensures folders { D.tells → D.folders disk.new ≡ D.folders disk.old }
         ensures kept { D.tells → (m : ServerMap) → IsKept m index.now.cache.path (D.past disk.old) → Keeps m index.now.cache.path (D.past disk.old) (D.past disk.new) }
         ensures uncalled { (etag : List ℕ) → etag_at self.now (text_of name.entry) ≡ Some etag → disk.new ≡ disk.old }
         ensures calls { D.made disk.new ≤ D.made disk.old + 1 }
@@ -125,9 +127,10 @@ impl EtagCache {
             → IfOk result (λ e. HandsOut e (reads (D.past disk.old q))) }
         ensures rose { result ≡ Err (Error.Io IoKind.Failed) → (response.entry.status ≡ 304) × Rose (D.faults disk.old) (D.faults disk.new) }
         // what is stored
-        ensures stores { D.tells → Stores index.now.cache.path (text_of name.entry) response.entry write_cache_entry (D.past disk.old) (D.past disk.new) }
-        ensures stored { D.tells → IsQuiet (D.faults disk.old) (D.faults disk.new) → IsToStore response.entry write_cache_entry
-            → OnOk result (StoresWhole index.now.cache.path (text_of name.entry) response.entry (D.past disk.new)) }
+        ensures stores { D.tells → Stores index.now.cache.path (text_of name.entry) (came response.entry) write_cache_entry (D.past disk.old) (D.past disk.new) }
+        ensures stored { D.tells → IsQuiet (D.faults disk.old) (D.faults disk.new) → write_cache_entry ≡ true → IsToStore (came response.entry)
+            → OnOk result (StoresWhole index.now.cache.path (text_of name.entry) (came response.entry) (D.past disk.new)) }
+        ensures folders { D.tells → MakesOnly (λ q. cache_file_of index.now.cache.path (text_of name.entry) ≡ Some q) (D.folders disk.old) (D.folders disk.new) }
         ensures calls { D.made disk.new ≤ D.made disk.old + 13 }
         ensures later { D.faults disk.old ≤ D.faults disk.new }
     {

@@ -10,6 +10,7 @@ ghost use Rattle.tame_entry.specs.Held.{ServerMap};
 ghost use Rattle.tame_entry.specs.Revision.{Commit};
 ghost use Rattle.tame_cache.specs.CacheFiles.{HandsOut};
 ghost use Rattle.tame_cache.specs.Disk.{EachMoment, may_leave, reads};
+ghost use Rattle.tame_cache.specs.Folders.{MakesOnly};
 ghost use Rattle.tame_cache.specs.Gate.{IsOrderly, IsRefused, IsStored};
 ghost use Rattle.tame_cache.specs.Kept.{IsKept, Keeps, cache_file_of};
 ghost use Rattle.tame_sparse.specs.Git.{first_name, stored_id, version_pairs};
@@ -95,6 +96,7 @@ impl GitIndex {
     ) -> Result<Option<IndexEntry<'static, 'l>>, Error>
         ensures read { D.tells → (q : List ℕ) → cache_file_of self.now.cache.path (text_of name.entry) ≡ Some q → IfOk result (λ e. HandsOut e (reads (D.past disk.old q))) }
         ensures same { D.tells → (q : List ℕ) → D.past disk.new q ≡ D.past disk.old q }
+        ensures folders { D.tells → D.folders disk.new ≡ D.folders disk.old }
         ensures calls { D.made disk.new ≤ D.made disk.old + 1 }
         ensures cause { HasCause Error.NoMemory (D.faults disk.old) (D.faults disk.new) result }
         ensures only { IfErr result (λ e. (e ≡ Error.NoMemory) ⊎ (e ≡ Error.Io IoKind.Failed)) }
@@ -132,6 +134,7 @@ impl GitIndex {
             → EachMoment (D.past disk.old q) (D.past disk.new q) (λ file. may_leave (D.past disk.old q) file ⊎ (IsRefused file ⊎ (file ≡ Some (entry (Commit id) (version_pairs krate.now.versions))))) }
         ensures others { D.tells → (q : List ℕ) → cache_file_of self.now.cache.path (first_name krate.now.versions) ≢ Some q → D.past disk.new q ≡ D.past disk.old q }
         ensures kept { D.tells → (m : ServerMap) → IsKept m self.now.cache.path (D.past disk.old) → Keeps m self.now.cache.path (D.past disk.old) (D.past disk.new) }
+        ensures folders { D.tells → MakesOnly (λ q. cache_file_of self.now.cache.path (first_name krate.now.versions) ≡ Some q) (D.folders disk.old) (D.folders disk.new) }
         ensures calls { D.made disk.new ≤ D.made disk.old + 13 }
         ensures later { D.faults disk.old ≤ D.faults disk.new }
         ensures rose { result ≡ Err (Error.Io IoKind.Failed) → Rose (D.faults disk.old) (D.faults disk.new) }

@@ -1,8 +1,8 @@
 //! A wire in memory.
-ghost use Rattle.std.specs.Prelude.{◌≡◌, [], ⊤, length, IfOk};
-ghost use Rattle.tame_names.specs.Counts.{HasCause};
+ghost use Rattle.std.specs.Prelude.{◌≡◌, ◌≢◌, [], ⊤, length, Err, IfOk};
+ghost use Rattle.tame_names.specs.Counts.{HasCause, next_call};
 ghost use Rattle.tame_sparse.specs.Exchanges.{AddsExchange};
-ghost use Rattle.tame_sparse.specs.MemoryWire.{MayAddItem, item_at};
+ghost use Rattle.tame_sparse.specs.MemoryWire.{GivesItem, MayAddItem, item_at};
 
 use crate::network::{Exchange, Held, Request, Wire, WireAnswer, WireFault};
 use std::alloc::Global;
@@ -84,6 +84,34 @@ fn copy_held(alloc: Global, held: &Option<Held>) -> Result<Option<Held>, NoMemor
     }))
 }
 
+/// What is held at a call, its answer, and a copy of that.
+#[derive(Drop)]
+struct Given {
+    held: Option<Held>,
+    answer: Option<WireAnswer>,
+    copy: Option<WireAnswer>,
+}
+
+/// The item of a call by its number; behind the last one nothing.
+fn copied_item(alloc: Global, script: &[Scripted], number: usize) -> Result<Given, NoMemory>
+    ensures held { IfOk result (λ given. given.held ≡ (item_at script.now number).held) }
+    ensures answer { IfOk result (λ given. given.answer ≡ (item_at script.now number).answer) }
+    ensures copy { IfOk result (λ given. given.copy ≡ (item_at script.now number).answer) }
+{
+    match script.get(number) {
+        None => Ok(Given {
+            held: None,
+            answer: None,
+            copy: None,
+        }),
+        Some(item) => Ok(Given {
+            held: copy_held(alloc, &item.held)?,
+            answer: copy_answer(alloc, &item.answer)?,
+            copy: copy_answer(alloc, &item.answer)?,
+        }),
+    }
+}
+
 impl Wire for MemWire {
     ghost tells = { ⊤ };
 
@@ -100,29 +128,24 @@ impl Wire for MemWire {
         ensures added { AddsExchange self.old.exchanges self.new.exchanges request.now result }
         // what is held and given is the item of the list that has the number of the call
         ensures scripted { MayAddItem self.old.exchanges self.new.exchanges request.now (item_at self.old.script (length self.old.exchanges)) }
+        ensures given { GivesItem (item_at self.old.script (length self.old.exchanges)) result }
         ensures script { self.new.script ≡ self.old.script }
+        ensures counted { result ≡ Err WireFault.Failed → self.new.faults ≡ next_call self.old.faults }
+        ensures uncounted { result ≢ Err WireFault.Failed → self.new.faults ≡ self.old.faults }
     {
+        let url = request.uri.try_clone(alloc)?;
         let path = request.path.try_clone(alloc)?;
         let named = copy_revision(alloc, &request.named)?;
         let number = self.exchanges.as_slice().len();
-        let (held, answer, kept) = match self.script.as_slice().get(number) {
-            None => (None, None, None),
-            Some(item) => (
-                copy_held(alloc, &item.held)?,
-                copy_answer(alloc, &item.answer)?,
-                copy_answer(alloc, &item.answer)?,
-            ),
-        };
-        let exchange = Exchange {
+        let given = copied_item(alloc, self.script.as_slice(), number)?;
+        self.exchanges.add(Exchange {
+            url,
             path,
             named,
-            held,
-            answer: kept,
-        };
-        if self.exchanges.push(exchange).is_err() {
-            return Err(WireFault::NoMemory);
-        }
-        match answer {
+            held: given.held,
+            answer: given.copy,
+        })?;
+        match given.answer {
             Some(answer) => Ok(answer),
             None => {
                 self.faults = self.faults.saturating_add(1);

@@ -56,10 +56,12 @@ pub struct Held {
     pub body: Items<u8>,
 }
 
-/// One exchange: the path that was asked for, the revision that was named, what the server
-/// held, and the answer; a fault has none.
+/// One exchange: the url and the path that were asked for, the revision that was named, what the
+/// server held, and the answer; a fault has none.
 #[derive(Debug, Drop, PartialEq, Eq)]
 pub struct Exchange {
+    /// The whole address that was asked.
+    pub url: Text,
     pub path: Text,
     pub named: Option<OwnedRevision>,
     pub held: Option<Held>,

@@ -1,5 +1,5 @@
 //! A sparse index with its cache.
-ghost use Rattle.std.specs.Prelude.{◌≡◌, ◌≢◌, ◌⊎◌, ◌≤◌, ◌+◌, ℕ, List, ◌++◌, true, false, map, Ok, Err, Some, None, IsTrue, IfOk, IfErr, OnOk};
+ghost use Rattle.std.specs.Prelude.{◌≡◌, ◌≢◌, ◌⊎◌, ◌≤◌, ◌+◌, ℕ, List, ◌++◌, true, false, map, option_map, Ok, Err, Some, None, IsTrue, IfOk, IfErr, OnOk};
 ghost use Rattle.tame_names.specs.Counts.{HasCause, IsQuiet, Rose};
 ghost use Rattle.tame_names.specs.KrateNames.{text_of};
 ghost use Rattle.tame_names.specs.Names.{IsIndexPath, path};
@@ -11,9 +11,10 @@ ghost use Rattle.tame_entry.specs.Revision.{http_value, revision_value};
 ghost use Rattle.tame_entry.specs.declared.revisions.HttpRevision.{HttpRevision};
 ghost use Rattle.tame_cache.specs.CacheFiles.{HandsOut};
 ghost use Rattle.tame_cache.specs.Disk.{EachMoment, may_leave, reads};
+ghost use Rattle.tame_cache.specs.Folders.{MakesOnly};
 ghost use Rattle.tame_cache.specs.Gate.{IsOrderly, IsRefused, IsStored};
 ghost use Rattle.tame_cache.specs.Kept.{IsKept, IsWrittenFor, Keeps, cache_file_of};
-ghost use Rattle.tame_sparse.specs.Answered.{IsBodyTaken, IsTaken, IsToStore, Stores, StoresWhole, stored_under};
+ghost use Rattle.tame_sparse.specs.Answered.{IsBodyTaken, IsTaken, IsToStore, Stores, StoresWhole, came, stored_under};
 ghost use Rattle.tame_sparse.specs.Named.{NamesKept, handed};
 ghost use Rattle.tame_sparse.specs.Urls.{IsConfigRead, config_file, crate_url, http_url, is_sparse_url};
 
@@ -64,7 +65,7 @@ impl SparseIndex {
     /// `IoPath(NotFound)` where nothing is there, `IoPath(Failed)` where it can't be read, and
     /// `Json` of line 0 where it is no configuration.
     pub fn index_config<F: Files>(&self, alloc: Global, files: &mut F) -> Result<IndexConfig, Error>
-        ensures read { F.tells → IsConfigRead (config_file self.now.cache.path) (F.stands files.old (config_file self.now.cache.path)) result }
+        ensures read { IsConfigRead F.tells (config_file self.now.cache.path) (F.stands files.old (config_file self.now.cache.path)) result }
         ensures failed { (p : List ℕ) → result ≡ Err (Error.IoPath IoKind.Failed p) → Rose (F.faults files.old) (F.faults files.new) }
         ensures later { F.faults files.old ≤ F.faults files.new }
         ensures same { F.tells → (q : List ℕ) → F.stands files.new q ≡ F.stands files.old q }
@@ -121,6 +122,7 @@ impl SparseIndex {
     ) -> Result<Option<IndexEntry<'static, 'l>>, Error>
         ensures read { D.tells → (q : List ℕ) → cache_file_of self.now.cache.path (text_of name.entry) ≡ Some q → IfOk result (λ e. HandsOut e (reads (D.past disk.old q))) }
         ensures same { D.tells → (q : List ℕ) → D.past disk.new q ≡ D.past disk.old q }
+        ensures folders { D.tells → D.folders disk.new ≡ D.folders disk.old }
         ensures calls { D.made disk.new ≤ D.made disk.old + 1 }
         ensures cause { HasCause Error.NoMemory (D.faults disk.old) (D.faults disk.new) result }
         ensures only { IfErr result (λ e. (e ≡ Error.NoMemory) ⊎ (e ≡ Error.Io IoKind.Failed)) }
@@ -150,6 +152,7 @@ impl SparseIndex {
         ensures refused { IfErr result (λ e. (e ≡ Error.NoMemory) ⊎ ((r : HttpRevision) × (revision.entry ≡ Some r) × (handed (http_value r) ≡ Err e))) }
         // no file changes, and none is read for a revision that is handed in
         ensures same { D.tells → (q : List ℕ) → D.past disk.new q ≡ D.past disk.old q }
+        ensures folders { D.tells → D.folders disk.new ≡ D.folders disk.old }
         ensures kept { D.tells → (m : ServerMap) → IsKept m self.now.cache.path (D.past disk.old) → Keeps m self.now.cache.path (D.past disk.old) (D.past disk.new) }
         ensures uncalled { (r : HttpRevision) → revision.entry ≡ Some r → disk.new ≡ disk.old }
         ensures calls { D.made disk.new ≤ D.made disk.old + 1 }
@@ -175,6 +178,7 @@ impl SparseIndex {
         ensures handed { (r : HttpRevision) → revision.entry ≡ Some r → IfOk result (λ named. handed (http_value r) ≡ Ok named) }
         ensures refused { IfErr result (λ e. (e ≡ Error.NoMemory) ⊎ ((r : HttpRevision) × (revision.entry ≡ Some r) × (handed (http_value r) ≡ Err e))) }
         ensures same { D.tells → (q : List ℕ) → D.past disk.new q ≡ D.past disk.old q }
+        ensures folders { D.tells → D.folders disk.new ≡ D.folders disk.old }
         ensures uncalled { (r : HttpRevision) → revision.entry ≡ Some r → disk.new ≡ disk.old }
         ensures calls { D.made disk.new ≤ D.made disk.old + 1 }
         ensures later { D.faults disk.old ≤ D.faults disk.new }
@@ -197,6 +201,7 @@ impl SparseIndex {
             → IfOk result (NamesKept (reads (D.past disk.old q)) (D.faults disk.old) (D.faults disk.new)) }
         ensures memory { IfErr result (λ e. e ≡ Error.NoMemory) }
         ensures same { D.tells → (q : List ℕ) → D.past disk.new q ≡ D.past disk.old q }
+        ensures folders { D.tells → D.folders disk.new ≡ D.folders disk.old }
         ensures calls { D.made disk.new ≤ D.made disk.old + 1 }
         ensures later { D.faults disk.old ≤ D.faults disk.new }
     {
@@ -230,9 +235,10 @@ impl SparseIndex {
             → IfOk result (λ e. HandsOut e (reads (D.past disk.old q))) }
         ensures rose { result ≡ Err (Error.Io IoKind.Failed) → (response.entry.status ≡ 304) × Rose (D.faults disk.old) (D.faults disk.new) }
         // what is stored
-        ensures stores { D.tells → Stores self.now.cache.path (text_of name.entry) response.entry write_cache_entry (D.past disk.old) (D.past disk.new) }
-        ensures stored { D.tells → IsQuiet (D.faults disk.old) (D.faults disk.new) → IsToStore response.entry write_cache_entry
-            → OnOk result (StoresWhole self.now.cache.path (text_of name.entry) response.entry (D.past disk.new)) }
+        ensures stores { D.tells → Stores self.now.cache.path (text_of name.entry) (came response.entry) write_cache_entry (D.past disk.old) (D.past disk.new) }
+        ensures stored { D.tells → IsQuiet (D.faults disk.old) (D.faults disk.new) → write_cache_entry ≡ true → IsToStore (came response.entry)
+            → OnOk result (StoresWhole self.now.cache.path (text_of name.entry) (came response.entry) (D.past disk.new)) }
+        ensures folders { D.tells → MakesOnly (λ q. cache_file_of self.now.cache.path (text_of name.entry) ≡ Some q) (D.folders disk.old) (D.folders disk.new) }
         ensures calls { D.made disk.new ≤ D.made disk.old + 13 }
         ensures later { D.faults disk.old ≤ D.faults disk.new }
     {
@@ -263,9 +269,10 @@ impl SparseIndex {
     ) -> Result<Option<IndexEntry<'r, 'l>>, Error>
         requires { response.status ≡ 200 }
         ensures taken { IsBodyTaken response.entry.body.now result }
-        ensures stores { D.tells → Stores self.now.cache.path (text_of name.entry) response.entry write_cache_entry (D.past disk.old) (D.past disk.new) }
-        ensures stored { D.tells → IsQuiet (D.faults disk.old) (D.faults disk.new) → IsToStore response.entry write_cache_entry
-            → OnOk result (StoresWhole self.now.cache.path (text_of name.entry) response.entry (D.past disk.new)) }
+        ensures stores { D.tells → Stores self.now.cache.path (text_of name.entry) (came response.entry) write_cache_entry (D.past disk.old) (D.past disk.new) }
+        ensures stored { D.tells → IsQuiet (D.faults disk.old) (D.faults disk.new) → write_cache_entry ≡ true → IsToStore (came response.entry)
+            → OnOk result (StoresWhole self.now.cache.path (text_of name.entry) (came response.entry) (D.past disk.new)) }
+        ensures folders { D.tells → MakesOnly (λ q. cache_file_of self.now.cache.path (text_of name.entry) ≡ Some q) (D.folders disk.old) (D.folders disk.new) }
         ensures calls { D.made disk.new ≤ D.made disk.old + 13 }
         ensures later { D.faults disk.old ≤ D.faults disk.new }
     {
@@ -302,6 +309,7 @@ impl SparseIndex {
         ensures others { D.tells → (q : List ℕ) → cache_file_of self.now.cache.path (text_of name.entry) ≢ Some q → D.past disk.new q ≡ D.past disk.old q }
         ensures kept { D.tells → (m : ServerMap) → ((p : List ℕ) → path (text_of name.entry) ≡ Some p → IsTrue (is_storable (revision_value revision.now) (map pair_of (lines_of lines.entry))) → IsWrittenFor m p (revision_value revision.now) (map pair_of (lines_of lines.entry)))
             → IsKept m self.now.cache.path (D.past disk.old) → Keeps m self.now.cache.path (D.past disk.old) (D.past disk.new) }
+        ensures folders { D.tells → MakesOnly (λ q. cache_file_of self.now.cache.path (text_of name.entry) ≡ Some q) (D.folders disk.old) (D.folders disk.new) }
         ensures calls { D.made disk.new ≤ D.made disk.old + 13 }
         ensures later { D.faults disk.old ≤ D.faults disk.new }
     {
@@ -322,7 +330,7 @@ impl SparseIndex {
 
 /// The revision that a body is stored under.
 fn stored_under(revision: Option<HttpRevision<'_>>) -> Revision<'_>
-    ensures { revision_value result ≡ stored_under revision.entry }
+    ensures { revision_value result ≡ stored_under (option_map http_value revision.entry) }
 {
     match revision {
         Some(revision) => Revision::Http(revision),

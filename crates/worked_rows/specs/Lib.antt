@@ -1,1 +1,1 @@
--- Tests alone: no definition of its own.
+-- Rows alone: no definition of its own.

@@ -1,6 +1,7 @@
 use Rattle.std.proofs.Common.{◌≡◌, ℕ, List, Some, map, take}
 use Rattle.tame_names.specs.Names.{path}
-use Rattle.audit_core.specs.Turns.{Adds, AreCaused, Chains, IsNoFileOf, KeepsHonest}
+use Rattle.tame_cache.specs.Folders.{MakesOnly}
+use Rattle.audit_core.specs.Turns.{Adds, AreCaused, Chains, IsFileOf, IsNoFileOf, KeepsHonest}
 use Rattle.audit_core.specs.declared.asking.Heard.{Heard}
 use Rattle.audit_core.proofs.asking.ask.Given as goal
 
@@ -11,5 +12,6 @@ invariant-loop-name g l = record {
   caused : AreCaused l.heard;
   said : g.W.Wire.tells → Adds g.D.CacheDisk.tells (g.W.Wire.exchanges l.initial.wire) (g.W.Wire.exchanges l.wire) (g.D.CacheDisk.past l.initial.disk) l.heard (g.D.CacheDisk.past l.disk);
   kept : g.W.Wire.tells → g.D.CacheDisk.tells → KeepsHonest (g.W.Wire.exchanges l.initial.wire) (g.W.Wire.exchanges l.wire) (g.D.CacheDisk.past l.initial.disk) (g.D.CacheDisk.past l.disk);
+  folders : g.D.CacheDisk.tells → MakesOnly (IsFileOf l.names) (g.D.CacheDisk.folders l.initial.disk) (g.D.CacheDisk.folders l.disk);
   others : g.D.CacheDisk.tells → (q : List ℕ) → IsNoFileOf l.names q → g.D.CacheDisk.past l.disk q ≡ g.D.CacheDisk.past l.initial.disk q;
 }

@@ -1,8 +1,10 @@
-use Rattle.std.proofs.Common.{◌≡◌, ◌∷◌, [], ◌++◌, List, ℕ, Some, None, option_map, ap, sym, ◌∙◌, refl, subst}
+use Rattle.std.proofs.Common.{◌≡◌, ◌∷◌, [], ◌++◌, List, ℕ, Some, option_map, ap, sym, ◌∙◌, refl, subst}
 use Rattle.std.proofs.lemmas.List.{append-nil}
 use Rattle.tame_names.specs.KrateNames.{text_of}
 use Rattle.tame_names.specs.Names.{IsIndexPath, path}
 use Rattle.tame_cache.specs.Kept.{cache_file, cache_file_of}
+use Rattle.tame_sparse.specs.Urls.{http_url}
+use Rattle.tame_cache.proofs.FolderLemmas.{none_made}
 use Rattle.audit_core.proofs.Exchanged.{keeps_from, keeps_unchanged}
 use Rattle.audit_core.proofs.Lists.{on_err}
 use Rattle.audit_core.proofs.Names.{file_named}
@@ -10,7 +12,7 @@ use Rattle.audit_core.proofs.Steps.{exchanged_from, part_named}
 use Rattle.audit_core.proofs.asking.take_turn.Goals as goal
 
 pub returns-in-Err-clause-part : goal.returns-in-Err-clause-part
-returns-in-Err-clause-part g c told = ([], 0, sym (append-nil _), refl)
+returns-in-Err-clause-part g c told = ([], 0, sym (append-nil _), refl, tt)
 
 pub returns-in-Err-clause-kept : goal.returns-in-Err-clause-kept
 returns-in-Err-clause-kept g c told_wire told =
@@ -51,11 +53,12 @@ returns-clause-said g c told_wire =
         past c.hear.new.disk,
         record {
           place = subst IsIndexPath (sym x.2) c.in-Ok.ensures.index_path;
+          url = x.4;
           path = x.2;
           named = λ told. rw (x.2, x.3, c.disk_faults-disk_before.ensures, c.disk_faults-disk_asked.ensures) (c.in-Ok.ensures.kept_named told refl _ there);
           exchanged = rw (c.disk_faults-disk_asked.ensures, c.disk_faults.ensures)
               (exchanged_from g.D.CacheDisk.tells (faults c.make_remote_request.new.disk) (faults c.hear.new.disk) (past c.args.disk.now) (past c.make_remote_request.new.disk) (past c.hear.new.disk) e c.in_ok-answer.answer
-              c.make_remote_request.ensures.same x.4);
+              c.make_remote_request.ensures.same x.5);
         },
         λ told q. refl,
       ),
@@ -73,3 +76,16 @@ pub returns-clause-others : goal.returns-clause-others
 returns-clause-others g c told q other =
     let at : path c.args.name.now ≡ Some c.in-Ok.request.path = ap path (sym c.krate_name-krate.ensures) ∙ c.in-Ok.ensures.path in
     c.hear.ensures.others told q (file_named c.args.name.now c.in-Ok.request.path q at other) ∙ c.make_remote_request.ensures.same told q
+
+-- the url of the index, and the path
+pub hear-requires-clause-url : goal.hear-requires-clause-url
+hear-requires-clause-url g c = c.in-Ok.ensures.uri ∙ ap (λ (u : List ℕ). http_url u ++ c.in-Ok.request.path) c.requires.url
+
+pub returns-in-Err-clause-folders : goal.returns-in-Err-clause-folders
+returns-in-Err-clause-folders g c told = none_made _ _ _ (c.make_remote_request.ensures.folders told)
+
+pub returns-in_err-answer-clause-folders : goal.returns-in_err-answer-clause-folders
+returns-in_err-answer-clause-folders g c told = rw (c.make_remote_request.ensures.folders told, c.krate_name-krate.ensures) at (c.hear.ensures.folders told)
+
+pub returns-clause-folders : goal.returns-clause-folders
+returns-clause-folders g c told = rw (c.make_remote_request.ensures.folders told, c.krate_name-krate.ensures) at (c.hear.ensures.folders told)

@@ -1,4 +1,5 @@
 use Rattle.std.proofs.Common.{refl, rules}
+use Rattle.tame_cache.proofs.FolderLemmas.{none_made}
 use Rattle.audit_core.proofs.Exchanged.{keeps_nothing, part_none}
 use Rattle.audit_core.proofs.auditing.audit_text.Goals as goal
 
@@ -14,12 +15,13 @@ returns-in-Err g c = record {
   refused = search rules;
   no_memory = search rules;
   uncalled = λ f is. (refl, refl);
-  headline = λ told_wire told. tt;
-  audited = λ told. tt;
+  says = tt;
   kept = λ told_wire told. keeps_nothing (g.W.Wire.exchanges c.args.wire.now) (g.W.Wire.exchanges c.args.wire.now) (g.D.CacheDisk.past c.args.disk.now);
-  turns = tt;
-  caused = tt;
   part = λ told packages is. part_none _ _ _ refl;
   others = λ told packages is q other. refl;
+  folders = λ told packages is. none_made _ _ _ refl;
   exit = tt;
 }
+
+pub returns-in-Err-NoMemory-clause-folders : goal.returns-in-Err-NoMemory-clause-folders
+returns-in-Err-NoMemory-clause-folders g c told packages is = none_made _ _ _ refl

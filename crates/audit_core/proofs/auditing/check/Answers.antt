@@ -1,9 +1,10 @@
-use Rattle.std.proofs.Common.{◌≡◌, ◌≢◌, List, ℕ, [], Some, IsTrue, map, ap, sym, subst, ◌∙◌, refl}
+use Rattle.std.proofs.Common.{◌≡◌, ◌≢◌, List, ℕ, Some, IsTrue, map, ap, sym, subst, ◌∙◌, refl}
 use Rattle.audit_core.specs.declared.asking.Heard.{Heard}
 use Rattle.tame_names.specs.Names.{path}
 use Rattle.audit_core.proofs.Exchanged.{keeps_nothing, part_none}
 use Rattle.audit_core.proofs.Lists.{on_err, somes}
-use Rattle.audit_core.proofs.Names.{named_part, names_valid, no_file_of}
+use Rattle.tame_cache.proofs.FolderLemmas.{made_weaker, none_made}
+use Rattle.audit_core.proofs.Names.{asked_file, named_part, names_valid, no_file_of}
 use Rattle.audit_core.specs.Paths.{is_among}
 use Rattle.audit_core.specs.Turns.{index_file}
 use Rattle.audit_core.proofs.Steps.{Adds-part}
@@ -47,50 +48,25 @@ returns-in_err-turns-clause-part g c told =
     let heard : map (λ (h : Heard). Some h.turn.path) c.in_ok-heard.heard ≡ map (λ q. Some q) plan.plan.paths = c.in_ok-heard.ensures.paths ∙ ap (map path) c.as_slice.ensures ∙ plan.ensures.named in
     on_err _ (rw plan.ensures.paths at (Adds-part g.D.CacheDisk.tells plan.plan.paths c.in_ok-heard.heard (exchanges c.args.wire.now) (exchanges c.ask.new.wire) (past c.args.disk.now) (past c.ask.new.disk) heard (c.in_ok-heard.ensures.said told)))
 
-pub returns-clause-audited : goal.returns-clause-audited
-returns-clause-audited g c told =
+pub returns-clause-says : goal.returns-clause-says
+returns-clause-says g c =
     let exchanges = g.W.Wire.exchanges in
     let past = g.D.CacheDisk.past in
-    let done : IsDone c.args.packages.now c.in_ok-heard.heard c.in_ok-verdicts.verdicts = record {
+    let packages = c.args.packages.now in
+    let hs = c.in_ok-heard.heard in
+    let verdicts = c.in_ok-verdicts.verdicts in
+    let done : IsDone packages hs verdicts = record {
       paths = c.in_ok-plan.plan.paths;
       asked = c.in_ok-plan.ensures.paths;
-      heard = somes (λ (h : Heard). h.turn.path) c.in_ok-heard.heard c.in_ok-plan.plan.paths (c.in_ok-heard.ensures.paths ∙ ap (map path) c.as_slice.ensures ∙ c.in_ok-plan.ensures.named);
+      heard = somes (λ (h : Heard). h.turn.path) hs c.in_ok-plan.plan.paths (c.in_ok-heard.ensures.paths ∙ ap (map path) c.as_slice.ensures ∙ c.in_ok-plan.ensures.named);
       judged = rw c.as_slice-2.ensures at c.in_ok-verdicts.ensures;
     } in
-    rw c.in_ok-turns.ensures (audit_done g.D.CacheDisk.tells c.args.packages.now c.in_ok-heard.heard c.in_ok-verdicts.verdicts (exchanges c.args.wire.now) (exchanges c.ask.new.wire) (past c.args.disk.now) (past c.ask.new.disk) done (c.in_ok-heard.ensures.said told))
-
-pub returns-clause-held : goal.returns-clause-held
-returns-clause-held g c told_wire told =
-    let exchanges = g.W.Wire.exchanges in
-    let past = g.D.CacheDisk.past in
-    let done : IsDone c.args.packages.now c.in_ok-heard.heard c.in_ok-verdicts.verdicts = record {
-      paths = c.in_ok-plan.plan.paths;
-      asked = c.in_ok-plan.ensures.paths;
-      heard = somes (λ (h : Heard). h.turn.path) c.in_ok-heard.heard c.in_ok-plan.plan.paths (c.in_ok-heard.ensures.paths ∙ ap (map path) c.as_slice.ensures ∙ c.in_ok-plan.ensures.named);
-      judged = rw c.as_slice-2.ensures at c.in_ok-verdicts.ensures;
-    } in
-    rw c.in_ok-turns.ensures (held_done g.D.CacheDisk.tells told c.args.packages.now c.in_ok-heard.heard c.in_ok-verdicts.verdicts (exchanges c.args.wire.now) (exchanges c.ask.new.wire) (past c.args.disk.now) (past c.ask.new.disk) done
-    c.in_ok-heard.ensures.caused (c.in_ok-heard.ensures.said told_wire))
-
-pub returns-clause-turns : goal.returns-clause-turns
-returns-clause-turns g c =
-    let done : IsDone c.args.packages.now c.in_ok-heard.heard c.in_ok-verdicts.verdicts = record {
-      paths = c.in_ok-plan.plan.paths;
-      asked = c.in_ok-plan.ensures.paths;
-      heard = somes (λ (h : Heard). h.turn.path) c.in_ok-heard.heard c.in_ok-plan.plan.paths (c.in_ok-heard.ensures.paths ∙ ap (map path) c.as_slice.ensures ∙ c.in_ok-plan.ensures.named);
-      judged = rw c.as_slice-2.ensures at c.in_ok-verdicts.ensures;
-    } in
-    rw c.in_ok-turns.ensures (turns_done c.args.packages.now c.in_ok-heard.heard c.in_ok-verdicts.verdicts _ _ _ _ done c.in_ok-heard.ensures.counts)
-
-pub returns-clause-caused : goal.returns-clause-caused
-returns-clause-caused g c =
-    let done : IsDone c.args.packages.now c.in_ok-heard.heard c.in_ok-verdicts.verdicts = record {
-      paths = c.in_ok-plan.plan.paths;
-      asked = c.in_ok-plan.ensures.paths;
-      heard = somes (λ (h : Heard). h.turn.path) c.in_ok-heard.heard c.in_ok-plan.plan.paths (c.in_ok-heard.ensures.paths ∙ ap (map path) c.as_slice.ensures ∙ c.in_ok-plan.ensures.named);
-      judged = rw c.as_slice-2.ensures at c.in_ok-verdicts.ensures;
-    } in
-    rw c.in_ok-turns.ensures (caused_done c.args.packages.now c.in_ok-heard.heard c.in_ok-verdicts.verdicts done c.in_ok-heard.ensures.caused)
+    rw c.in_ok-turns.ensures record {
+      headline = λ told_wire told. held_done g.D.CacheDisk.tells told packages hs verdicts (exchanges c.args.wire.now) (exchanges c.ask.new.wire) (past c.args.disk.now) (past c.ask.new.disk) done c.in_ok-heard.ensures.caused (c.in_ok-heard.ensures.said told_wire);
+      audited = λ told. audit_done g.D.CacheDisk.tells packages hs verdicts (exchanges c.args.wire.now) (exchanges c.ask.new.wire) (past c.args.disk.now) (past c.ask.new.disk) done (c.in_ok-heard.ensures.said told);
+      counted = turns_done packages hs verdicts _ _ _ _ done c.in_ok-heard.ensures.counts;
+      caused = caused_done packages hs verdicts done c.in_ok-heard.ensures.caused;
+    }
 
 pub returns-in_err-heard-clause-others : goal.returns-in_err-heard-clause-others
 returns-in_err-heard-clause-others g c told q other =
@@ -115,3 +91,29 @@ returns-clause-others g c told q other =
     let plan = c.in_ok-plan in
     let none = subst (λ (ps : List (List ℕ)). (p : List ℕ) → IsTrue (is_among p ps) → q ≢ index_file p) (sym plan.ensures.paths) other in
     c.ask.ensures.others told q (rw c.as_slice.ensures (no_file_of plan.plan.names plan.plan.paths q plan.ensures.named none))
+
+pub returns-in_err-heard-clause-folders : goal.returns-in_err-heard-clause-folders
+returns-in_err-heard-clause-folders g c told =
+    let plan = c.in_ok-plan in
+    rw plan.ensures.paths at (made_weaker _ _ (λ q is. asked_file plan.plan.names plan.plan.paths q plan.ensures.named is) _ _ (rw c.as_slice.ensures at (c.ask.ensures.folders told)))
+
+pub returns-in_err-verdicts-clause-folders : goal.returns-in_err-verdicts-clause-folders
+returns-in_err-verdicts-clause-folders g c told =
+    let plan = c.in_ok-plan in
+    rw plan.ensures.paths at (made_weaker _ _ (λ q is. asked_file plan.plan.names plan.plan.paths q plan.ensures.named is) _ _ (rw c.as_slice.ensures at (c.ask.ensures.folders told)))
+
+pub returns-in_err-turns-clause-folders : goal.returns-in_err-turns-clause-folders
+returns-in_err-turns-clause-folders g c told =
+    let plan = c.in_ok-plan in
+    rw plan.ensures.paths at (made_weaker _ _ (λ q is. asked_file plan.plan.names plan.plan.paths q plan.ensures.named is) _ _ (rw c.as_slice.ensures at (c.ask.ensures.folders told)))
+
+pub returns-clause-folders : goal.returns-clause-folders
+returns-clause-folders g c told =
+    let plan = c.in_ok-plan in
+    rw plan.ensures.paths at (made_weaker _ _ (λ q is. asked_file plan.plan.names plan.plan.paths q plan.ensures.named is) _ _ (rw c.as_slice.ensures at (c.ask.ensures.folders told)))
+
+pub returns-in_err-index-clause-folders : goal.returns-in_err-index-clause-folders
+returns-in_err-index-clause-folders g c told = none_made _ _ _ refl
+
+pub returns-in_err-plan-clause-folders : goal.returns-in_err-plan-clause-folders
+returns-in_err-plan-clause-folders g c told = none_made _ _ _ refl

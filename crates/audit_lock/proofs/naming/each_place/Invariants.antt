@@ -1,7 +1,7 @@
 use Rattle.std.proofs.Common.{◌≡◌, drop}
 use Rattle.std.specs.BTreeMap.{get_by_text}
 use Rattle.audit_lock.specs.Naming.{each_place}
-use Rattle.audit_lock.proofs.Ahead.{before}
+use Rattle.toml_tables.proofs.Ahead.{before}
 use Rattle.audit_lock.proofs.naming.each_place.Given as goal
 
 -- the places so far, in front of those of what is left

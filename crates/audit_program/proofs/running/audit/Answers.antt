@@ -1,6 +1,7 @@
 use Rattle.std.proofs.Common.{◌≡◌, ℕ, List, Result, Ok, Err, ap, sym, ◌∙◌, refl}
 use Rattle.tame_names.specs.Standing.{Standing, File}
 use Rattle.audit_core.specs.declared.auditing.AuditError.TheVariants.{Lockfile}
+use Rattle.tame_cache.proofs.FolderLemmas.{none_made}
 use Rattle.audit_core.proofs.Exchanged.{keeps_nothing, part_none}
 use Rattle.audit_core.proofs.Lists.{on_err}
 use Rattle.audit_lock.specs.Locked.{locked}
@@ -63,3 +64,17 @@ pub returns-clause-unaccepted : goal.returns-clause-unaccepted
 returns-clause-unaccepted g c told none =
     by_locked g.F.Files.tells _ (g.F.Files.stands c.args.files.now) c.in-Ok.path.now c.in_ok-text.text _ (locked c.in_ok-text.text) refl c.in-Ok.ensures.ok c.in_ok-text.ensures.opens none
     (λ f is. c.audit_text.ensures.uncalled f (rw c.as_str.ensures is))
+
+pub returns-in-Ok-audit_text-clause-folders : goal.returns-in-Ok-audit_text-clause-folders
+returns-in-Ok-audit_text-clause-folders g c told_files told packages accepts =
+    c.audit_text.ensures.folders told packages (rw c.as_str.ensures (one_text g.F.Files.tells told_files _ (g.F.Files.stands c.args.files.now) c.in-Ok.path.now c.in_ok-text.text packages c.in-Ok.ensures.ok c.in_ok-text.ensures.opens accepts))
+
+pub returns-clause-folders : goal.returns-clause-folders
+returns-clause-folders g c told_files told packages accepts =
+    c.audit_text.ensures.folders told packages (rw c.as_str.ensures (one_text g.F.Files.tells told_files _ (g.F.Files.stands c.args.files.now) c.in-Ok.path.now c.in_ok-text.text packages c.in-Ok.ensures.ok c.in_ok-text.ensures.opens accepts))
+
+pub returns-in-Err-clause-folders : goal.returns-in-Err-clause-folders
+returns-in-Err-clause-folders g c told_files told packages accepts = none_made _ _ _ refl
+
+pub returns-in_err-text-clause-folders : goal.returns-in_err-text-clause-folders
+returns-in_err-text-clause-folders g c told_files told packages accepts = none_made _ _ _ refl

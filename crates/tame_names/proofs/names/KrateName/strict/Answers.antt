@@ -1,4 +1,4 @@
-use Rattle.std.proofs.Common.{◌≡◌, IsTrue, None, Option, option_map, sym, ap, ◌∙◌}
+use Rattle.std.proofs.Common.{◌≡◌, IsTrue, None, option_map, sym, ap, ◌∙◌}
 use Rattle.tame_names.specs.Names.{is_name, refusal, strict_refusal}
 use Rattle.tame_names.proofs.Ascii.{name-IsAscii, strict_name}
 use Rattle.tame_names.proofs.names.KrateName.strict.Goals as goal

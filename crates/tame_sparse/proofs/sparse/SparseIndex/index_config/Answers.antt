@@ -5,10 +5,9 @@ use Rattle.tame_sparse.proofs.Configs.{config_read}
 use Rattle.tame_sparse.proofs.sparse.SparseIndex.index_config.Goals as goal
 
 pub returns-in-Ok-Whole-clause-read : goal.returns-in-Ok-Whole-clause-read
-returns-in-Ok-Whole-clause-read g c told =
+returns-in-Ok-Whole-clause-read g c =
     let stands = g.F.Files.stands in
-    let answer = rw c.in-Ok-Whole.field-0-is at (c.in-Ok-Whole.ensures.answer told) in
     let place : c.as_str.result.now ≡ config_file c.args.self.now.cache.path = c.as_str.ensures ∙ c.in_ok-path.ensures ∙ ap config_file c.path.ensures in
-    let file : stands c.args.files.now (config_file c.args.self.now.cache.path) ≡ File c.in-Ok-Whole.bytes.items =
-    ap (stands c.args.files.now) (sym place) ∙ answer.0 in
-    config_read _ c.in-Ok-Whole.bytes.items _ c.config_of.result file (rw c.as_slice.ensures.value at c.config_of.ensures.ok) (rw c.as_slice.ensures.value at c.config_of.ensures.refused)
+    let file : g.F.Files.tells → stands c.args.files.now (config_file c.args.self.now.cache.path) ≡ File c.in-Ok-Whole.bytes.items =
+    λ told. ap (stands c.args.files.now) (sym place) ∙ (rw c.in-Ok-Whole.field-0-is at (c.in-Ok-Whole.ensures.answer told)).0 in
+    config_read g.F.Files.tells _ c.in-Ok-Whole.bytes.items _ c.config_of.result file (rw c.as_slice.ensures.value at c.config_of.ensures.ok) (rw c.as_slice.ensures.value at c.config_of.ensures.refused)

@@ -1,0 +1,4 @@
+pub mod Agreeing
+pub mod Cuts
+pub mod Forms
+pub mod Segments

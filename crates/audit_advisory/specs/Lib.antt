@@ -1,0 +1,10 @@
+pub mod Advisories
+pub mod Agreement
+pub mod Fences
+pub mod Fields
+pub mod Hits
+pub mod Intervals
+pub mod Outputs
+pub mod Points
+pub mod Requirements
+pub mod Versions

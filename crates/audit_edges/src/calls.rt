@@ -1,0 +1,71 @@
+//! Calls on the host. One that a signal interrupts is made again.
+use std::fs::{self, Metadata, OpenFile, OpenOptions};
+use std::io::{self, ErrorKind, Read, Seek, SeekFrom, Write};
+use std::rt::Files;
+
+/// What a call answers that isn't interrupted.
+macro_rules! again {
+    ($call:expr) => {{
+        for _ in 0..u64::MAX {
+            match $call {
+                Err(error) if error.kind() == ErrorKind::Interrupted => {}
+                done => return done,
+            }
+        }
+        Err(io::Error::from(ErrorKind::Interrupted))
+    }};
+}
+
+/// What is at a place, without following a link there.
+pub fn look<R: Files>(rt: &R, place: &str) -> io::Result<Metadata> {
+    again!(fs::symlink_metadata(rt, place))
+}
+
+/// What is at a place, where links lead.
+pub fn look_through<R: Files>(rt: &R, place: &str) -> io::Result<Metadata> {
+    again!(fs::metadata(rt, place))
+}
+
+/// What is open.
+pub fn look_at_opened<F: OpenFile>(file: &F) -> io::Result<Metadata> {
+    again!(file.metadata())
+}
+
+pub fn make_folder<R: Files>(rt: &R, place: &str) -> io::Result<()> {
+    again!(fs::create_dir(rt, place))
+}
+
+pub fn open<R: Files>(rt: &R, how: &OpenOptions, place: &str) -> io::Result<R::File> {
+    again!(how.open(rt, place))
+}
+
+/// The next byte of a file; none at its end.
+pub fn next_byte<F: Read>(file: &mut F) -> io::Result<Option<u8>> {
+    let mut buffer = [0u8; 1];
+    for _ in 0..u64::MAX {
+        match file.read(&mut buffer) {
+            Ok(0) => return Ok(None),
+            Ok(_) => return Ok(Some(buffer[0])),
+            Err(error) if error.kind() == ErrorKind::Interrupted => {}
+            Err(error) => return Err(error),
+        }
+    }
+    Err(io::Error::from(ErrorKind::Interrupted))
+}
+
+/// Goes to a place of a file, counted from its beginning.
+pub fn go_to<F: Seek>(file: &mut F, at: u64) -> io::Result<u64> {
+    again!(file.seek(SeekFrom::Start(at)))
+}
+
+pub fn set_len<F: OpenFile>(file: &F, len: u64) -> io::Result<()> {
+    again!(file.set_len(len))
+}
+
+pub fn sync<F: OpenFile>(file: &F) -> io::Result<()> {
+    again!(file.sync_all())
+}
+
+pub fn flush<W: Write>(writer: &mut W) -> io::Result<()> {
+    again!(writer.flush())
+}

@@ -1,0 +1,79 @@
+//! The inverse dependency tree of a lockfile.
+ghost use Rattle.std.specs.Prelude.{◌≡◌, ◌<◌, ◌≤◌, ◌++◌, List, ℕ, length, IfOk, OnOk, IsErrOf};
+ghost use Rattle.tame_names.specs.Counts.{Rose};
+ghost use Rattle.tame_names.specs.Output.{AddsPrefix};
+ghost use Rattle.audit_lock.specs.Shape.{IsTree};
+ghost use Rattle.audit_lock.specs.Parents.{tree_of};
+ghost use Rattle.audit_lock.specs.Rendering.{lines_of, rendering};
+
+use crate::lockfiles::Lockfile;
+use crate::parents::parents_of;
+use crate::rendering::tree_text;
+use std::alloc::Global;
+use std::marker::Model;
+use tame_names::{Items, NoMemory, Sink};
+
+/// Why a tree was not rendered whole.
+#[derive(Clone, Copy, Debug, PartialEq, Eq)]
+pub enum RenderFault {
+    /// The put failed.
+    Io,
+    NoMemory,
+}
+
+/// The parents of each package of a lockfile: the packages that depend on it, each once, in the
+/// order of the lockfile. Contracts see the list of these lists, a place for each package.
+#[derive(Debug, Drop)]
+pub struct Tree {
+    parents: Items<Items<usize>>,
+}
+
+impl Model for Tree {
+    ghost Value = { List (List ℕ) };
+
+    ghost view = { λ t. t.parents };
+}
+
+impl Tree {
+    /// The parents of each package, in lockfile order.
+    pub fn of(alloc: Global, lockfile: &Lockfile) -> Result<Tree, NoMemory>
+        ensures { IfOk result (λ tree. tree ≡ tree_of lockfile.now) }
+    {
+        Ok(Tree {
+            parents: parents_of(alloc, lockfile.packages())?,
+        })
+    }
+
+    /// Puts the tree of the package at a place: a line for it, and below it the packages that
+    /// depend on it, each with those that depend on it in turn. A package that has a line already
+    /// gets another one, with nothing below it. The text is made whole and put in one piece. `Io` where
+    /// the sink failed, which then holds a part of the text from the front; at `NoMemory` it wasn't
+    /// called. The depth of the recursion is that of the tree.
+    pub fn render<S: Sink>(
+        &self,
+        alloc: Global,
+        lockfile: &Lockfile,
+        node: usize,
+        sink: &mut S,
+    ) -> Result<(), RenderFault>
+        requires made { self.now ≡ tree_of lockfile.now }
+        requires node { node < length lockfile.now }
+        ensures tree { IsTree lockfile.now node (lines_of lockfile.now node) }
+        ensures put { S.tells → OnOk result
+            (S.holds sink.new ≡ S.holds sink.old ++ rendering lockfile.now node) }
+        ensures part { S.tells
+            → AddsPrefix (S.holds sink.old) (rendering lockfile.now node) (S.holds sink.new) }
+        ensures later { S.faults sink.old ≤ S.faults sink.new }
+        ensures failed { IsErrOf result RenderFault.Io
+            → Rose (S.faults sink.old) (S.faults sink.new) }
+        ensures unput { IsErrOf result RenderFault.NoMemory → sink.new ≡ sink.old }
+    {
+        let Ok(text) = tree_text(alloc, lockfile.packages(), self.parents.as_slice(), node) else {
+            return Err(RenderFault::NoMemory);
+        };
+        match sink.put(text.as_bytes()) {
+            Ok(()) => Ok(()),
+            Err(_) => Err(RenderFault::Io),
+        }
+    }
+}

@@ -1,0 +1,87 @@
+//! Rows of index entries as bytes and as versions, of configurations of an index, and of entries
+//! stored on a disk that fails and crashes: each line of the input is a case, and its answer is a
+//! line of the output.
+#![tactic(auto)]
+
+mod configs;
+mod entries;
+mod readings;
+mod revisions;
+mod scanning;
+mod sources;
+mod stage;
+mod storing;
+
+use row_fixtures::{Row, RowFault, is_remark, told};
+use stage::Stage;
+use std::alloc::{AllocError, Global};
+use std::io;
+use std::io::{BufRead, BufReader};
+
+/// The answer of a row of values.
+fn answer_of_values(alloc: Global, row: Row<'_>) -> Result<String, RowFault> {
+    let mut words = row;
+    match words.word() {
+        "url" => configs::url(alloc, words),
+        "version-url" => configs::url_of_version(alloc, words),
+        "config" => configs::config(alloc, words),
+        "entry" => entries::entry(alloc, words),
+        "valid" => entries::valid(alloc, words),
+        "cuts" => entries::cuts(alloc, words),
+        "firsts" => entries::firsts(alloc, words),
+        "versions" => entries::of_versions(alloc, words),
+        "storable" => entries::storable(alloc, words),
+        "cached" => entries::cached(alloc, words),
+        "revision" => revisions::revision(alloc, words),
+        "equal" => revisions::equal(alloc, words),
+        "digits" => revisions::digits(alloc, words),
+        "parse" => revisions::parse(alloc, words),
+        "raw" => scanning::raw(alloc, words),
+        "scan" => scanning::scan(alloc, words),
+        "scan-entry" => scanning::scan_entry(alloc, words),
+        "read" => readings::read(alloc, words),
+        "under" => readings::under(alloc, words),
+        "items" => readings::items(alloc, words),
+        "line" => readings::line(alloc, words),
+        "laws" => readings::laws(alloc),
+        _ => Err(RowFault::Unread),
+    }
+}
+
+/// The answer of a row.
+fn answer(alloc: Global, stage: &mut Stage, row: Row<'_>) -> Result<String, RowFault> {
+    let mut words = row;
+    match words.word() {
+        "files" => stage.lay_files(alloc, words),
+        "map" => readings::map(alloc, &mut stage.files, words),
+        "disk" => stage.lay_disk(alloc, words),
+        "store" => storing::store(alloc, &mut stage.disk, words),
+        "look" => storing::look(alloc, &mut stage.disk),
+        "first" => storing::first(alloc, words),
+        "second" => storing::second(alloc, words),
+        "crashed" => storing::crashed_write(alloc, words),
+        "foreign" => storing::foreign(alloc, words),
+        "path" => storing::path(alloc, words),
+        _ => answer_of_values(alloc, row),
+    }
+}
+
+/// The line that answers a line: a remark answers itself.
+fn line_for(alloc: Global, stage: &mut Stage, line: &str) -> Result<String, AllocError> {
+    if is_remark(line) {
+        return String::from_str(alloc, line);
+    }
+    told(alloc, answer(alloc, stage, Row::of(line)))
+}
+
+fn main(rt: HostRuntime) -> io::Result<()> {
+    let alloc = rt.alloc();
+    let Ok(mut stage) = Stage::new(alloc) else {
+        return Ok(());
+    };
+    for line in BufReader::new(alloc, rt.reader())?.lines(alloc) {
+        let line = line?;
+        rt.println(line_for(alloc, &mut stage, line.as_str())?)?;
+    }
+    Ok(())
+}

@@ -1,0 +1,1 @@
+-- Rows of the definitions of other crates: none of its own.

@@ -1,0 +1,46 @@
+//! The edges of the audit over real files, as a table: each line of the input is a command, each
+//! line of the output the command and its answer. A line with `#` begins a case, without any files.
+//!
+//! What stands: `file PLACE = TEXT`, `link PLACE -> TARGET`, `folder PLACE`, `hole PLACE LENGTH`,
+//! `remove PLACE`; `show PLACE` tells it. `again` makes new edges, as a next run does.
+//!
+//! Calls on the edges: `peek`, `read`, `folders`, `write PATH AT TEXT`, `cut PATH LENGTH`, `sync`
+//! on the cache, `store NAME TAG LINE` and `entry NAME` by the cache's own write and read;
+//! `ask PATH` and `ask PATH naming TAG` on the mirror; `text PATH LIMIT` on the host's files;
+//! `put TEXT` and `put-closed TEXT` on an output. `fault N` is a fault, with the edge's count.
+//!
+//! Before a call: `calls` lists its calls on the system; `fails N` lets the Nth of them fail;
+//! `each-fails` and `each-interrupted` make the call as often as it has such calls, from the state
+//! that the case's lines led to, and let each of them fail, or be interrupted, in turn;
+//! `each-turned` puts the folder `next` into the mirror's place before each of them in turn.
+#![tactic(auto)]
+
+mod edges;
+mod host;
+mod script;
+mod texts;
+
+use crate::host::{Host, Plan};
+use crate::script::Script;
+use std::io;
+use std::process::ExitCode;
+
+fn play(rt: &HostRuntime) -> io::Result<()> {
+    let plan = Plan::new();
+    let host = Host { rt, plan: &plan };
+    let mut script = Script::new(&host);
+    for line in rt.lines(rt.alloc()) {
+        script.line(line?.as_str())?;
+    }
+    script.clear()
+}
+
+fn main(rt: HostRuntime) -> ExitCode {
+    match play(&rt) {
+        Ok(()) => ExitCode::from(0),
+        Err(error) => {
+            let _ = println!(rt; "stopped: {error}");
+            ExitCode::from(1)
+        }
+    }
+}

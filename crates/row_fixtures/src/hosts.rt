@@ -1,0 +1,59 @@
+//! Disks and files in memory.
+use crate::faults::RowFault;
+use std::alloc::{AllocError, Global};
+use tame_cache::MemCacheDisk;
+use tame_names::{Items, MemFile, MemFiles, Text};
+use tame_sparse::{CRATES_IO_HTTP_INDEX, SparseIndex};
+
+/// The cache file of the crate `a`.
+pub const FLAGGED_FILE: &str = ".cache/1/a";
+
+/// A disk without files, of which the calls with these numbers fail, counted from 1.
+pub fn disk_failing(alloc: Global, failing: Vec<u64>) -> MemCacheDisk {
+    MemCacheDisk::new(alloc, failing)
+}
+
+/// A disk whose file of the crate `a` has these bytes, of which the calls with these numbers fail,
+/// counted from 1.
+pub fn disk_with(alloc: Global, bytes: &[u8], failing: Vec<u64>) -> Result<MemCacheDisk, RowFault> {
+    let mut disk = MemCacheDisk::new(alloc, failing);
+    disk.put_file(alloc, FLAGGED_FILE, bytes)?;
+    Ok(disk)
+}
+
+/// From now the n-th call of a disk fails, counted from 1, and each later one.
+pub fn stop(disk: &mut MemCacheDisk, n: u64) {
+    disk.stop_at(n);
+}
+
+/// What a crash leaves of a disk, by the pick of `MemCacheDisk::after_crash`.
+pub fn crashed(alloc: Global, disk: MemCacheDisk, pick: u8) -> Result<MemCacheDisk, RowFault> {
+    Ok(disk.after_crash(alloc, pick)?)
+}
+
+/// Numbers as a list.
+pub fn numbers(list: Vec<u64>) -> Items<u64> {
+    Items::of(list)
+}
+
+/// Files of which one stands at a path, where one is given; the reads with these numbers fail,
+/// counted from 1.
+pub fn files_with(
+    alloc: Global,
+    file: Option<(&str, &[u8])>,
+    failing: Vec<u64>,
+) -> Result<MemFiles, RowFault> {
+    let mut there = Items::new(alloc);
+    if let Some((path, bytes)) = file {
+        there.add(MemFile {
+            path: Text::of(alloc, path)?,
+            bytes: Items::copied(alloc, bytes)?,
+        })?;
+    }
+    Ok(MemFiles::new(alloc, there, Items::of(failing)))
+}
+
+/// The sparse index of crates.io, with its cache below a folder.
+pub fn crates_io_index(alloc: Global, folder: &str) -> Result<SparseIndex, RowFault> {
+    Ok(SparseIndex::at(alloc, Text::of(alloc, folder)?, CRATES_IO_HTTP_INDEX)?)
+}

@@ -1,0 +1,67 @@
+//! Rows of requests, of what becomes of answers, and of the memory of entity tags: each line of
+//! the input is a case, and its answer is a line of the output.
+#![tactic(auto)]
+
+mod answers;
+mod etags;
+mod git;
+mod naming;
+mod requests;
+mod stage;
+
+use row_fixtures::{Row, RowFault, is_remark, told};
+use stage::Stage;
+use std::alloc::{AllocError, Global};
+use std::io;
+use std::io::{BufRead, BufReader};
+
+/// The answer of a row.
+fn answer(alloc: Global, stage: &mut Stage, row: Row<'_>) -> Result<String, RowFault> {
+    let mut words = row;
+    match words.word() {
+        "take" => answers::take(alloc, &stage.index, words),
+        "disk" => stage.lay_disk(alloc, words),
+        "name" => naming::named(alloc, &stage.index, &mut stage.disk),
+        "give" => answers::give(alloc, &stage.index, &mut stage.disk, words),
+        "sent" => answers::sent(alloc, words),
+        "edge" => naming::edge(alloc, &stage.index, words),
+        "kept" => naming::kept(alloc, &stage.index, words),
+        "file" => naming::file(alloc, &stage.index, words),
+        "tag" => etags::tag_for(alloc, &stage.index, &stage.tags, words),
+        "see" => etags::see(alloc, &stage.index, &mut stage.tags, words),
+        "git" => stage.lay_git(alloc, words),
+        "head" => git::head(alloc, &mut stage.git, words),
+        "store" => git::store(alloc, &stage.git, &mut stage.disk, words),
+        "front" => git::front(alloc, &stage.git, &mut stage.disk, words),
+        "git-url" => git::of_url(alloc, words),
+        "ask" => requests::ask(alloc, &stage.index, words),
+        "carry" => requests::carry(alloc, &stage.index, words),
+        "send" => requests::send(alloc, words),
+        "place" => requests::place(alloc, &stage.index, words),
+        "sparse" => requests::sparse(alloc, words),
+        "files" => stage.lay_files(alloc, words),
+        "config" => requests::config(alloc, &mut stage.files),
+        "laws" => requests::laws(alloc),
+        _ => Err(RowFault::Unread),
+    }
+}
+
+/// The line that answers a line: a remark answers itself.
+fn line_for(alloc: Global, stage: &mut Stage, line: &str) -> Result<String, AllocError> {
+    if is_remark(line) {
+        return String::from_str(alloc, line);
+    }
+    told(alloc, answer(alloc, stage, Row::of(line)))
+}
+
+fn main(rt: HostRuntime) -> io::Result<()> {
+    let alloc = rt.alloc();
+    let Ok(mut stage) = Stage::new(alloc) else {
+        return Ok(());
+    };
+    for line in BufReader::new(alloc, rt.reader())?.lines(alloc) {
+        let line = line?;
+        rt.println(line_for(alloc, &mut stage, line.as_str())?)?;
+    }
+    Ok(())
+}

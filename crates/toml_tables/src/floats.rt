@@ -1,0 +1,44 @@
+//! Floats, however deep they stand.
+ghost use Rattle.std.specs.Prelude.{◌≡◌};
+ghost use Rattle.toml.specs.View.{view, table_view, array_view};
+ghost use Rattle.toml_tables.specs.Floats.{has_float, items_have_float, members_have_float};
+
+use toml::{Table, Value};
+
+#[cycle(floats)]
+fn has_float(value: &Value) -> bool
+    ensures { result ≡ has_float (view value.now) }
+{
+    match value {
+        Value::Float(_) => true,
+        Value::Array(items) => items_have_float(items),
+        Value::Table(table) => table_has_float(table),
+        _ => false,
+    }
+}
+
+#[cycle(floats)]
+fn items_have_float(items: &Vec<Value>) -> bool
+    ensures { result ≡ items_have_float (array_view items.now) }
+{
+    for item in items {
+        if has_float(item) {
+            return true;
+        }
+    }
+    false
+}
+
+/// Whether a value in a table, however deep, is a float (TOML, "Float"): a number with a point or
+/// an exponent, an infinity, or `nan`.
+#[cycle(floats)]
+pub fn table_has_float(table: &Table) -> bool
+    ensures { result ≡ members_have_float (table_view table.now) }
+{
+    for (_, member) in table.iter() {
+        if has_float(member) {
+            return true;
+        }
+    }
+    false
+}

@@ -1,0 +1,140 @@
+//! The host of runs: a lockfile, a server's answers, a disk, and which calls fail.
+use crate::scripts::scripted;
+use row_fixtures::{
+    Row, RowFault, crashed, crates_io_index, disk_failing, disk_with, flagged_entry, lockfile_of,
+    plain_bytes, stop,
+};
+use std::alloc::Global;
+use std::mem;
+use tame_cache::MemCacheDisk;
+use tame_names::Items;
+use tame_sparse::{Scripted, SparseIndex};
+
+/// What stays from one row to the next.
+#[derive(Drop)]
+pub struct Stage {
+    /// The sparse index of crates.io.
+    pub index: SparseIndex,
+    /// The path of the one file that stands, and its bytes.
+    pub path: String,
+    pub bytes: Vec<u8>,
+    /// The server's answers to the next run.
+    pub script: Items<Scripted>,
+    /// The reads and the puts of the next run that fail, counted from 1.
+    pub reads: Vec<u64>,
+    pub puts: Vec<u64>,
+    /// The disk of the cache.
+    pub disk: MemCacheDisk,
+}
+
+fn done(alloc: Global) -> Result<String, RowFault> {
+    Ok(String::from_str(alloc, "-")?)
+}
+
+impl Stage {
+    /// An empty disk, no file and no answer.
+    pub fn new(alloc: Global) -> Result<Stage, RowFault> {
+        Ok(Stage {
+            index: crates_io_index(alloc, "")?,
+            path: String::new(alloc),
+            bytes: Vec::new(alloc),
+            script: Items::new(alloc),
+            reads: Vec::new(alloc),
+            puts: Vec::new(alloc),
+            disk: disk_failing(alloc, Vec::new(alloc)),
+        })
+    }
+
+    /// An empty disk, and a lockfile of version 0.1.0 of the crate `a`.
+    pub fn lock_one(&mut self, alloc: Global) -> Result<(), RowFault> {
+        self.path = String::from_str(alloc, "Cargo.lock")?;
+        self.bytes = lockfile_of(alloc, "a@0.1.0")?.into_bytes();
+        self.disk = disk_failing(alloc, Vec::new(alloc));
+        Ok(())
+    }
+
+    /// `disk FAILING`: an empty disk, of which the calls with these numbers fail, counted from 0.
+    pub fn lay_disk(&mut self, alloc: Global, mut words: Row<'_>) -> Result<String, RowFault> {
+        self.disk = disk_failing(alloc, words.numbers(alloc)?);
+        done(alloc)
+    }
+
+    /// From now the n-th call of the disk fails, counted from 1, and each later one.
+    pub fn stop(&mut self, n: u64) {
+        stop(&mut self.disk, n);
+    }
+
+    /// `stop N`: the same.
+    pub fn stop_at(&mut self, alloc: Global, mut words: Row<'_>) -> Result<String, RowFault> {
+        self.stop(words.number()?);
+        done(alloc)
+    }
+
+    /// The disk is what a crash leaves of it.
+    pub fn crash(&mut self, alloc: Global, pick: u8) -> Result<(), RowFault> {
+        let empty = disk_failing(alloc, Vec::new(alloc));
+        let before = mem::replace(&mut self.disk, empty);
+        self.disk = crashed(alloc, before, pick)?;
+        Ok(())
+    }
+
+    /// `crash PICK`: the same.
+    pub fn crash_by(&mut self, alloc: Global, mut words: Row<'_>) -> Result<String, RowFault> {
+        self.crash(alloc, words.byte_or_none()?.unwrap_or(0))?;
+        done(alloc)
+    }
+
+    /// `put FAILING (YANKED | UNYANKED) FIRST`: a disk of which these calls fail, whose file of the
+    /// crate `a` is an entry with another first byte.
+    pub fn put(&mut self, alloc: Global, mut words: Row<'_>) -> Result<String, RowFault> {
+        let failing = words.numbers(alloc)?;
+        let mut bytes = flagged_entry(alloc, words.is("YANKED", "UNYANKED")?)?;
+        let first = words.byte_or_none()?;
+        if let (Some(place), Some(first)) = (bytes.first_mut(), first) {
+            *place = first;
+        }
+        self.disk = disk_with(alloc, bytes.as_slice(), failing)?;
+        done(alloc)
+    }
+
+    /// `lock NAME@VERSION ..`: a lockfile of packages of the default registry at `Cargo.lock`.
+    pub fn lay_lockfile(&mut self, alloc: Global, words: Row<'_>) -> Result<String, RowFault> {
+        self.path = String::from_str(alloc, "Cargo.lock")?;
+        self.bytes = lockfile_of(alloc, words.rest())?.into_bytes();
+        done(alloc)
+    }
+
+    /// `stand PATH BYTES`: the file that stands.
+    pub fn lay_file(&mut self, alloc: Global, mut words: Row<'_>) -> Result<String, RowFault> {
+        self.path = words.text(alloc)?;
+        self.bytes = words.bytes(alloc)?;
+        done(alloc)
+    }
+
+    /// `| LINE`: adds a line to the file that stands.
+    pub fn add_line(&mut self, alloc: Global, words: Row<'_>) -> Result<String, RowFault> {
+        let line = plain_bytes(alloc, words.rest())?;
+        self.bytes.extend_from_slice(line.as_slice())?;
+        self.bytes.push(b'\n')?;
+        done(alloc)
+    }
+
+    /// `serve STATUS REVISION BODY`: adds an answer for the next run, of a server that holds the
+    /// body under the revision; the body is sent at 200 alone.
+    pub fn serve(&mut self, alloc: Global, words: Row<'_>) -> Result<String, RowFault> {
+        self.script.add(scripted(alloc, words)?)?;
+        done(alloc)
+    }
+
+    /// `reads NUMBERS`: the reads of the next run that fail.
+    pub fn fail_reads(&mut self, alloc: Global, mut words: Row<'_>) -> Result<String, RowFault> {
+        self.reads = words.numbers(alloc)?;
+        done(alloc)
+    }
+
+    /// `puts NUMBERS`: the puts of the output of the next run that fail.
+    pub fn fail_puts(&mut self, alloc: Global, mut words: Row<'_>) -> Result<String, RowFault> {
+        self.puts = words.numbers(alloc)?;
+        done(alloc)
+    }
+}
