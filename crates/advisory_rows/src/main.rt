@@ -6,27 +6,31 @@
 //! - `heads`: on each line the head of an advisory, `|` for a newline;
 //! - `advisory: NAME`: an advisory;
 //! - `hits: ARCH OS SEVERITY`: an advisory, a line `--`, and a lockfile;
+//! - `report: ARCH OS SEVERITY IGNORE KINDS YANKED`: on each line the head of an advisory, a line
+//!   `--`, a lockfile, and behind a further line `--` on each line a name and a version to query;
+//!   words that commas part, `-` for none; the packages of the last ones are yanked;
 //! - `words`: on each line a word for what is denied, or for the form of a report.
+//!
+//! With the words ADVISORIES LOCKFILE N it reads the advisories of one file, each but the first
+//! behind a line `==`, and a lockfile, makes N reports, and counts what each finds.
 #![tactic(auto)]
 
+mod reading;
+mod reporting;
+mod timing;
+
+use crate::reading::{bad_input, of_memory, settings_of, unfolded};
+use crate::reporting::print_report;
+use crate::timing::time_reports;
 use audit_advisory::{
     Advisory, AdvisoryFault, DenyOption, Function, Metadata, OutputConfig, OutputFormat,
-    Requirement, Settings, Severity, hits, read_version,
+    Requirement, Settings, hits, read_version,
 };
 use audit_lock::{Lockfile, Package};
 use semver::Version;
 use std::alloc::Global;
-use std::io;
-use std::io::ErrorKind;
-use tame_names::{Items, NoMemory, Text};
-
-fn of_memory(_: NoMemory) -> io::Error {
-    io::Error::from(ErrorKind::OutOfMemory)
-}
-
-fn bad_input() -> io::Error {
-    io::Error::from(ErrorKind::InvalidInput)
-}
+use std::{env, io};
+use tame_names::NoMemory;
 
 /// Whether a version meets a requirement, as a word.
 fn held(requirement: &Requirement, version: &Version) -> &'static str {
@@ -67,19 +71,6 @@ fn print_answer(rt: &HostRuntime, line: &str, text: &str) -> io::Result<()> {
         Err(AdvisoryFault::Rule(rule)) => println!(rt; "{line}: {rule:?}"),
         Err(fault) => println!(rt; "{line}: {fault:?}"),
     }
-}
-
-/// A line with its marks replaced.
-fn unfolded(alloc: Global, line: &str) -> io::Result<String> {
-    let mut text = String::new(alloc);
-    for c in line.chars() {
-        match c {
-            '|' => text.push('\n')?,
-            '^' => text.push('\r')?,
-            _ => text.push(c)?,
-        }
-    }
-    Ok(text)
 }
 
 fn print_text(rt: &HostRuntime, line: &str) -> io::Result<()> {
@@ -136,42 +127,6 @@ fn print_advisory(rt: &HostRuntime, text: &str) -> io::Result<()> {
     }
 }
 
-/// A list of one word, or of none for `-`.
-fn listed(alloc: Global, word: &str) -> Result<Items<Text>, NoMemory> {
-    let mut texts = Items::new(alloc);
-    if word != "-" {
-        texts.add(Text::of(alloc, word)?)?;
-    }
-    Ok(texts)
-}
-
-fn severity_of(word: &str) -> Option<Severity> {
-    match word {
-        "none" => Some(Severity::None),
-        "low" => Some(Severity::Low),
-        "medium" => Some(Severity::Medium),
-        "high" => Some(Severity::High),
-        "critical" => Some(Severity::Critical),
-        _ => None,
-    }
-}
-
-fn settings_of(alloc: Global, words: &str) -> io::Result<Settings> {
-    let Some((arch, more)) = words.split_once(' ') else {
-        return Err(bad_input());
-    };
-    let Some((os, severity)) = more.split_once(' ') else {
-        return Err(bad_input());
-    };
-    Ok(Settings {
-        ignore: Items::new(alloc),
-        severity: severity_of(severity),
-        target_arch: listed(alloc, arch).map_err(of_memory)?,
-        target_os: listed(alloc, os).map_err(of_memory)?,
-        informational_warnings: Items::new(alloc),
-    })
-}
-
 fn is_hit(
     alloc: Global,
     settings: &Settings,
@@ -219,7 +174,7 @@ fn print_hits_of(rt: &HostRuntime, settings: &Settings, text: &str) -> io::Resul
 }
 
 fn print_hits(rt: &HostRuntime, words: &str, text: &str) -> io::Result<()> {
-    let settings = settings_of(rt.alloc(), words)?;
+    let settings = settings_of(rt.alloc(), words).map_err(of_memory)?;
     print_hits_of(rt, &settings, text)
 }
 
@@ -264,10 +219,11 @@ fn print_line(rt: &HostRuntime, kind: &str, line: &str) -> io::Result<()> {
 fn print_table(rt: &HostRuntime, head: &str, body: &str) -> io::Result<()> {
     println!(rt; "== {head}")?;
     if let Some((kind, more)) = head.split_once(": ") {
-        if kind == "hits" {
-            return print_hits(rt, more, body);
-        }
-        return print_advisory(rt, body);
+        return match kind {
+            "hits" => print_hits(rt, more, body),
+            "report" => print_report(rt, more, body),
+            _ => print_advisory(rt, body),
+        };
     }
     for line in body.lines() {
         print_line(rt, head, line)?;
@@ -275,13 +231,25 @@ fn print_table(rt: &HostRuntime, head: &str, body: &str) -> io::Result<()> {
     Ok(())
 }
 
-fn main(rt: HostRuntime) -> io::Result<()> {
+fn print_tables(rt: &HostRuntime) -> io::Result<()> {
     let input = io::read_to_string(rt.alloc(), rt.reader())?;
     for table in input.as_str().split("== ").skip(1) {
         match table.split_once('\n') {
-            Some((head, body)) => print_table(&rt, head, body)?,
+            Some((head, body)) => print_table(rt, head, body)?,
             None => return Err(bad_input()),
         }
     }
     Ok(())
+}
+
+fn main(rt: HostRuntime) -> io::Result<()> {
+    let mut words = env::args(&rt)?.skip(1);
+    let Some(database) = words.next() else {
+        return print_tables(&rt);
+    };
+    let (Some(lockfile), Some(times)) = (words.next(), words.next()) else {
+        return Err(bad_input());
+    };
+    let times = times.parse::<u64>().unwrap_or(1);
+    time_reports(&rt, database.as_str(), lockfile.as_str(), times)
 }

@@ -1,4 +1,9 @@
 pub mod Agreeing
 pub mod Cuts
+pub mod Filtering
 pub mod Forms
+pub mod Halving
+pub mod Ordered
+pub mod Picking
+pub mod Placing
 pub mod Segments

@@ -76,12 +76,15 @@ vulnerable_parts versions (Some parts) = is_vulnerable versions (point_of_parts 
 abbrev pub is_vulnerable_text : Versions → List ℕ → Bool
 is_vulnerable_text versions text = vulnerable_parts versions (result_ok (version_parts text))
 
--- an advisory hits a package: by its name, its source, the target, the score, and its version
-abbrev pub hits : Settings → Advisory → Package → Bool
-hits settings advisory p =
-    bytes_eq p.name advisory.metadata.«package»
-    && source_fits advisory.metadata.source p.source
+-- an advisory affects a package of its name: by the source, the target, the score, and the version
+abbrev pub affects : Settings → Advisory → Package → Bool
+affects settings advisory p =
+    source_fits advisory.metadata.source p.source
     && target_fits settings.target_arch advisory.arch
     && target_fits settings.target_os advisory.os
     && is_severe advisory.metadata.score_tenths settings.severity
     && is_vulnerable_text advisory.versions p.version
+
+-- an advisory hits a package: it is on the package's name, and affects it
+abbrev pub hits : Settings → Advisory → Package → Bool
+hits settings advisory p = bytes_eq advisory.metadata.«package» p.name && affects settings advisory p

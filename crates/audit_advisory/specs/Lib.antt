@@ -1,10 +1,15 @@
 pub mod Advisories
 pub mod Agreement
+pub mod Exits
 pub mod Fences
 pub mod Fields
 pub mod Hits
 pub mod Intervals
+pub mod Names
 pub mod Outputs
+pub mod Places
 pub mod Points
+pub mod Queries
+pub mod Reports
 pub mod Requirements
 pub mod Versions

@@ -1,25 +1,35 @@
-//! Security advisories: their texts, their versions, and the packages that they hit.
+//! Security advisories: their texts, their versions, the packages that they hit, and the report on
+//! a lockfile.
 #![tactic(auto)]
 
 mod advisories;
 mod affected;
 mod bounds;
+mod counting;
+mod databases;
 mod edges;
+mod exits;
 mod faults;
 mod fences;
+mod finding;
 mod hitting;
 mod intervals;
 mod laws;
 mod metadata;
 mod outputs;
+mod reports;
 mod requirements;
+mod searching;
 mod settings;
 mod versions;
 
 pub use advisories::Advisory;
 pub use affected::{Function, FunctionPath};
 pub use bounds::{Lower, Upper};
+pub use counting::{Comparisons, name_order};
+pub use databases::Database;
 pub use edges::{Edge, Release};
+pub use exits::{fails, report_fails, self_fails};
 pub use faults::{AdvisoryFault, AdvisoryRule};
 pub use hitting::{hits, read_version};
 pub use intervals::Interval;
@@ -28,6 +38,7 @@ pub use laws::{
 };
 pub use metadata::{Informational, Metadata};
 pub use outputs::{DenyOption, OutputConfig, OutputFormat, WarningKind};
+pub use reports::{Report, Vulnerability, Warning};
 pub use requirements::Requirement;
 pub use settings::{Settings, Severity};
 pub use versions::Versions;

@@ -7,11 +7,10 @@ use Rattle.tame_cache.specs.Kept.{Disk}
 use Rattle.tame_cache.proofs.KeptLemmas.{one_file}
 use Rattle.tame_sparse.specs.Named.{NamesKept}
 use Rattle.tame_sparse.specs.declared.network.Exchange.{Exchange}
-use Rattle.audit_core.specs.Answers.{IsAnswer}
+use Rattle.audit_core.specs.Answers.{IsAnswer, IsNotModified}
 use Rattle.audit_core.specs.Audits.{AreTurned}
 use Rattle.audit_core.specs.Paths.{distinct_after, is_among}
 use Rattle.audit_core.specs.Turns.{LeavesFile, Turned, index_file}
-use Rattle.audit_core.specs.Verdicts.{IsNotModified}
 use Rattle.audit_core.specs.declared.asking.Heard.{Heard}
 use Rattle.audit_core.proofs.Lists.{bytes_same, cons_head, cons_tail, or_left, or_right, same_bytes}
 use Rattle.audit_core.proofs.Table.{or_cases}
@@ -19,7 +18,7 @@ use Rattle.audit_core.proofs.TakenLemmas.{answer_moved}
 
 -- ---- distinct paths
 
-abbrev Distinct : List (List ℕ) → Type 0
+abbrev pub Distinct : List (List ℕ) → Type 0
 Distinct [] = Unit {0}
 Distinct (p ∷ ps) = (is_among p ps ≡ false) × Distinct ps
 
@@ -92,8 +91,11 @@ all_apart (x ∷ ps) (e ∷ es) placed is distinct =
     let tail = cons_tail e.path x (map (λ (e : Exchange). e.path) es) ps is in
     (avoids_others e.path ps es placed.0 placed.1 tail (ap (λ (q : List ℕ). is_among q ps) head ∙ distinct.0), all_apart ps es placed.1 tail distinct.1)
 
-pub asked_apart : (told : Type 0) (old new : Disk) (es : List Exchange) (hs : List Heard) (qs : List (List ℕ)) → Turned told old es hs new → map (λ (e : Exchange). e.path) es ≡ distinct_after [] qs → Apart es
-asked_apart told old new es hs qs x is = all_apart (distinct_after [] qs) es (turned_placed told old new es hs x) is (apart [] qs).distinct
+pub asked_distinct : (qs : List (List ℕ)) → Distinct (distinct_after [] qs)
+asked_distinct qs = (apart [] qs).distinct
+
+pub asked_apart : (told : Type 0) (old new : Disk) (es : List Exchange) (hs : List Heard) (ps : List (List ℕ)) → Turned told old es hs new → map (λ (e : Exchange). e.path) es ≡ ps → Distinct ps → Apart es
+asked_apart told old new es hs ps x is distinct = all_apart ps es (turned_placed told old new es hs x) is distinct
 
 -- no file of another path changes
 pub avoids_asked : (q : List ℕ) (ps : List (List ℕ)) (es : List Exchange) → map (λ (e : Exchange). e.path) es ≡ ps → ((p : List ℕ) → IsTrue (is_among p ps) → q ≢ index_file p) → Avoids q es

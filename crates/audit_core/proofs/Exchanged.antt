@@ -13,9 +13,8 @@ use Rattle.tame_sparse.specs.Honest.{AreHonest, IsHonest, IsHonestAnswer, IsMapp
 use Rattle.tame_sparse.specs.declared.network.Exchange.{Exchange}
 use Rattle.tame_sparse.specs.declared.network.Held.{Held}
 use Rattle.tame_sparse.specs.declared.network.WireAnswer.{WireAnswer}
-use Rattle.audit_core.specs.Answers.{IsAnswer}
+use Rattle.audit_core.specs.Answers.{IsAnswer, IsNotModified}
 use Rattle.audit_core.specs.Turns.{AddsPart, IsExchanged, KeepsHonest, LeavesFile, index_file}
-use Rattle.audit_core.specs.Verdicts.{IsNotModified}
 use Rattle.audit_core.specs.declared.answers.PathAnswer.{PathAnswer}
 use Rattle.audit_core.specs.declared.answers.PathAnswer.TheVariants.{Settled}
 use Rattle.audit_core.specs.declared.verdicts.Cause.TheVariants as cause

@@ -3,6 +3,7 @@ pub mod Exchanged
 pub mod HistoryLemmas
 pub mod Lists
 pub mod Names
+pub mod PlanLemmas
 pub mod Sound
 pub mod Steps
 pub mod Table

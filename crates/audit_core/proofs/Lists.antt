@@ -1,12 +1,9 @@
 -- Facts on lists, places and answers.
-use Rattle.std.proofs.Common.{◌≡◌, ℕ, suc, ◌+◌, ◌<◌, List, [], ◌∷◌, ◌++◌, length, drop, get_or, map, Bool, true, false, cond, Option, Some, None, option_map, Result, Ok, Err, Bor, refl, sym, ap, ◌∙◌, arith, rules, drop-cons, append_assoc}
+use Rattle.std.proofs.Common.{◌≡◌, ℕ, suc, ◌+◌, ◌<◌, List, [], ◌∷◌, ◌++◌, length, drop, get_or, map, Bool, true, false, cond, Option, Some, None, option_map, Result, Ok, Err, refl, sym, ap, ◌∙◌, arith, rules, drop-cons}
 use Rattle.std.specs.Prelude.{option_and_then, is_some, slice_get, bytes_eq, OnOk, OnErr, IfOk, find, ◌||◌}
-use Rattle.std.specs.Option.{option_or, option_copied}
-use Rattle.std.specs.Slice.{IsItemAt}
+use Rattle.std.specs.Option.{option_or}
 use Rattle.std.specs.List.{position_from, list_any}
-use Rattle.std.proofs.lemmas.Option.{slice_get_past, slice_get_read}
 use Rattle.std.proofs.lemmas.Slice.Eq.{bytes_eq-Decides}
-use Rattle.tame_entry.proofs.Ahead.{before}
 
 pub on_err : {T E : Type 0} (r : Result T E) {P : Type 0} → P → OnErr r P
 on_err (Ok x) p = tt
@@ -25,10 +22,6 @@ bytes_same xs = search (rules, bytes_eq-Decides)
 -- the item at a place stands in front of what is left behind it
 pub drop_at : {A : Type 0} (xs : List A) (i : ℕ) (x : A) → i < length xs → x ≡ get_or xs i x → drop i xs ≡ x ∷ drop (suc i) xs
 drop_at xs i x low is = drop-cons xs i x low ∙ ap (λ y. y ∷ drop (suc i) xs) (sym is)
-
-pub item_at : {A : Type 0} (xs : List A) (i : ℕ) (r : Option (Bor A)) → IsItemAt xs i r → option_copied r ≡ slice_get xs i
-item_at xs i None h = sym (slice_get_past xs i h.3)
-item_at xs i (Some x) h = sym (slice_get_read xs (length xs) i x.now refl h.3.0 h.1)
 
 pub none_of : {A : Type 0} (o : Option A) → is_some o ≡ false → o ≡ None
 none_of None h = refl
@@ -99,11 +92,6 @@ if_ok (Err e) f p = tt
 pub on_if_ok : {T E : Type 0} (r : Result T E) {P : T → Type 0} {Q : Type 0} → ((x : T) → P x → Q) → IfOk r P → OnOk r Q
 on_if_ok (Ok x) f p = f x p
 on_if_ok (Err e) f p = tt
-
--- one more in front of what is left is one more behind what was read
-pub before_more : {A : Type 0} (xs : List A) (x : A) (o : Option (List A)) → before xs (option_map (λ ys. x ∷ ys) o) ≡ before (xs ++ x ∷ []) o
-before_more xs x None = refl
-before_more xs x (Some ys) = ap Some (sym (append_assoc xs (x ∷ []) ys))
 
 pub or_left : (a b : Bool) → a ≡ true → (a || b) ≡ true
 or_left a b h = rw h refl

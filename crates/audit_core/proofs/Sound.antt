@@ -17,22 +17,20 @@ use Rattle.tame_cache.specs.Disk.{File, reads}
 use Rattle.tame_cache.specs.Kept.{Disk, IsGood, IsGoodRead, IsGoodUnder, IsKept}
 use Rattle.tame_cache.proofs.KeptLemmas.{kept_after}
 use Rattle.tame_cache.proofs.Moments.{reads_left}
-use Rattle.tame_sparse.specs.Honest.{AreHonest, IsHonestAnswer, IsMapped, SaysAbsent}
+use Rattle.tame_sparse.specs.Honest.{AreHonest, IsHonestAnswer, IsMapped}
 use Rattle.tame_sparse.specs.Named.{named, named_file, named_http, named_read}
 use Rattle.tame_sparse.specs.declared.network.Exchange.{Exchange}
 use Rattle.tame_sparse.specs.declared.network.Held.{Held}
 use Rattle.tame_sparse.specs.declared.network.WireAnswer.{WireAnswer}
 use Rattle.tame_sparse.proofs.TrimLemmas.{honest_named}
-use Rattle.audit_core.specs.Answers.{IsAnswer, body_answer, file_answer, read_answer, verdict_by}
+use Rattle.audit_core.specs.Answers.{IsAnswer, IsHeldAnswer, answer_of, body_answer, file_answer, held_answer, kept_held, read_answer, sent_held}
 use Rattle.audit_core.specs.Turns.{AreCaused, Turned, index_file}
-use Rattle.audit_core.specs.Verdicts.{IsAnswerVerdict, IsVerdict, body_verdict, lines_verdict}
 use Rattle.audit_core.specs.declared.answers.PathAnswer.{PathAnswer}
 use Rattle.audit_core.specs.declared.answers.PathAnswer.TheVariants.{Settled, Lines}
 use Rattle.audit_core.specs.declared.asking.Heard.{Heard}
 use Rattle.audit_core.specs.declared.verdicts.Cause.TheVariants as cause
-use Rattle.audit_core.specs.declared.verdicts.Verdict.TheVariants.{Unchecked}
 use Rattle.audit_core.proofs.Apart.{Paired}
-use Rattle.audit_core.proofs.TakenLemmas.{choose_absent, choose_other, choose_same, choose_sent}
+use Rattle.audit_core.proofs.TakenLemmas.{Kind, IsAbsent, IsOther, IsSame, IsSent, choose_absent, choose_other, choose_same, choose_sent, kind_of}
 
 -- ---- a kept file that was confirmed has the lines that the server held
 
@@ -79,49 +77,36 @@ confirmed m p file n h None good names mapped is = absurd is
 confirmed m p file n h (Some r) good (inl none) mapped is = cc
 confirmed m p file n h (Some r) good (inr same) mapped is = file_lines m p h.body file r good (sym same ∙ is) mapped.1
 
-kept_lines : (m : ServerMap) (p version : List ℕ) (file : File) (n : Option OwnedRevision) (a : PathAnswer) (o : Option Held) → IsGood m p file → (n ≡ None) ⊎ (n ≡ named_file file)
-    → IfSome o (IsMapped m p) → IsSomeAnd o (λ h. IsSomeAnd h.revision (λ r. n ≡ Some r)) → a ≡ file_answer file → IsSomeAnd o (λ h. verdict_by a version ≡ lines_verdict h.body version)
-kept_lines m p version file n a None good names mapped is same = absurd is
-kept_lines m p version file n a (Some h) good names mapped is same = ap (λ x. verdict_by x version) (same ∙ confirmed m p file n h h.revision good names mapped is)
+kept_same : (m : ServerMap) (p : List ℕ) (file : File) (n : Option OwnedRevision) (o : Option Held) → IsGood m p file → (n ≡ None) ⊎ (n ≡ named_file file)
+    → IfSome o (IsMapped m p) → IsSomeAnd o (λ h. IsSomeAnd h.revision (λ r. n ≡ Some r)) → file_answer file ≡ kept_held o
+kept_same m p file n None good names mapped is = absurd is
+kept_same m p file n (Some h) good names mapped is = confirmed m p file n h h.revision good names mapped is
 
 -- ---- one answer
 
-body_same : (b : Bool) (body version : List ℕ) → verdict_by (cond b (Lines (heads_of (lines body))) (Settled cause.JsonLines)) version ≡ cond b (lines_verdict body version) (Unchecked cause.JsonLines)
-body_same true body version = refl
-body_same false body version = refl
+sent_same : (w : WireAnswer) (o : Option Held) → IsSomeAnd o (λ h. (w.revision ≡ h.revision) × (w.body ≡ h.body)) → body_answer w.body ≡ sent_held o
+sent_same w None is = absurd is
+sent_same w (Some h) is = ap body_answer is.1
 
-sent_held : (version : List ℕ) (w : WireAnswer) (a : PathAnswer) (o : Option Held) → a ≡ body_answer w.body → IsSomeAnd o (λ h. (w.revision ≡ h.revision) × (w.body ≡ h.body)) → IsSomeAnd o (λ h. verdict_by a version ≡ body_verdict h.body version)
-sent_held version w a None same is = absurd is
-sent_held version w a (Some h) same is = ap (λ x. verdict_by x version) same ∙ body_same (valid w.body) w.body version ∙ ap (λ (b : List ℕ). body_verdict b version) is.1
-
-absent_304 : (s : ℕ) → s ≡ 304 → SaysAbsent s → ⊥
-absent_304 s is (inl x) = omega (arith, is, x)
-absent_304 s is (inr (inl x)) = omega (arith, is, x)
-absent_304 s is (inr (inr x)) = omega (arith, is, x)
-
-answer_sound : (m : ServerMap) (p version : List ℕ) (file : File) (n : Option OwnedRevision) (held : Option Held) (came : Option WireAnswer) (a : PathAnswer) (asked after : ℕ)
+answer_sound : (m : ServerMap) (p : List ℕ) (file : File) (n : Option OwnedRevision) (held : Option Held) (came : Option WireAnswer) (a : PathAnswer) (asked after : ℕ)
     → IsGood m p file → (n ≡ None) ⊎ (n ≡ named_file file) → IfSome held (IsMapped m p) → IfSome came (IsHonestAnswer n held) → IsAnswer file came a → (a ≡ Settled cause.Store → Rose asked after)
-    → MatchOption came (verdict_by a version ≡ Unchecked cause.Wire) (λ w. IsAnswerVerdict held asked after w.status version (verdict_by a version))
-answer_sound m p version file n held None a asked after good names mapped honest (inl is) rose = ap (λ x. verdict_by x version) is
-answer_sound m p version file n held None a asked after good names mapped honest (inr store) rose = absurd store.0
-answer_sound m p version file n held (Some w) a asked after good names mapped honest (inl is) rose = record {
-  absent = λ s. ap (λ x. verdict_by x version) (is ∙ choose_absent w.status _ _ _ _ s);
-  sent = λ s. sent_held version w a held (is ∙ choose_sent w.status _ _ _ _ s) (honest.sent s);
-  not_modified = λ s. inr (kept_lines m p version file n a held good names mapped (honest.not_modified s) (is ∙ choose_same w.status _ _ _ _ s));
-  other = λ x y z. ap (λ x. verdict_by x version) (is ∙ choose_other w.status _ _ _ _ x y z);
-}
-answer_sound m p version file n held (Some w) a asked after good names mapped honest (inr store) rose = record {
-  absent = λ s. absurd (absent_304 w.status store.0 s);
-  sent = λ s. absurd (omega (arith, s, store.0));
-  not_modified = λ s. inl (rose store.1, ap (λ x. verdict_by x version) store.1);
-  other = λ x y z. absurd (z store.0);
-}
+    → IsHeldAnswer held came asked after a
+answer_sound m p file n held None a asked after good names mapped honest (inl is) rose = inl is
+answer_sound m p file n held None a asked after good names mapped honest (inr store) rose = absurd store.0
+answer_sound m p file n held (Some w) a asked after good names mapped honest (inl is) rose = inl (is ∙ go (kind_of w.status))
+  where
+    go : Kind w.status → answer_of (file_answer file) (Some w) ≡ held_answer held (Some w)
+    go (IsAbsent absent) = choose_absent w.status _ _ _ _ absent ∙ sym (choose_absent w.status _ _ _ _ absent)
+    go (IsSent sent) = choose_sent w.status _ _ _ _ sent ∙ sent_same w held (honest.sent sent) ∙ sym (choose_sent w.status _ _ _ _ sent)
+    go (IsSame same) = choose_same w.status _ _ _ _ same ∙ kept_same m p file n held good names mapped (honest.not_modified same) ∙ sym (choose_same w.status _ _ _ _ same)
+    go (IsOther present sent modified) = choose_other w.status _ _ _ _ present sent modified ∙ sym (choose_other w.status _ _ _ _ present sent modified)
+answer_sound m p file n held (Some w) a asked after good names mapped honest (inr store) rose = inr (store.0, rose store.1, store.1)
 
 -- ---- all of them
 
 pub record IsSound (e : Exchange) (h : Heard) : Type 0 where
   pub path : e.path ≡ h.turn.path
-  pub verdict : (version : List ℕ) → IsVerdict e h.turn version (verdict_by h.answer version)
+  pub answer : IsHeldAnswer e.held e.answer h.turn.disk_asked h.turn.disk_after h.answer
 
 pub turned_sound : (told : Type 0) (t : told) (m : ServerMap) (old new : Disk) (es : List Exchange) (hs : List Heard) → Turned told old es hs new → AreHonest m es → AreCaused hs → IsKept m [] old → Paired IsSound es hs
 turned_sound told t m old new [] [] x honest caused kept = tt
@@ -133,7 +118,7 @@ turned_sound told t m old new (e ∷ es) (h ∷ hs) x honest caused kept =
     let good : IsGood m e.path (reads (old f)) = (kept e.path turn.place).all_good (reads (old f)) (reads_left (old f)) in (
       record {
         path = turn.path;
-        verdict = λ version. answer_sound m e.path version (reads (old f)) e.named e.held e.answer h.answer h.turn.disk_asked h.turn.disk_after
+        answer = answer_sound m e.path (reads (old f)) e.named e.held e.answer h.answer h.turn.disk_asked h.turn.disk_after
             good (turn.named t).else_nothing honest.0.mapped honest.0.answered (turn.exchanged.answer (λ n. t)) caused.0.store;
       },
       turned_sound told t m x.0 new es hs x.2 honest.1 caused.1 (kept_after m [] old x.0 (turn.exchanged.keeps t m honest.0 kept)),

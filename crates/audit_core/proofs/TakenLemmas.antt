@@ -25,10 +25,9 @@ use Rattle.tame_sparse.specs.Answered.{AreSentLines, IsBodyTaken, IsHeldBody, Is
 use Rattle.tame_sparse.specs.Honest.{SaysAbsent}
 use Rattle.tame_sparse.specs.declared.network.WireAnswer.{WireAnswer}
 use Rattle.tame_sparse.specs.declared.responses.Response.{Response}
-use Rattle.audit_core.specs.Answers.{IsAnswer, answer_of, body_answer, entry_answer, file_answer, items_answer, read_answer}
+use Rattle.audit_core.specs.Answers.{IsAnswer, IsNotModified, answer_of, body_answer, entry_answer, file_answer, items_answer, read_answer, status_says_absent}
 use Rattle.audit_core.specs.Taken.{IsAnswerTaken}
 use Rattle.audit_core.specs.Turns.{LeavesFile}
-use Rattle.audit_core.specs.Verdicts.{IsNotModified, status_says_absent}
 use Rattle.audit_core.specs.declared.answers.PathAnswer.{PathAnswer}
 use Rattle.audit_core.specs.declared.answers.PathAnswer.TheVariants.{Settled, Lines}
 use Rattle.audit_core.specs.declared.verdicts.Cause.TheVariants as cause

@@ -1,46 +1,38 @@
 -- The audit by its parts.
-use Rattle.std.proofs.Common.{◌≡◌, ◌⊎◌, inl, inr, ℕ, List, [], ◌∷◌, map, Bool, true, false, cond, Option, Some, None, Result, Ok, Err, refl, sym, ap, ◌∙◌, subst}
-use Rattle.std.specs.Prelude.{bytes_eq, find, ◌==◌}
-use Rattle.tame_names.specs.declared.errors.CacheError.{CacheError}
-use Rattle.tame_records.specs.Lines.{lines}
-use Rattle.tame_entry.specs.Entry.{ReadEntry, read_entry}
-use Rattle.tame_entry.specs.Lines.{valid}
-use Rattle.tame_entry.specs.Says.{heads_of, said_of}
+use Rattle.std.proofs.Common.{◌≡◌, ◌⊎◌, inl, inr, ℕ, List, [], ◌∷◌, map, Bool, true, false, cond, Option, Some, None, refl, sym, ap, ◌∙◌, subst}
+use Rattle.std.specs.Prelude.{bytes_eq, find}
+use Rattle.tame_entry.specs.Says.{said_of}
 use Rattle.tame_entry.specs.declared.said.Said.{Said}
 use Rattle.tame_entry.specs.declared.said.Said.TheVariants as says
 use Rattle.tame_cache.specs.Disk.{File, reads}
 use Rattle.tame_cache.specs.Kept.{Disk}
 use Rattle.tame_sparse.specs.Honest.{AreHonest}
 use Rattle.tame_sparse.specs.declared.network.Exchange.{Exchange}
-use Rattle.tame_sparse.specs.declared.network.WireAnswer.{WireAnswer}
 use Rattle.audit_lock.specs.declared.resolving.Package.{Package}
-use Rattle.audit_core.specs.Answers.{IsAnswer, answer_of, file_answer, read_answer, verdict_by}
+use Rattle.audit_core.specs.Answers.{IsNotModified}
 use Rattle.audit_core.specs.Audits.{AddsAudit, AreTurns, Caused, HeldDecides, IsCausedAt}
-use Rattle.audit_core.specs.Heard.{heard_judged}
-use Rattle.audit_core.specs.Paths.{asked_paths, default_paths, defaults}
+use Rattle.audit_core.specs.Heard.{IsHeardAt, heard_of}
 use Rattle.audit_core.specs.Turns.{Adds, AreCaused, Chains, IsCaused, index_file}
-use Rattle.audit_core.specs.Verdicts.{AreVerdicts, IsCameAt, IsCameVerdict, IsHeldAt, IsNotModified, answer_verdict, exchange_of, file_verdict, lines_verdict, read_verdict, status_says_absent, turn_of, verdict_said}
+use Rattle.audit_core.specs.Verdicts.{AreVerdicts, IsCameAt, IsCameVerdict, IsHeldAt, exchange_of, turn_of, verdict_by, verdict_said}
 use Rattle.audit_core.specs.declared.answers.PathAnswer.{PathAnswer}
 use Rattle.audit_core.specs.declared.answers.PathAnswer.TheVariants.{Settled, Lines}
 use Rattle.audit_core.specs.declared.asking.Heard.{Heard}
 use Rattle.audit_core.specs.declared.asking.Turn.{Turn}
 use Rattle.audit_core.specs.declared.verdicts.Cause.TheVariants as cause
 use Rattle.audit_core.specs.declared.verdicts.Judged.{Judged}
-use Rattle.audit_core.specs.declared.verdicts.Verdict.{Verdict}
 use Rattle.audit_core.specs.declared.verdicts.Verdict.TheVariants.{Unchecked}
-use Rattle.audit_core.proofs.Apart.{IsHeardOf, Paired, all_turned, asked_apart, avoids_asked, turned_heard, turned_others, turned_whole}
+use Rattle.audit_core.proofs.Apart.{Distinct, IsHeardOf, Paired, all_turned, asked_apart, avoids_asked, turned_heard, turned_others, turned_whole}
 use Rattle.audit_core.proofs.Exchanged.{cancel}
 use Rattle.audit_core.proofs.Lists.{same_bytes, somes}
 use Rattle.audit_core.proofs.Sound.{IsSound, turned_sound}
 use Rattle.audit_core.proofs.Steps.{turned_addressed, turned_paths}
-use Rattle.audit_core.proofs.Table.{all_heard, all_verdicts}
+use Rattle.audit_core.proofs.Table.{all_verdicts}
 
--- what was heard, by the plan's paths, and the verdicts by it
-pub record IsDone (packages : List Package) (hs : List Heard) (verdicts : List Judged) : Type 0 where
-  pub paths : List (List ℕ)
-  pub asked : paths ≡ asked_paths packages
+-- distinct paths, what was heard of them, and the verdicts by it
+pub record IsDone (paths : List (List ℕ)) (packages : List (ℕ × Package)) (hs : List Heard) (verdicts : List Judged) : Type 0 where
+  pub distinct : Distinct paths
   pub heard : map (λ h. h.turn.path) hs ≡ paths
-  pub judged : verdicts ≡ map (heard_judged paths hs) (defaults packages)
+  pub judged : AreVerdicts (IsHeardAt hs) packages verdicts
 
 -- ---- the exchange and the turn of a path
 
@@ -54,7 +46,7 @@ pair_case R true false q e x h o p at same r f is = cc
 pair_case R false true q e x h o p at same r f is = cc
 
 found_pair : (R : Exchange → Heard → Type 0) → ((e : Exchange) (h : Heard) → R e h → e.path ≡ h.turn.path) → (q : List ℕ) (es : List Exchange) (hs : List Heard) (h : Heard) → Paired R es hs
-    → find (λ h. bytes_eq h.turn.path q) hs ≡ Some h → (e : Exchange) × (exchange_of q es ≡ Some e) × (e.path ≡ q) × R e h
+    → heard_of q hs ≡ Some h → (e : Exchange) × (exchange_of q es ≡ Some e) × (e.path ≡ q) × R e h
 found_pair R at q [] [] h x is = cc
 found_pair R at q [] (y ∷ hs) h x is = absurd x
 found_pair R at q (e ∷ es) [] h x is = absurd x
@@ -65,7 +57,7 @@ turn_case : (b : Bool) (x h : Heard) (o : Option Heard) (t : Option Turn) → (o
 turn_case true x h o t f is = let same : x ≡ h = cc in ap (λ (k : Heard). Some k.turn) same
 turn_case false x h o t f is = f is
 
-turn_found : (q : List ℕ) (hs : List Heard) (h : Heard) → find (λ h. bytes_eq h.turn.path q) hs ≡ Some h → turn_of q (map (λ h. h.turn) hs) ≡ Some h.turn
+turn_found : (q : List ℕ) (hs : List Heard) (h : Heard) → heard_of q hs ≡ Some h → turn_of q (map (λ h. h.turn) hs) ≡ Some h.turn
 turn_found q [] h is = cc
 turn_found q (x ∷ hs) h is = turn_case (bytes_eq x.turn.path q) x h _ _ (turn_found q hs h) is
 
@@ -73,59 +65,31 @@ caused_case : (b : Bool) (x h : Heard) (o : Option Heard) → IsCaused x → (o 
 caused_case true x h o mine f is = let same : x ≡ h = cc in subst IsCaused same mine
 caused_case false x h o mine f is = f is
 
-caused_of : (q : List ℕ) (hs : List Heard) (h : Heard) → AreCaused hs → find (λ h. bytes_eq h.turn.path q) hs ≡ Some h → IsCaused h
+caused_of : (q : List ℕ) (hs : List Heard) (h : Heard) → AreCaused hs → heard_of q hs ≡ Some h → IsCaused h
 caused_of q [] h caused is = cc
 caused_of q (x ∷ hs) h caused is = caused_case (bytes_eq x.turn.path q) x h _ caused.0 (caused_of q hs h caused.1) is
 
 -- ---- over what the server held
 
-pub held_done : (told : Type 0) (t : told) (packages : List Package) (hs : List Heard) (verdicts : List Judged) (before now : List Exchange) (old new : Disk) → IsDone packages hs verdicts → AreCaused hs → Adds told before now old hs new
-    → HeldDecides packages before now old (map (λ h. h.turn) hs) verdicts
-held_done told t packages hs verdicts before now old new d caused x m added is honest kept =
+pub held_done : (told : Type 0) (t : told) (paths : List (List ℕ)) (packages : List (ℕ × Package)) (hs : List Heard) (verdicts : List Judged) (before now : List Exchange) (old new : Disk) → IsDone paths packages hs verdicts
+    → AreCaused hs → Adds told before now old hs new → HeldDecides packages before now old (map (λ h. h.turn) hs) verdicts
+held_done told t paths packages hs verdicts before now old new d caused x m added is honest kept =
     let same : added ≡ x.0 = cancel before added x.0 (sym is ∙ x.1) in
     let P : List Exchange → Type 0 = λ es. AreHonest m es in
     let sound = turned_sound told t m old new x.0 hs x.2 (subst P same honest) caused kept in
-    let Q : List Exchange → Type 0 = λ es. AreVerdicts (IsHeldAt es (map (λ h. h.turn) hs)) (defaults packages) verdicts in
-    subst Q (sym same) (rw d.judged (all_verdicts (IsHeldAt x.0 (map (λ (h : Heard). h.turn) hs)) d.paths hs d.heard (λ version. refl)
+    let Q : List Exchange → Type 0 = λ es. AreVerdicts (IsHeldAt es (map (λ h. h.turn) hs)) packages verdicts in
+    subst Q (sym same) (all_verdicts (IsHeldAt x.0 (map (λ (h : Heard). h.turn) hs)) hs (λ version. refl)
     (λ q version h found.
     let pair = found_pair IsSound (λ e h r. r.path) q x.0 hs h sound found in
-    rw (pair.1, turn_found q hs h found) (pair.3.verdict version))
-    0 packages (all_heard hs packages (d.heard ∙ d.asked))))
+    rw (pair.1, turn_found q hs h found) (h.answer, pair.3.answer, refl))
+    packages verdicts d.judged)
 
 -- ---- over what came
 
-read_same : (o : Result ReadEntry CacheError) (version : List ℕ) → verdict_by (read_answer o) version ≡ read_verdict o version
-read_same (Ok e) version = refl
-read_same (Err f) version = refl
-
-file_same : (file : File) (version : List ℕ) → verdict_by (file_answer file) version ≡ file_verdict file version
-file_same None version = refl
-file_same (Some bytes) version = read_same (read_entry bytes) version
-
-body_same : (b : Bool) (body version : List ℕ) → verdict_by (cond b (Lines (heads_of (lines body))) (Settled cause.JsonLines)) version ≡ cond b (lines_verdict body version) (Unchecked cause.JsonLines)
-body_same true body version = refl
-body_same false body version = refl
-
-chosen : (a b c : Bool) (x y z w : PathAnswer) (p q r s : Verdict) (version : List ℕ) → verdict_by x version ≡ p → verdict_by y version ≡ q → verdict_by z version ≡ r → verdict_by w version ≡ s
-    → verdict_by (cond a x (cond b y (cond c z w))) version ≡ cond a p (cond b q (cond c r s))
-chosen true b c x y z w p q r s version hx hy hz hw = hx
-chosen false true c x y z w p q r s version hx hy hz hw = hy
-chosen false false true x y z w p q r s version hx hy hz hw = hz
-chosen false false false x y z w p q r s version hx hy hz hw = hw
-
-answer_same : (file : File) (came : Option WireAnswer) (version : List ℕ) → verdict_by (answer_of (file_answer file) came) version ≡ answer_verdict file came version
-answer_same file None version = refl
-answer_same file (Some a) version =
-    chosen (status_says_absent a.status) (a.status == 200) (a.status == 304) _ _ _ _ _ _ _ _ version refl (body_same (valid a.body) a.body version) (file_same file version) refl
-
-came_by : (file : File) (came : Option WireAnswer) (a : PathAnswer) (version : List ℕ) → IsAnswer file came a → IsCameVerdict file came version (verdict_by a version)
-came_by file came a version (inl is) = inl (ap (λ x. verdict_by x version) is ∙ answer_same file came version)
-came_by file came a version (inr store) = inr (store.0, ap (λ x. verdict_by x version) store.1)
-
-pub audit_done : (told : Type 0) (packages : List Package) (hs : List Heard) (verdicts : List Judged) (before now : List Exchange) (old new : Disk) → IsDone packages hs verdicts → Adds told before now old hs new
-    → AddsAudit told old new packages before now (map (λ h. h.turn) hs) verdicts
-audit_done told packages hs verdicts before now old new d x =
-    let asked : map (λ (e : Exchange). e.path) x.0 ≡ asked_paths packages = somes (λ (e : Exchange). e.path) x.0 (asked_paths packages) (turned_paths told old new x.0 hs x.2 ∙ some_paths hs (asked_paths packages) (d.heard ∙ d.asked)) in (
+pub audit_done : (told : Type 0) (paths : List (List ℕ)) (packages : List (ℕ × Package)) (hs : List Heard) (verdicts : List Judged) (before now : List Exchange) (old new : Disk) → IsDone paths packages hs verdicts
+    → Adds told before now old hs new → AddsAudit told old new paths packages before now (map (λ h. h.turn) hs) verdicts
+audit_done told paths packages hs verdicts before now old new d x =
+    let asked : map (λ (e : Exchange). e.path) x.0 ≡ paths = somes (λ (e : Exchange). e.path) x.0 paths (turned_paths told old new x.0 hs x.2 ∙ some_paths hs paths d.heard) in (
       x.0,
       x.1,
       record {
@@ -133,15 +97,15 @@ audit_done told packages hs verdicts before now old new d x =
         addressed = turned_addressed told old new x.0 hs x.2;
         judged =
             let files : List ℕ → File = λ q. reads (old (index_file q)) in
-            let heard = turned_heard told old new x.0 hs x.2 (asked_apart told old new x.0 hs (default_paths packages) x.2 asked) in
-            rw d.judged (all_verdicts (IsCameAt told files x.0) d.paths hs d.heard (λ version. refl)
+            let heard = turned_heard told old new x.0 hs x.2 (asked_apart told old new x.0 hs paths x.2 asked d.distinct) in
+            all_verdicts (IsCameAt told files x.0) hs (λ version. refl)
             (λ q version h found.
             let pair = found_pair (IsHeardOf told old) (λ e h r. r.path) q x.0 hs h heard found in
-            let P : List ℕ → Type 0 = λ p. (IsNotModified pair.0.answer → told) → IsCameVerdict (reads (old (index_file p))) pair.0.answer version (verdict_by h.answer version) in
-            rw pair.1 (subst P pair.2 (λ n. came_by (reads (old (index_file pair.0.path))) pair.0.answer h.answer version (pair.3.answer n))))
-            0 packages (all_heard hs packages (d.heard ∙ d.asked)));
-        turned = λ t. all_turned old new x.0 hs (turned_whole told t old new x.0 hs x.2 (asked_apart told old new x.0 hs (default_paths packages) x.2 asked));
-        others = λ t q other. turned_others told t old new q x.0 hs x.2 (avoids_asked q (asked_paths packages) x.0 asked other);
+            let P : List ℕ → Type 0 = λ p. (IsNotModified pair.0.answer → told) → IsCameVerdict pair.0 (reads (old (index_file p))) version (verdict_by h.answer version) in
+            rw pair.1 (subst P pair.2 (λ n. (h.answer, pair.3.answer n, refl))))
+            packages verdicts d.judged;
+        turned = λ t. all_turned old new x.0 hs (turned_whole told t old new x.0 hs x.2 (asked_apart told old new x.0 hs paths x.2 asked d.distinct));
+        others = λ t q other. turned_others told t old new q x.0 hs x.2 (avoids_asked q paths x.0 asked other);
       },
     )
   where
@@ -158,9 +122,9 @@ turn_paths : (hs : List Heard) → map (λ t. t.path) (map (λ h. h.turn) hs) �
 turn_paths [] = refl
 turn_paths (h ∷ hs) = ap (λ qs. h.turn.path ∷ qs) (turn_paths hs)
 
-pub turns_done : (packages : List Package) (hs : List Heard) (verdicts : List Judged) (wire disk last_wire last_disk : ℕ) → IsDone packages hs verdicts → Chains wire disk (map (λ h. h.turn) hs) last_wire last_disk
-    → AreTurns packages wire disk last_wire last_disk (map (λ h. h.turn) hs)
-turns_done packages hs verdicts wire disk last_wire last_disk d counts = record { paths = turn_paths hs ∙ d.heard ∙ d.asked; counts = counts }
+pub turns_done : (paths : List (List ℕ)) (packages : List (ℕ × Package)) (hs : List Heard) (verdicts : List Judged) (wire disk last_wire last_disk : ℕ) → IsDone paths packages hs verdicts
+    → Chains wire disk (map (λ h. h.turn) hs) last_wire last_disk → AreTurns paths wire disk last_wire last_disk (map (λ h. h.turn) hs)
+turns_done paths packages hs verdicts wire disk last_wire last_disk d counts = record { paths = turn_paths hs ∙ d.heard; counts = counts }
 
 never_settled : (s : Said) (c : cause.the_data) → verdict_said s ≡ Unchecked c → (c ≡ cause.Wire) ⊎ (c ≡ cause.Store) → ⊥
 never_settled says.Unread c h (inl is) = cc
@@ -174,9 +138,9 @@ settled_by : (a : PathAnswer) (version : List ℕ) (c : cause.the_data) → (c �
 settled_by (Settled d) version c is h = cc
 settled_by (Lines heads) version c is h = absurd (never_settled (said_of heads version) c h is)
 
-pub caused_done : (packages : List Package) (hs : List Heard) (verdicts : List Judged) → IsDone packages hs verdicts → AreCaused hs → Caused packages (map (λ h. h.turn) hs) verdicts
-caused_done packages hs verdicts d caused =
-    rw d.judged (all_verdicts (IsCausedAt (map (λ (h : Heard). h.turn) hs)) d.paths hs d.heard (λ version. refl)
+pub caused_done : (paths : List (List ℕ)) (packages : List (ℕ × Package)) (hs : List Heard) (verdicts : List Judged) → IsDone paths packages hs verdicts → AreCaused hs → Caused packages (map (λ h. h.turn) hs) verdicts
+caused_done paths packages hs verdicts d caused =
+    all_verdicts (IsCausedAt (map (λ (h : Heard). h.turn) hs)) hs (λ version. refl)
     (λ q version h found.
     let mine = caused_of q hs h caused found in
     let turn = turn_found q hs h found in
@@ -184,4 +148,4 @@ caused_done packages hs verdicts d caused =
       wire = λ v. rw turn (mine.wire (settled_by h.answer version cause.Wire (inl refl) v));
       store = λ v. rw turn (mine.store (settled_by h.answer version cause.Store (inr refl) v));
     })
-    0 packages (all_heard hs packages (d.heard ∙ d.asked)))
+    packages verdicts d.judged

@@ -1,21 +1,40 @@
 -- What came for a path says of every version of its crate: the table of verdicts, read once for a path.
-use Rattle.std.specs.Prelude.{◌≡◌, ◌⊎◌, ℕ, List, map, ◌==◌, Option, Some, None, Result, Ok, Err, if◌then◌else◌}
+use Rattle.std.specs.Prelude.{◌≡◌, ◌⊎◌, ℕ, List, map, Bool, ◌==◌, ◌||◌, Option, Some, None, Result, Ok, Err, if◌then◌else◌}
+use Rattle.tame_names.specs.Counts.{Rose}
 use Rattle.tame_names.specs.declared.errors.CacheError.{CacheError}
 use Rattle.tame_records.specs.Lines.{lines}
 use Rattle.tame_entry.specs.Entry.{ReadEntry, lines_in, read_entry}
 use Rattle.tame_entry.specs.Krates.{Item, iterated}
 use Rattle.tame_entry.specs.Lines.{valid}
-use Rattle.tame_entry.specs.Says.{heads_of, said_of}
+use Rattle.tame_entry.specs.Says.{heads_of}
 use Rattle.tame_entry.specs.declared.index_entries.IndexEntry.{IndexEntry}
 use Rattle.tame_cache.specs.Disk.{File}
+use Rattle.tame_sparse.specs.declared.network.Held.{Held}
 use Rattle.tame_sparse.specs.declared.network.WireAnswer.{WireAnswer}
-use Rattle.audit_core.specs.Verdicts.{IsNotModified, status_says_absent, verdict_said}
 use Rattle.audit_core.specs.declared.answers.PathAnswer.{PathAnswer}
 use Rattle.audit_core.specs.declared.answers.PathAnswer.TheVariants.{Settled, Lines}
 use Rattle.audit_core.specs.declared.verdicts.Cause.TheVariants as cause
-use Rattle.audit_core.specs.declared.verdicts.Verdict.{Verdict}
-use Rattle.audit_core.specs.declared.verdicts.Verdict.TheVariants.{Unchecked}
 
+-- ---- the table
+
+abbrev pub status_says_absent : ℕ → Bool
+status_says_absent status = status == 404 || status == 410 || status == 451
+
+-- by the status of what came: absent, what the body that was sent says, what the body that is kept says, or the status itself
+abbrev pub by_status : ℕ → PathAnswer → PathAnswer → PathAnswer
+by_status status sent kept =
+    if status_says_absent status then Settled cause.Absent
+    else if status == 200 then sent
+    else if status == 304 then kept
+    else Settled (cause.Status status)
+
+abbrev pub IsNotModified : Option WireAnswer → Type 0
+IsNotModified None = ⊥
+IsNotModified (Some a) = a.status ≡ 304
+
+-- ---- what bodies and files say
+
+-- by the lines of a body that is valid
 abbrev pub body_answer : List ℕ → PathAnswer
 body_answer body = if valid body then Lines (heads_of (lines body)) else Settled cause.JsonLines
 
@@ -29,22 +48,36 @@ abbrev pub file_answer : File → PathAnswer
 file_answer None = Settled cause.Absent
 file_answer (Some bytes) = read_answer (read_entry bytes)
 
--- by what came; at not-modified by what is kept
+-- ---- the table over what came
+
+-- at not-modified by what is kept
 abbrev pub answer_of : PathAnswer → Option WireAnswer → PathAnswer
 answer_of kept None = Settled cause.Wire
-answer_of kept (Some a) =
-    if status_says_absent a.status then Settled cause.Absent
-    else if a.status == 200 then body_answer a.body
-    else if a.status == 304 then kept
-    else Settled (cause.Status a.status)
+answer_of kept (Some a) = by_status a.status (body_answer a.body) kept
 
--- the answer of a path over the file of the cache; at not-modified it may be that this couldn't be read
+-- over the file of the cache; at not-modified it may be that this couldn't be read
 abbrev pub IsAnswer : File → Option WireAnswer → PathAnswer → Type 0
 IsAnswer file came a = (a ≡ answer_of (file_answer file) came) ⊎ (IsNotModified came × (a ≡ Settled cause.Store))
 
-abbrev pub verdict_by : PathAnswer → List ℕ → Verdict
-verdict_by (Settled c) version = Unchecked c
-verdict_by (Lines heads) version = verdict_said (said_of heads version)
+-- ---- the table over what the server held
+
+-- a held body where it is sent; where nothing is held the crate is absent
+abbrev pub sent_held : Option Held → PathAnswer
+sent_held None = Settled cause.Absent
+sent_held (Some h) = body_answer h.body
+
+-- a held body where it is confirmed
+abbrev pub kept_held : Option Held → PathAnswer
+kept_held None = Settled cause.Absent
+kept_held (Some h) = Lines (heads_of (lines h.body))
+
+abbrev pub held_answer : Option Held → Option WireAnswer → PathAnswer
+held_answer held None = Settled cause.Wire
+held_answer held (Some a) = by_status a.status (sent_held held) (kept_held held)
+
+-- at not-modified it may be that the kept entry couldn't be read, where the disk's count of faults rose
+abbrev pub IsHeldAnswer : Option Held → Option WireAnswer → ℕ → ℕ → PathAnswer → Type 0
+IsHeldAnswer held came asked after a = (a ≡ held_answer held came) ⊎ (IsNotModified came × Rose asked after × (a ≡ Settled cause.Store))
 
 -- ---- by the lines of an index entry
 

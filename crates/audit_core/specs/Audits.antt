@@ -9,7 +9,7 @@ use Rattle.tame_sparse.specs.Honest.{AreHonest}
 use Rattle.tame_sparse.specs.Named.{NamesKept}
 use Rattle.tame_sparse.specs.declared.network.Exchange.{Exchange}
 use Rattle.audit_lock.specs.declared.resolving.Package.{Package}
-use Rattle.audit_core.specs.Paths.{asked_paths, defaults, is_among}
+use Rattle.audit_core.specs.Paths.{is_among}
 use Rattle.audit_core.specs.Turns.{AreAddressed, Chains, LeavesFile, index_file}
 use Rattle.audit_core.specs.Verdicts.{AreVerdicts, IsCameAt, IsHeldAt, turn_of}
 use Rattle.audit_core.specs.declared.asking.Turn.{Turn}
@@ -31,36 +31,36 @@ AreTurned old new [] [] = Unit {0}
 AreTurned old new (e ∷ es) (t ∷ ts) = IsTurned old new e t × AreTurned old new es ts
 AreTurned old new _ _ = ⊥
 
--- ---- the audit
+-- ---- the audit, by the paths that it asks for and the packages that it judges, each with its place in the lockfile
 
 -- a file that is that of no path that is asked for stays as it was
-abbrev pub KeepsOthers : List Package → Disk → Disk → Type 0
-KeepsOthers packages old new = (q : List ℕ) → ((p : List ℕ) → IsTrue (is_among p (asked_paths packages)) → q ≢ index_file p) → new q ≡ old q
+abbrev pub KeepsOthers : List (List ℕ) → Disk → Disk → Type 0
+KeepsOthers paths old new = (q : List ℕ) → ((p : List ℕ) → IsTrue (is_among p paths) → q ≢ index_file p) → new q ≡ old q
 
 -- no folders are made but those above the files of paths that are asked for
-abbrev pub MakesAskedFolders : List Package → List (List ℕ) → List (List ℕ) → Type 0
-MakesAskedFolders packages before now = MakesOnly (λ q. (p : List ℕ) × IsTrue (is_among p (asked_paths packages)) × (q ≡ index_file p)) before now
+abbrev pub MakesAskedFolders : List (List ℕ) → List (List ℕ) → List (List ℕ) → Type 0
+MakesAskedFolders paths before now = MakesOnly (λ q. (p : List ℕ) × IsTrue (is_among p paths) × (q ≡ index_file p)) before now
 
--- one exchange with the index for each path that is asked for, in their order; and a verdict for each package of the default registry, by the table over what came
-pub record IsAudit (told : Type 0) (old new : Disk) (packages : List Package) (added : List Exchange) (turns : List Turn) (verdicts : List Judged) : Type 0 where
-  pub asked : map (λ e. e.path) added ≡ asked_paths packages
+-- one exchange with the index for each path that is asked for, in their order; and a verdict for each package that is judged, by the table over what came
+pub record IsAudit (told : Type 0) (old new : Disk) (paths : List (List ℕ)) (packages : List (ℕ × Package)) (added : List Exchange) (turns : List Turn) (verdicts : List Judged) : Type 0 where
+  pub asked : map (λ e. e.path) added ≡ paths
   pub addressed : AreAddressed added
-  pub judged : AreVerdicts (IsCameAt told (λ q. reads (old (index_file q))) added) (defaults packages) verdicts
+  pub judged : AreVerdicts (IsCameAt told (λ q. reads (old (index_file q))) added) packages verdicts
   pub turned : told → AreTurned old new added turns
-  pub others : told → KeepsOthers packages old new
+  pub others : told → KeepsOthers paths old new
 
 -- exactly these exchanges follow the list
-abbrev pub AddsAudit : Type 0 → Disk → Disk → List Package → List Exchange → List Exchange → List Turn → List Judged → Type 0
-AddsAudit told old new packages before now turns verdicts = (added : List Exchange) × (now ≡ before ++ added) × IsAudit told old new packages added turns verdicts
+abbrev pub AddsAudit : Type 0 → Disk → Disk → List (List ℕ) → List (ℕ × Package) → List Exchange → List Exchange → List Turn → List Judged → Type 0
+AddsAudit told old new paths packages before now turns verdicts = (added : List Exchange) × (now ≡ before ++ added) × IsAudit told old new paths packages added turns verdicts
 
 -- over an honest server, and a disk that is kept for what it held, the verdicts are those of the table over what it held when asked
-abbrev pub HeldDecides : List Package → List Exchange → List Exchange → Disk → List Turn → List Judged → Type 0
+abbrev pub HeldDecides : List (ℕ × Package) → List Exchange → List Exchange → Disk → List Turn → List Judged → Type 0
 HeldDecides packages before now disk turns verdicts =
-    (m : ServerMap) (added : List Exchange) → now ≡ before ++ added → AreHonest m added → IsKept m [] disk → AreVerdicts (IsHeldAt added turns) (defaults packages) verdicts
+    (m : ServerMap) (added : List Exchange) → now ≡ before ++ added → AreHonest m added → IsKept m [] disk → AreVerdicts (IsHeldAt added turns) packages verdicts
 
 -- one turn for each path that is asked for, in their order; the counts go on from the first numbers to the last
-pub record AreTurns (packages : List Package) (wire disk last_wire last_disk : ℕ) (turns : List Turn) : Type 0 where
-  pub paths : map (λ t. t.path) turns ≡ asked_paths packages
+pub record AreTurns (asked : List (List ℕ)) (wire disk last_wire last_disk : ℕ) (turns : List Turn) : Type 0 where
+  pub paths : map (λ t. t.path) turns ≡ asked
   pub counts : Chains wire disk turns last_wire last_disk
 
 -- a package that is unchecked by the wire or the store has a turn in which that count rose
@@ -72,8 +72,8 @@ abbrev pub IsCausedAt : List Turn → List ℕ → Option (List ℕ) → Verdict
 IsCausedAt turns version None verdict = verdict ≡ Unchecked cause.Name
 IsCausedAt turns version (Some q) verdict = IsRoseFor turns q verdict
 
-abbrev pub Caused : List Package → List Turn → List Judged → Type 0
-Caused packages turns verdicts = AreVerdicts (IsCausedAt turns) (defaults packages) verdicts
+abbrev pub Caused : List (ℕ × Package) → List Turn → List Judged → Type 0
+Caused packages turns verdicts = AreVerdicts (IsCausedAt turns) packages verdicts
 
 -- ---- what an audit says, whole
 
@@ -84,13 +84,13 @@ pub record Moment : Type 0 where
   pub wire_faults : ℕ
   pub disk_faults : ℕ
 
--- what an audit of these packages says from its entry to its exit, where the wire and the disk tell it
-pub record AuditSays (wire_tells disk_tells : Type 0) (entry exit : Moment) (packages : List Package) (turns : List Turn) (verdicts : List Judged) : Type 0 where
+-- what an audit that asks for these paths and judges these packages says from its entry to its exit, where the wire and the disk tell it
+pub record AuditSays (wire_tells disk_tells : Type 0) (entry exit : Moment) (paths : List (List ℕ)) (packages : List (ℕ × Package)) (turns : List Turn) (verdicts : List Judged) : Type 0 where
   -- over an honest server, and a disk that is kept for what it held, each verdict is the table's over what the server held when asked
   pub headline : wire_tells → disk_tells → HeldDecides packages entry.exchanges exit.exchanges entry.files turns verdicts
   -- for every server and every disk: what was asked and named, the verdicts by the table over what came, and what is kept
-  pub audited : wire_tells → AddsAudit disk_tells entry.files exit.files packages entry.exchanges exit.exchanges turns verdicts
+  pub audited : wire_tells → AddsAudit disk_tells entry.files exit.files paths packages entry.exchanges exit.exchanges turns verdicts
   -- the counts of the turns go on from the entry to the exit
-  pub counted : AreTurns packages entry.wire_faults entry.disk_faults exit.wire_faults exit.disk_faults turns
+  pub counted : AreTurns paths entry.wire_faults entry.disk_faults exit.wire_faults exit.disk_faults turns
   -- one fault licenses one turn
   pub caused : Caused packages turns verdicts

@@ -12,9 +12,8 @@ use Rattle.tame_sparse.specs.Honest.{AreHonest, IsHonest}
 use Rattle.tame_sparse.specs.Named.{NamesKept}
 use Rattle.tame_sparse.specs.declared.network.Exchange.{Exchange}
 use Rattle.tame_sparse.specs.declared.network.WireAnswer.{WireAnswer}
-use Rattle.audit_core.specs.Answers.{IsAnswer}
+use Rattle.audit_core.specs.Answers.{IsAnswer, IsNotModified}
 use Rattle.audit_core.specs.Paths.{is_among}
-use Rattle.audit_core.specs.Verdicts.{IsNotModified}
 use Rattle.audit_core.specs.declared.answers.PathAnswer.{PathAnswer}
 use Rattle.audit_core.specs.declared.answers.PathAnswer.TheVariants.{Settled}
 use Rattle.audit_core.specs.declared.asking.Heard.{Heard}

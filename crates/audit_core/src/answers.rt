@@ -1,16 +1,16 @@
 //! What came for a path, as an answer for every version.
-ghost use Rattle.std.specs.Prelude.{◌≡◌, ◌≢◌, ℕ, List, map, IfOk, Ok, Err, Some, None};
-ghost use Rattle.tame_entry.specs.Says.{heads_of};
+ghost use Rattle.std.specs.Prelude.{◌≡◌, ◌≢◌, ℕ, List, IfOk, Ok, Err, Some, None};
 ghost use Rattle.tame_entry.specs.declared.index_entries.IndexEntry.{IndexEntry};
 ghost use Rattle.tame_names.specs.declared.errors.Error.{Error};
 ghost use Rattle.tame_names.specs.declared.errors.InvalidJsonLines.{InvalidJsonLines};
 ghost use Rattle.tame_sparse.specs.Answered.{status_fault};
-ghost use Rattle.audit_core.specs.Answers.{entry_answer, verdict_by};
+ghost use Rattle.audit_core.specs.Answers.{entry_answer};
 ghost use Rattle.audit_core.specs.Taken.{IsAnswerTaken};
+ghost use Rattle.audit_core.specs.Verdicts.{verdict_by};
 
 use crate::verdicts::{Cause, Verdict};
 use std::alloc::Global;
-use tame_entry::{IndexEntry, IndexEntryIter, Said, said_of};
+use tame_entry::{IndexEntry, Said, read_item_heads, said_of};
 use tame_names::{Error, HttpError, IoKind, Items, NoMemory};
 use tame_records::VersionHead;
 
@@ -23,30 +23,12 @@ pub enum PathAnswer {
     Lines(Option<Items<VersionHead>>),
 }
 
-/// Version and flag of each line; nothing where some line has no record.
-fn read_items(
-    alloc: Global,
-    items: IndexEntryIter<'_>,
-) -> Result<Option<Items<VersionHead>>, NoMemory>
-    ensures { IfOk result (λ heads. heads ≡ heads_of (map (λ i. i.1) items.entry)) }
-{
-    let mut heads = Items::new(alloc);
-    for item in items {
-        match item.deserialize(alloc) {
-            Ok(version) => heads.add(version.into_head())?,
-            Err(Error::NoMemory) => return Err(NoMemory),
-            Err(_) => return Ok(None),
-        }
-    }
-    Ok(Some(heads))
-}
-
 /// By the lines of an index entry; a file that is refused is as good as none.
 fn entry_answer(alloc: Global, entry: &IndexEntry<'_, '_>) -> Result<PathAnswer, NoMemory>
     ensures { IfOk result (λ a. a ≡ entry_answer entry.now) }
 {
     match entry.iter() {
-        Ok(items) => Ok(PathAnswer::Lines(read_items(alloc, items)?)),
+        Ok(items) => Ok(PathAnswer::Lines(read_item_heads(alloc, items)?)),
         Err(_) => Ok(PathAnswer::Settled(Cause::Absent)),
     }
 }

@@ -2,7 +2,7 @@
 ghost use Rattle.std.specs.Prelude.{◌≡◌, ◌≢◌, ◌≤◌, [], List, codes, map, IfOk, OnErr, Ok, Err};
 ghost use Rattle.audit_lock.specs.Locked.{locked};
 ghost use Rattle.audit_core.specs.Audits.{AuditSays, KeepsOthers, MakesAskedFolders};
-ghost use Rattle.audit_core.specs.Paths.{asked_paths};
+ghost use Rattle.audit_core.specs.Paths.{asked_paths, defaults};
 ghost use Rattle.audit_core.specs.Turns.{AddsPart, KeepsHonest};
 ghost use Rattle.audit_lock.specs.declared.lockfiles.LockfileFault.{LockfileFault};
 ghost use Rattle.audit_lock.specs.declared.resolving.Package.{Package};
@@ -86,16 +86,16 @@ fn check<W: Wire, D: CacheDisk>(
     ensures says { IfOk result (λ c. AuditSays W.tells D.tells
         (record { exchanges = W.exchanges wire.old; files = D.past disk.old; wire_faults = W.faults wire.old; disk_faults = D.faults disk.old })
         (record { exchanges = W.exchanges wire.new; files = D.past disk.new; wire_faults = W.faults wire.new; disk_faults = D.faults disk.new })
-        packages.now c.turns c.verdicts) }
+        (asked_paths packages.now) (defaults packages.now) c.turns c.verdicts) }
     ensures part { W.tells → OnErr result (AddsPart (asked_paths packages.now) (W.exchanges wire.old) (W.exchanges wire.new)) }
     ensures kept { W.tells → D.tells → KeepsHonest (W.exchanges wire.old) (W.exchanges wire.new) (D.past disk.old) (D.past disk.new) }
-    ensures others { D.tells → KeepsOthers packages.now (D.past disk.old) (D.past disk.new) }
-    ensures folders { D.tells → MakesAskedFolders packages.now (D.folders disk.old) (D.folders disk.new) }
+    ensures others { D.tells → KeepsOthers (asked_paths packages.now) (D.past disk.old) (D.past disk.new) }
+    ensures folders { D.tells → MakesAskedFolders (asked_paths packages.now) (D.folders disk.old) (D.folders disk.new) }
 {
     let index = crates_io(alloc)?;
     let plan = plan_turns(alloc, packages)?;
     let heard = ask(alloc, &index, lock, wire, disk, plan.names.as_slice())?;
-    let verdicts = judge(alloc, &plan, heard.as_slice(), packages)?;
+    let verdicts = judge(alloc, heard.as_slice(), plan.turns.as_slice(), packages)?;
     let turns = turns_of(alloc, heard)?;
     Ok(Checked { verdicts, turns })
 }
@@ -121,7 +121,7 @@ pub fn audit_text<W: Wire, D: CacheDisk>(
     ensures says { IfOk result (λ a. AuditSays W.tells D.tells
         (record { exchanges = W.exchanges wire.old; files = D.past disk.old; wire_faults = W.faults wire.old; disk_faults = D.faults disk.old })
         (record { exchanges = W.exchanges wire.new; files = D.past disk.new; wire_faults = W.faults wire.new; disk_faults = D.faults disk.new })
-        a.lockfile a.turns a.verdicts) }
+        (asked_paths a.lockfile) (defaults a.lockfile) a.turns a.verdicts) }
 
     // whatever the answer, a kept disk is kept at every moment where the exchanges were honest
     ensures kept { W.tells → D.tells → KeepsHonest (W.exchanges wire.old) (W.exchanges wire.new) (D.past disk.old) (D.past disk.new) }
@@ -131,8 +131,8 @@ pub fn audit_text<W: Wire, D: CacheDisk>(
         → OnErr result (AddsPart (asked_paths packages) (W.exchanges wire.old) (W.exchanges wire.new)) }
 
     // whatever the answer, no file changes that is that of no path that is asked for, and no folders are made but those above such files
-    ensures others { D.tells → (packages : List Package) → locked text.now ≡ Ok packages → KeepsOthers packages (D.past disk.old) (D.past disk.new) }
-    ensures folders { D.tells → (packages : List Package) → locked text.now ≡ Ok packages → MakesAskedFolders packages (D.folders disk.old) (D.folders disk.new) }
+    ensures others { D.tells → (packages : List Package) → locked text.now ≡ Ok packages → KeepsOthers (asked_paths packages) (D.past disk.old) (D.past disk.new) }
+    ensures folders { D.tells → (packages : List Package) → locked text.now ≡ Ok packages → MakesAskedFolders (asked_paths packages) (D.folders disk.old) (D.folders disk.new) }
     ensures exit { IfOk result (λ a. a.exit ≡ 0) }
 {
     let lockfile = match Lockfile::read(alloc, text) {

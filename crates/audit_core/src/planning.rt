@@ -1,26 +1,44 @@
-//! Which paths are asked for.
-ghost use Rattle.std.specs.Prelude.{◌≡◌, List, ℕ, [], IfOk, IfSome, OnOk};
-ghost use Rattle.std.specs.BTreeMap.{get_by_text};
+//! Which paths are asked for, and the turn of each package.
+ghost use Rattle.std.specs.Prelude.{◌≡◌, List, ℕ, [], ◌++◌, map, Some, IfOk, IfSome, OnOk};
 ghost use Rattle.tame_names.specs.Names.{path};
 ghost use Rattle.audit_core.specs.Paths.{asked_paths, default_path, is_default, place_in};
-ghost use Rattle.audit_core.specs.Plans.{AreNamed, IsPathOf};
+ghost use Rattle.audit_core.specs.Plans.{ArePlanned, IsPathOf};
 
 use audit_lock::{Package, is_default_registry};
 use std::alloc::Global;
 use std::collections::BTreeMap;
 use tame_names::{Items, KrateName, NoMemory, Text};
 
-/// The paths that are asked for, in their order, the name of the first package of each, and the
-/// place of each.
+/// The turn of a package.
+#[derive(Clone, Copy, Debug, PartialEq, Eq)]
+pub enum Planned {
+    /// None: the package isn't of the default registry.
+    Elsewhere,
+    /// None: the package's name isn't the name of a crate.
+    Nameless,
+    /// The turn at this place, from 0.
+    Turn(usize),
+}
+
+/// What is asked for a lockfile's packages.
 #[derive(Drop)]
 pub struct Plan {
+    /// For each path that is asked for, in their order, the name of its first package.
+    pub names: Items<Text>,
+    /// For each package its turn.
+    pub turns: Items<Planned>,
+}
+
+/// The paths so far in their order, the name of the first package of each, and the place of each.
+#[derive(Drop)]
+pub struct Places {
     pub names: Items<Text>,
     pub paths: Items<Text>,
-    pub places: BTreeMap<String, usize>,
+    pub map: BTreeMap<String, usize>,
 }
 
 /// Whether a package is of the default registry.
-pub fn is_default(locked: &Package) -> bool
+fn is_default(locked: &Package) -> bool
     ensures { result ≡ is_default locked.now }
 {
     match &locked.source {
@@ -30,7 +48,7 @@ pub fn is_default(locked: &Package) -> bool
 }
 
 /// The path of a name; nothing where the text is no name.
-pub fn path_of(alloc: Global, name: &str) -> Result<Option<Text>, NoMemory>
+fn path_of(alloc: Global, name: &str) -> Result<Option<Text>, NoMemory>
     ensures path { IfOk result (λ q. q ≡ path name.now) }
     ensures named { IfOk result (λ q. IfSome q (IsPathOf name.now)) }
 {
@@ -40,65 +58,68 @@ pub fn path_of(alloc: Global, name: &str) -> Result<Option<Text>, NoMemory>
     }
 }
 
-/// The path of a package of the default registry, where its name has one.
-fn default_path(alloc: Global, locked: &Package) -> Result<Option<Text>, NoMemory>
-    ensures path { IfOk result (λ q. q ≡ default_path locked.now) }
-    ensures named { IfOk result (λ q. IfSome q (IsPathOf locked.now.name)) }
-{
-    if is_default(locked) {
-        path_of(alloc, locked.name.as_str())
-    } else {
-        Ok(None)
-    }
-}
+impl Places {
+    ghost use Rattle.audit_core.specs.Plans.{AreAt, IsPathOf, IsPlanned, with_each, with_path};
 
-impl Plan {
-    ghost use Rattle.audit_core.specs.Plans.{AreNamed, IsPathOf, IsPlanned, with_path};
-
-    fn new(alloc: Global) -> Plan
+    fn new(alloc: Global) -> Places
         ensures empty { result.paths ≡ [] }
-        ensures planned { IsPlanned result }
-        ensures named { AreNamed result }
+        ensures places { AreAt result }
     {
-        Plan {
+        Places {
             names: Items::new(alloc),
             paths: Items::new(alloc),
-            places: BTreeMap::new(alloc),
+            map: BTreeMap::new(alloc),
         }
     }
 
-    /// Adds the path of a name at the end, unless it is there.
-    fn add(&mut self, alloc: Global, name: &str, path: Text) -> Result<(), NoMemory>
-        requires planned { IsPlanned self.old }
-        requires named { AreNamed self.old }
+    /// The place of the path of a name, which is added at the end unless it is there.
+    fn place(&mut self, alloc: Global, name: &str, path: Text) -> Result<usize, NoMemory>
+        requires places { AreAt self.old }
         requires path { IsPathOf name.now path }
-        ensures named { OnOk result (AreNamed self.new) }
-        ensures planned { OnOk result (IsPlanned self.new) }
+        ensures places { OnOk result (AreAt self.new) }
         ensures paths { OnOk result (self.new.paths ≡ with_path self.old.paths path) }
+        ensures place { IfOk result (λ i. place_in self.new.paths path ≡ Some i) }
     {
-        if self.places.contains_key(path.as_str()) {
-            return Ok(());
+        if let Some(place) = self.map.get(path.as_str()) {
+            return Ok(*place);
         }
         let place = self.paths.as_slice().len();
         let copy = Text::of(alloc, name)?;
-        self.places
+        self.map
             .insert(String::from_str(alloc, path.as_str())?, place)?;
         self.names.add(copy)?;
-        self.paths.add(path)
+        self.paths.add(path)?;
+        Ok(place)
+    }
+
+    /// The turn of a package, whose path is added where it is the first.
+    fn plan(&mut self, alloc: Global, locked: &Package) -> Result<Planned, NoMemory>
+        requires places { AreAt self.old }
+        ensures places { OnOk result (AreAt self.new) }
+        ensures paths { OnOk result (self.new.paths ≡ with_each self.old.paths (default_path locked.now)) }
+        ensures planned { IfOk result (IsPlanned self.new.paths locked.now) }
+    {
+        if !is_default(locked) {
+            return Ok(Planned::Elsewhere);
+        }
+        match path_of(alloc, locked.name.as_str())? {
+            None => Ok(Planned::Nameless),
+            Some(path) => Ok(Planned::Turn(self.place(alloc, locked.name.as_str(), path)?)),
+        }
     }
 }
 
-/// The paths that are asked for a lockfile's packages.
+/// What is asked for a lockfile's packages.
 pub fn plan_turns(alloc: Global, packages: &[Package]) -> Result<Plan, NoMemory>
-    ensures paths { IfOk result (λ p. p.paths ≡ asked_paths packages.now) }
-    ensures named { IfOk result AreNamed }
-    ensures places { IfOk result (λ p. (q : List ℕ) → get_by_text p.places q ≡ place_in p.paths q) }
+    ensures named { IfOk result (λ p. map path p.names ≡ map (λ q. Some q) (asked_paths packages.now)) }
+    ensures planned { IfOk result (λ p. ArePlanned (asked_paths packages.now) packages.now p.turns) }
 {
-    let mut plan = Plan::new(alloc);
+    let mut places = Places::new(alloc);
+    let mut turns = Items::new(alloc);
     for locked in packages {
-        if let Some(path) = default_path(alloc, locked)? {
-            plan.add(alloc, locked.name.as_str(), path)?;
-        }
+        let turn = places.plan(alloc, locked)?;
+        turns.add(turn)?;
     }
-    Ok(plan)
+    let Places { names, .. } = places;
+    Ok(Plan { names, turns })
 }

@@ -6,7 +6,7 @@ ghost use Rattle.tame_names.specs.declared.host.FailedCall.{FailedCall};
 ghost use Rattle.tame_names.specs.declared.host.FileCall.TheVariants as FileCall;
 ghost use Rattle.audit_lock.specs.declared.resolving.Package.{Package};
 ghost use Rattle.audit_core.specs.Audits.{AuditSays, KeepsOthers, MakesAskedFolders};
-ghost use Rattle.audit_core.specs.Paths.{asked_paths};
+ghost use Rattle.audit_core.specs.Paths.{asked_paths, defaults};
 ghost use Rattle.audit_core.specs.Turns.{AddsPart, KeepsHonest};
 ghost use Rattle.audit_program.specs.Causes.{Accepts, AcceptsNone, CauseOf, IsComplete, IsPrintFault, fault_status, is_early};
 ghost use Rattle.audit_program.specs.Printed.{verdict_lines};
@@ -85,16 +85,16 @@ fn audit<F: Files, W: Wire, D: CacheDisk>(
     ensures says { IfOk result (λ a. AuditSays W.tells D.tells
         (record { exchanges = W.exchanges wire.old; files = D.past disk.old; wire_faults = W.faults wire.old; disk_faults = D.faults disk.old })
         (record { exchanges = W.exchanges wire.new; files = D.past disk.new; wire_faults = W.faults wire.new; disk_faults = D.faults disk.new })
-        a.lockfile a.turns a.verdicts) }
+        (asked_paths a.lockfile) (defaults a.lockfile) a.turns a.verdicts) }
     ensures kept { W.tells → D.tells → KeepsHonest (W.exchanges wire.old) (W.exchanges wire.new) (D.past disk.old) (D.past disk.new) }
     ensures unasked { IfErr result (λ f. IsTrue (is_early f) → (wire.new ≡ wire.old) × (disk.new ≡ disk.old)) }
     ensures unaccepted { F.tells → AcceptsNone F.tells (map string_bytes words.now) (F.stands files.old) → (wire.new ≡ wire.old) × (disk.new ≡ disk.old) }
     ensures part { F.tells → W.tells → (packages : List Package) → Accepts F.tells (map string_bytes words.now) (F.stands files.old) packages
         → OnErr result (AddsPart (asked_paths packages) (W.exchanges wire.old) (W.exchanges wire.new)) }
     ensures others { F.tells → D.tells → (packages : List Package) → Accepts F.tells (map string_bytes words.now) (F.stands files.old) packages
-        → KeepsOthers packages (D.past disk.old) (D.past disk.new) }
+        → KeepsOthers (asked_paths packages) (D.past disk.old) (D.past disk.new) }
     ensures folders { F.tells → D.tells → (packages : List Package) → Accepts F.tells (map string_bytes words.now) (F.stands files.old) packages
-        → MakesAskedFolders packages (D.folders disk.old) (D.folders disk.new) }
+        → MakesAskedFolders (asked_paths packages) (D.folders disk.old) (D.folders disk.new) }
     ensures exit { IfOk result (λ a. a.exit ≡ 0) }
 {
     let path = match read_words(words) {
@@ -167,7 +167,7 @@ pub fn run<F: Files, W: Wire, D: CacheDisk, O: Sink, E: Sink>(
     ensures says { IfSome result.audited (λ a. AuditSays W.tells D.tells
         (record { exchanges = W.exchanges wire.old; files = D.past disk.old; wire_faults = W.faults wire.old; disk_faults = D.faults disk.old })
         (record { exchanges = W.exchanges wire.new; files = D.past disk.new; wire_faults = W.faults wire.new; disk_faults = D.faults disk.new })
-        a.lockfile a.turns a.verdicts) }
+        (asked_paths a.lockfile) (defaults a.lockfile) a.turns a.verdicts) }
 
     // however the run ends, a kept disk is kept at every moment where the exchanges were honest
     ensures kept { W.tells → D.tells → KeepsHonest (W.exchanges wire.old) (W.exchanges wire.new) (D.past disk.old) (D.past disk.new) }
@@ -180,9 +180,9 @@ pub fn run<F: Files, W: Wire, D: CacheDisk, O: Sink, E: Sink>(
 
     // however the run ends, no file of the cache changes that is that of no path that is asked for, and no folders are made but those above such files
     ensures others { F.tells → D.tells → (packages : List Package) → Accepts F.tells (map string_bytes words.now) (F.stands files.old) packages
-        → KeepsOthers packages (D.past disk.old) (D.past disk.new) }
+        → KeepsOthers (asked_paths packages) (D.past disk.old) (D.past disk.new) }
     ensures folders { F.tells → D.tells → (packages : List Package) → Accepts F.tells (map string_bytes words.now) (F.stands files.old) packages
-        → MakesAskedFolders packages (D.folders disk.old) (D.folders disk.new) }
+        → MakesAskedFolders (asked_paths packages) (D.folders disk.old) (D.folders disk.new) }
 
     // what is printed: the verdict lines, a part of them from the front, or nothing
     ensures printed { O.tells → result.fault ≡ None → IfSome result.audited (λ a. O.holds out.new ≡ O.holds out.old ++ verdict_lines a.lockfile a.verdicts) }

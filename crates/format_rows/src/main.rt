@@ -11,9 +11,9 @@ mod records;
 mod stage;
 mod written;
 
-use row_fixtures::{Row, RowFault, is_remark, told};
+use row_fixtures::{Row, RowFault, answered};
 use stage::Stage;
-use std::alloc::{AllocError, Global};
+use std::alloc::Global;
 use std::io;
 use std::io::{BufRead, BufReader};
 
@@ -75,14 +75,6 @@ fn answer(alloc: Global, stage: &mut Stage, row: Row<'_>) -> Result<String, RowF
     }
 }
 
-/// The line that answers a line: a remark answers itself.
-fn line_for(alloc: Global, stage: &mut Stage, line: &str) -> Result<String, AllocError> {
-    if is_remark(line) {
-        return String::from_str(alloc, line);
-    }
-    told(alloc, answer(alloc, stage, Row::of(line)))
-}
-
 fn main(rt: HostRuntime) -> io::Result<()> {
     let alloc = rt.alloc();
     let Ok(mut stage) = Stage::new(alloc) else {
@@ -90,7 +82,8 @@ fn main(rt: HostRuntime) -> io::Result<()> {
     };
     for line in BufReader::new(alloc, rt.reader())?.lines(alloc) {
         let line = line?;
-        rt.println(line_for(alloc, &mut stage, line.as_str())?)?;
+        let answer = answer(alloc, &mut stage, Row::of(line.as_str()));
+        rt.println(answered(alloc, line.as_str(), answer)?)?;
     }
     Ok(())
 }

@@ -1,14 +1,17 @@
-//! Reads the lines of an index file over and over in one of three ways, to be timed:
-//! `line_bench read FILE`, `line_bench deserialize FILE` or `line_bench scan FILE`. Prints the
-//! number of lines, and how many of them are yanked.
+//! Reads the lines of an index file over and over in one of four ways, to be timed:
+//! `line_bench read FILE`, `deserialize FILE`, `heads FILE` or `scan FILE`. Prints the number of
+//! lines, and how many of them are yanked. `line_bench list FILE` prints a line for each: its
+//! version and flag, and which reader says so.
 #![tactic(auto)]
+
+mod answers;
 
 use std::io::ErrorKind;
 use std::process::ExitCode;
 use std::{env, fs, io};
 use tame_entry::{IndexEntryVersion, JsonLines};
-use tame_names::Error;
-use tame_records::IndexKrate;
+use tame_names::{Error, split};
+use tame_records::{IndexKrate, read_head};
 
 /// How many lines there are, and how many of them are yanked.
 #[derive(Drop)]
@@ -52,6 +55,21 @@ fn deserialize(rt: &HostRuntime, bytes: &[u8]) -> Result<Count, Error> {
     Ok(count)
 }
 
+/// Version and flag of each line.
+fn heads(rt: &HostRuntime, bytes: &[u8]) -> Result<Count, Error> {
+    let mut count = Count {
+        lines: 0,
+        yanked: 0,
+    };
+    for line in JsonLines::validate(bytes)?.lines() {
+        match read_head(rt.alloc(), line)? {
+            Some(head) => count.add(head.yanked),
+            None => return Err(Error::Json { line: count.lines }),
+        }
+    }
+    Ok(count)
+}
+
 /// Each line by the scan.
 fn scan(rt: &HostRuntime, bytes: &[u8]) -> Result<Count, Error> {
     let mut count = Count {
@@ -69,6 +87,7 @@ fn counted(rt: &HostRuntime, way: &str, bytes: &[u8]) -> io::Result<Count> {
     let done = match way {
         "read" => read(rt, bytes),
         "deserialize" => deserialize(rt, bytes),
+        "heads" => heads(rt, bytes),
         "scan" => scan(rt, bytes),
         _ => return Err(io::Error::from(ErrorKind::InvalidInput)),
     };
@@ -78,12 +97,27 @@ fn counted(rt: &HostRuntime, way: &str, bytes: &[u8]) -> io::Result<Count> {
     }
 }
 
+/// Prints what the readers of heads say of each line.
+fn list(rt: &HostRuntime, bytes: &[u8]) -> io::Result<()> {
+    let alloc = rt.alloc();
+    for line in split(bytes, b'\n') {
+        let Ok(answer) = answers::read_answer(alloc, line) else {
+            return Err(io::Error::from(ErrorKind::OutOfMemory));
+        };
+        rt.println(answer.shown(alloc)?)?;
+    }
+    Ok(())
+}
+
 fn bench(rt: &HostRuntime) -> io::Result<()> {
     let mut words = env::args(rt)?.skip(1);
     let (Some(way), Some(path)) = (words.next(), words.next()) else {
         return Err(io::Error::from(ErrorKind::InvalidInput));
     };
     let bytes = fs::read(rt, path.as_str())?;
+    if way.as_str() == "list" {
+        return list(rt, bytes.as_slice());
+    }
     let count = counted(rt, way.as_str(), bytes.as_slice())?;
     let (lines, yanked) = (count.lines, count.yanked);
     println!(rt; "{lines} lines, {yanked} yanked")

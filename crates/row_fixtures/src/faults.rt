@@ -1,4 +1,5 @@
 //! Why a row has no answer, and errors that are the answer.
+use crate::rows::is_remark;
 use std::alloc::{AllocError, AllocFailed, Global};
 use tame_names::{Error, InvalidKrateName, NoMemory};
 
@@ -57,4 +58,16 @@ pub fn told(alloc: Global, answer: Result<String, RowFault>) -> Result<String, A
         Ok(text) => Ok(text),
         Err(fault) => fault_text(alloc, &fault),
     }
+}
+
+/// The line that answers a line with a row that has this answer: a remark answers itself.
+pub fn answered(
+    alloc: Global,
+    line: &str,
+    answer: Result<String, RowFault>,
+) -> Result<String, AllocError> {
+    if is_remark(line) {
+        return String::from_str(alloc, line);
+    }
+    told(alloc, answer)
 }

@@ -10,7 +10,7 @@ mod revision_words;
 mod rows;
 
 pub use escapes::{plain_bytes, plain_text, shown, shown_word};
-pub use faults::{RowFault, told};
+pub use faults::{RowFault, answered, told};
 pub use hosts::{
     FLAGGED_FILE, crashed, crates_io_index, disk_failing, disk_with, files_with, numbers, stop,
 };
@@ -18,4 +18,4 @@ pub use index_lines::{
     DIGEST, body_of, entry_of, flagged_body, flagged_entry, index_line, lockfile_of,
 };
 pub use revision_words::{RevisionWord, owned_text};
-pub use rows::{Row, is_remark};
+pub use rows::Row;

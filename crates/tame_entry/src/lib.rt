@@ -23,6 +23,6 @@ pub use iterating::IndexEntryIter;
 pub use json_lines::JsonLines;
 pub use laws::{entries_read_as_bodies, entries_read_back};
 pub use revisions::{GitRevision, HttpRevision, OwnedRevision, Revision};
-pub use said::{Said, read_heads, said_of};
+pub use said::{Said, read_heads, read_item_heads, said_of};
 pub use sha1::{HexBytes, Sha1Hex};
 pub use writes::CacheWrite;

@@ -6,3 +6,9 @@ mod ReadBack
 mod RoundTrip
 pub mod Greatest
 mod HighestLemmas
+pub mod HeadTokens
+pub mod HeadMembers
+pub mod HeadForms
+pub mod DependencyKeys
+pub mod VersionKeys
+pub mod QuickLex

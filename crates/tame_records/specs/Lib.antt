@@ -1,8 +1,10 @@
 pub mod Checksums
 pub mod Dependencies
+pub mod Heads
 pub mod Highest
 pub mod Krates
 pub mod Lines
 pub mod Members
+pub mod Quick
 pub mod Record
 pub mod Written

@@ -1,12 +1,12 @@
-use Rattle.std.proofs.Common.{◌≡◌, ◌≢◌, List, ℕ, Some, IsTrue, map, ap, sym, subst, ◌∙◌, refl}
+use Rattle.std.proofs.Common.{◌≡◌, List, ℕ, Some, map, ap, ◌∙◌, refl}
 use Rattle.audit_core.specs.declared.asking.Heard.{Heard}
 use Rattle.tame_names.specs.Names.{path}
+use Rattle.audit_core.proofs.Apart.{asked_distinct}
 use Rattle.audit_core.proofs.Exchanged.{keeps_nothing, part_none}
 use Rattle.audit_core.proofs.Lists.{on_err, somes}
 use Rattle.tame_cache.proofs.FolderLemmas.{made_weaker, none_made}
 use Rattle.audit_core.proofs.Names.{asked_file, named_part, names_valid, no_file_of}
-use Rattle.audit_core.specs.Paths.{is_among}
-use Rattle.audit_core.specs.Turns.{index_file}
+use Rattle.audit_core.specs.Paths.{asked_paths, default_paths, defaults}
 use Rattle.audit_core.proofs.Steps.{Adds-part}
 use Rattle.audit_core.proofs.Whole.{IsDone, audit_done, caused_done, held_done, turns_done}
 use Rattle.audit_core.proofs.auditing.check.Goals as goal
@@ -24,93 +24,100 @@ pub returns-in_err-plan-clause-kept : goal.returns-in_err-plan-clause-kept
 returns-in_err-plan-clause-kept g c told_wire told = keeps_nothing (g.W.Wire.exchanges c.args.wire.now) (g.W.Wire.exchanges c.args.wire.now) (g.D.CacheDisk.past c.args.disk.now)
 
 pub ask-requires-clause-named : goal.ask-requires-clause-named
-ask-requires-clause-named g c = rw c.as_slice.ensures (names_valid c.in_ok-plan.plan.names c.in_ok-plan.plan.paths c.in_ok-plan.ensures.named)
+ask-requires-clause-named g c = rw c.as_slice.ensures (names_valid c.in_ok-plan.plan.names (asked_paths c.args.packages.now) c.in_ok-plan.ensures.named)
 
 pub returns-in_err-heard-clause-part : goal.returns-in_err-heard-clause-part
 returns-in_err-heard-clause-part g c told =
     let exchanges = g.W.Wire.exchanges in
     let plan = c.in_ok-plan in
-    on_err _ (rw plan.ensures.paths at (named_part plan.plan.names plan.plan.paths (exchanges c.args.wire.now) (exchanges c.ask.new.wire) plan.ensures.named (rw c.as_slice.ensures at (c.in_err-heard.ensures.part told))))
+    on_err _ (named_part plan.plan.names (asked_paths c.args.packages.now) (exchanges c.args.wire.now) (exchanges c.ask.new.wire) plan.ensures.named (rw c.as_slice.ensures at (c.in_err-heard.ensures.part told)))
 
 pub returns-in_err-verdicts-clause-part : goal.returns-in_err-verdicts-clause-part
 returns-in_err-verdicts-clause-part g c told =
     let exchanges = g.W.Wire.exchanges in
     let past = g.D.CacheDisk.past in
     let plan = c.in_ok-plan in
-    let heard : map (λ (h : Heard). Some h.turn.path) c.in_ok-heard.heard ≡ map (λ q. Some q) plan.plan.paths = c.in_ok-heard.ensures.paths ∙ ap (map path) c.as_slice.ensures ∙ plan.ensures.named in
-    on_err _ (rw plan.ensures.paths at (Adds-part g.D.CacheDisk.tells plan.plan.paths c.in_ok-heard.heard (exchanges c.args.wire.now) (exchanges c.ask.new.wire) (past c.args.disk.now) (past c.ask.new.disk) heard (c.in_ok-heard.ensures.said told)))
+    let heard : map (λ (h : Heard). Some h.turn.path) c.in_ok-heard.heard ≡ map (λ q. Some q) (asked_paths c.args.packages.now) = c.in_ok-heard.ensures.paths ∙ ap (map path) c.as_slice.ensures ∙ plan.ensures.named in
+    on_err _ (Adds-part g.D.CacheDisk.tells (asked_paths c.args.packages.now) c.in_ok-heard.heard (exchanges c.args.wire.now) (exchanges c.ask.new.wire) (past c.args.disk.now) (past c.ask.new.disk) heard (c.in_ok-heard.ensures.said told))
 
 pub returns-in_err-turns-clause-part : goal.returns-in_err-turns-clause-part
 returns-in_err-turns-clause-part g c told =
     let exchanges = g.W.Wire.exchanges in
     let past = g.D.CacheDisk.past in
     let plan = c.in_ok-plan in
-    let heard : map (λ (h : Heard). Some h.turn.path) c.in_ok-heard.heard ≡ map (λ q. Some q) plan.plan.paths = c.in_ok-heard.ensures.paths ∙ ap (map path) c.as_slice.ensures ∙ plan.ensures.named in
-    on_err _ (rw plan.ensures.paths at (Adds-part g.D.CacheDisk.tells plan.plan.paths c.in_ok-heard.heard (exchanges c.args.wire.now) (exchanges c.ask.new.wire) (past c.args.disk.now) (past c.ask.new.disk) heard (c.in_ok-heard.ensures.said told)))
+    let heard : map (λ (h : Heard). Some h.turn.path) c.in_ok-heard.heard ≡ map (λ q. Some q) (asked_paths c.args.packages.now) = c.in_ok-heard.ensures.paths ∙ ap (map path) c.as_slice.ensures ∙ plan.ensures.named in
+    on_err _ (Adds-part g.D.CacheDisk.tells (asked_paths c.args.packages.now) c.in_ok-heard.heard (exchanges c.args.wire.now) (exchanges c.ask.new.wire) (past c.args.disk.now) (past c.ask.new.disk) heard (c.in_ok-heard.ensures.said told))
+
+-- the turns are those that were planned
+heard_paths : (names paths : List (List ℕ)) (hs : List Heard) → map (λ (h : Heard). Some h.turn.path) hs ≡ map path names → map path names ≡ map (λ q. Some q) paths → map (λ (h : Heard). h.turn.path) hs ≡ paths
+heard_paths names paths hs heard named = somes (λ (h : Heard). h.turn.path) hs paths (heard ∙ named)
+
+pub judge-requires : goal.judge-requires
+judge-requires g c =
+    let plan = c.in_ok-plan in
+    let hs = c.in_ok-heard.heard in
+    let paths : map (λ (h : Heard). h.turn.path) hs ≡ asked_paths c.args.packages.now = heard_paths plan.plan.names (asked_paths c.args.packages.now) hs (c.in_ok-heard.ensures.paths ∙ ap (map path) c.as_slice.ensures) plan.ensures.named in
+    rw (c.as_slice-2.ensures, c.as_slice-3.ensures, paths) plan.ensures.planned
 
 pub returns-clause-says : goal.returns-clause-says
 returns-clause-says g c =
     let exchanges = g.W.Wire.exchanges in
     let past = g.D.CacheDisk.past in
     let packages = c.args.packages.now in
+    let plan = c.in_ok-plan in
     let hs = c.in_ok-heard.heard in
     let verdicts = c.in_ok-verdicts.verdicts in
-    let done : IsDone packages hs verdicts = record {
-      paths = c.in_ok-plan.plan.paths;
-      asked = c.in_ok-plan.ensures.paths;
-      heard = somes (λ (h : Heard). h.turn.path) hs c.in_ok-plan.plan.paths (c.in_ok-heard.ensures.paths ∙ ap (map path) c.as_slice.ensures ∙ c.in_ok-plan.ensures.named);
+    let done : IsDone (asked_paths packages) (defaults packages) hs verdicts = record {
+      distinct = asked_distinct (default_paths packages);
+      heard = heard_paths plan.plan.names (asked_paths packages) hs (c.in_ok-heard.ensures.paths ∙ ap (map path) c.as_slice.ensures) plan.ensures.named;
       judged = rw c.as_slice-2.ensures at c.in_ok-verdicts.ensures;
     } in
     rw c.in_ok-turns.ensures record {
-      headline = λ told_wire told. held_done g.D.CacheDisk.tells told packages hs verdicts (exchanges c.args.wire.now) (exchanges c.ask.new.wire) (past c.args.disk.now) (past c.ask.new.disk) done c.in_ok-heard.ensures.caused (c.in_ok-heard.ensures.said told_wire);
-      audited = λ told. audit_done g.D.CacheDisk.tells packages hs verdicts (exchanges c.args.wire.now) (exchanges c.ask.new.wire) (past c.args.disk.now) (past c.ask.new.disk) done (c.in_ok-heard.ensures.said told);
-      counted = turns_done packages hs verdicts _ _ _ _ done c.in_ok-heard.ensures.counts;
-      caused = caused_done packages hs verdicts done c.in_ok-heard.ensures.caused;
+      headline = λ told_wire told. held_done g.D.CacheDisk.tells told (asked_paths packages) (defaults packages) hs verdicts (exchanges c.args.wire.now) (exchanges c.ask.new.wire) (past c.args.disk.now) (past c.ask.new.disk) done c.in_ok-heard.ensures.caused (c.in_ok-heard.ensures.said told_wire);
+      audited = λ told. audit_done g.D.CacheDisk.tells (asked_paths packages) (defaults packages) hs verdicts (exchanges c.args.wire.now) (exchanges c.ask.new.wire) (past c.args.disk.now) (past c.ask.new.disk) done (c.in_ok-heard.ensures.said told);
+      counted = turns_done (asked_paths packages) (defaults packages) hs verdicts _ _ _ _ done c.in_ok-heard.ensures.counts;
+      caused = caused_done (asked_paths packages) (defaults packages) hs verdicts done c.in_ok-heard.ensures.caused;
     }
 
 pub returns-in_err-heard-clause-others : goal.returns-in_err-heard-clause-others
 returns-in_err-heard-clause-others g c told q other =
     let plan = c.in_ok-plan in
-    let none = subst (λ (ps : List (List ℕ)). (p : List ℕ) → IsTrue (is_among p ps) → q ≢ index_file p) (sym plan.ensures.paths) other in
-    c.ask.ensures.others told q (rw c.as_slice.ensures (no_file_of plan.plan.names plan.plan.paths q plan.ensures.named none))
+    c.ask.ensures.others told q (rw c.as_slice.ensures (no_file_of plan.plan.names (asked_paths c.args.packages.now) q plan.ensures.named other))
 
 pub returns-in_err-verdicts-clause-others : goal.returns-in_err-verdicts-clause-others
 returns-in_err-verdicts-clause-others g c told q other =
     let plan = c.in_ok-plan in
-    let none = subst (λ (ps : List (List ℕ)). (p : List ℕ) → IsTrue (is_among p ps) → q ≢ index_file p) (sym plan.ensures.paths) other in
-    c.ask.ensures.others told q (rw c.as_slice.ensures (no_file_of plan.plan.names plan.plan.paths q plan.ensures.named none))
+    c.ask.ensures.others told q (rw c.as_slice.ensures (no_file_of plan.plan.names (asked_paths c.args.packages.now) q plan.ensures.named other))
 
 pub returns-in_err-turns-clause-others : goal.returns-in_err-turns-clause-others
 returns-in_err-turns-clause-others g c told q other =
     let plan = c.in_ok-plan in
-    let none = subst (λ (ps : List (List ℕ)). (p : List ℕ) → IsTrue (is_among p ps) → q ≢ index_file p) (sym plan.ensures.paths) other in
-    c.ask.ensures.others told q (rw c.as_slice.ensures (no_file_of plan.plan.names plan.plan.paths q plan.ensures.named none))
+    c.ask.ensures.others told q (rw c.as_slice.ensures (no_file_of plan.plan.names (asked_paths c.args.packages.now) q plan.ensures.named other))
 
 pub returns-clause-others : goal.returns-clause-others
 returns-clause-others g c told q other =
     let plan = c.in_ok-plan in
-    let none = subst (λ (ps : List (List ℕ)). (p : List ℕ) → IsTrue (is_among p ps) → q ≢ index_file p) (sym plan.ensures.paths) other in
-    c.ask.ensures.others told q (rw c.as_slice.ensures (no_file_of plan.plan.names plan.plan.paths q plan.ensures.named none))
+    c.ask.ensures.others told q (rw c.as_slice.ensures (no_file_of plan.plan.names (asked_paths c.args.packages.now) q plan.ensures.named other))
 
 pub returns-in_err-heard-clause-folders : goal.returns-in_err-heard-clause-folders
 returns-in_err-heard-clause-folders g c told =
     let plan = c.in_ok-plan in
-    rw plan.ensures.paths at (made_weaker _ _ (λ q is. asked_file plan.plan.names plan.plan.paths q plan.ensures.named is) _ _ (rw c.as_slice.ensures at (c.ask.ensures.folders told)))
+    made_weaker _ _ (λ q is. asked_file plan.plan.names (asked_paths c.args.packages.now) q plan.ensures.named is) _ _ (rw c.as_slice.ensures at (c.ask.ensures.folders told))
 
 pub returns-in_err-verdicts-clause-folders : goal.returns-in_err-verdicts-clause-folders
 returns-in_err-verdicts-clause-folders g c told =
     let plan = c.in_ok-plan in
-    rw plan.ensures.paths at (made_weaker _ _ (λ q is. asked_file plan.plan.names plan.plan.paths q plan.ensures.named is) _ _ (rw c.as_slice.ensures at (c.ask.ensures.folders told)))
+    made_weaker _ _ (λ q is. asked_file plan.plan.names (asked_paths c.args.packages.now) q plan.ensures.named is) _ _ (rw c.as_slice.ensures at (c.ask.ensures.folders told))
 
 pub returns-in_err-turns-clause-folders : goal.returns-in_err-turns-clause-folders
 returns-in_err-turns-clause-folders g c told =
     let plan = c.in_ok-plan in
-    rw plan.ensures.paths at (made_weaker _ _ (λ q is. asked_file plan.plan.names plan.plan.paths q plan.ensures.named is) _ _ (rw c.as_slice.ensures at (c.ask.ensures.folders told)))
+    made_weaker _ _ (λ q is. asked_file plan.plan.names (asked_paths c.args.packages.now) q plan.ensures.named is) _ _ (rw c.as_slice.ensures at (c.ask.ensures.folders told))
 
 pub returns-clause-folders : goal.returns-clause-folders
 returns-clause-folders g c told =
     let plan = c.in_ok-plan in
-    rw plan.ensures.paths at (made_weaker _ _ (λ q is. asked_file plan.plan.names plan.plan.paths q plan.ensures.named is) _ _ (rw c.as_slice.ensures at (c.ask.ensures.folders told)))
+    made_weaker _ _ (λ q is. asked_file plan.plan.names (asked_paths c.args.packages.now) q plan.ensures.named is) _ _ (rw c.as_slice.ensures at (c.ask.ensures.folders told))
 
 pub returns-in_err-index-clause-folders : goal.returns-in_err-index-clause-folders
 returns-in_err-index-clause-folders g c told = none_made _ _ _ refl

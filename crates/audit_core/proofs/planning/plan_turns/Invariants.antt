@@ -1,12 +1,12 @@
-use Rattle.std.proofs.Common.{◌≡◌, ◌++◌, drop}
+use Rattle.std.proofs.Common.{◌≡◌, ◌++◌, drop, take}
 use Rattle.audit_core.specs.Paths.{asked_paths, default_paths, distinct_after}
-use Rattle.audit_core.specs.Plans.{AreNamed, IsPlanned}
+use Rattle.audit_core.specs.Plans.{AreAt, ArePlanned}
 use Rattle.audit_core.proofs.planning.plan_turns.Given as goal
 
--- the paths so far, and those that what is left adds
+-- the paths so far, in front of those that what is left adds; and the turns so far
 abbrev pub invariant-loop-locked : goal.invariant-loop-locked
 invariant-loop-locked l = record {
-  planned : IsPlanned l.plan;
-  named : AreNamed l.plan;
-  paths : asked_paths l.packages ≡ l.plan.paths ++ distinct_after l.plan.paths (default_paths (drop l.locked-index l.packages));
+  places : AreAt l.places;
+  paths : asked_paths l.packages ≡ l.places.paths ++ distinct_after l.places.paths (default_paths (drop l.locked-index l.packages));
+  planned : ArePlanned l.places.paths (take l.locked-index l.packages) l.turns;
 }

@@ -1,0 +1,66 @@
+//! The options of `audit`.
+ghost use Rattle.std.specs.Prelude.{◌≡◌};
+ghost use Rattle.audit_settings.specs.Commands.{no_option};
+
+use audit_advisory::{DenyOption, OutputFormat};
+use std::alloc::Global;
+use tame_names::{Items, Text};
+
+/// When the output would be coloured. Read, and not used.
+#[derive(Clone, Copy, Debug, Default, PartialEq, Eq)]
+pub enum Color {
+    Always,
+    #[default]
+    Auto,
+    Never,
+}
+
+/// The options of `audit`, as they were given: an option that wasn't is `None`, an empty list or
+/// false. `color`, `stale` and `url` have no effect.
+#[derive(Debug, Drop, PartialEq, Eq)]
+pub struct AuditCommand {
+    pub color: Option<Color>,
+    /// The folder of the advisories.
+    pub db: Option<Text>,
+    pub deny: Items<DenyOption>,
+    /// The lockfile; `-` is standard input.
+    pub file: Option<Text>,
+    /// The ids of advisories that are left out.
+    pub ignore: Items<Text>,
+    pub no_yanked: bool,
+    pub no_fetch: bool,
+    pub stale: bool,
+    pub target_arch: Items<Text>,
+    pub target_os: Items<Text>,
+    pub url: Option<Text>,
+    pub quiet: bool,
+    pub output_format: Option<OutputFormat>,
+    pub output_json: bool,
+    /// Print only whether each package is yanked.
+    pub verdicts: bool,
+}
+
+impl AuditCommand {
+    /// No option given.
+    pub fn new(alloc: Global) -> AuditCommand
+        ensures { result ≡ no_option }
+    {
+        AuditCommand {
+            color: None,
+            db: None,
+            deny: Items::new(alloc),
+            file: None,
+            ignore: Items::new(alloc),
+            no_yanked: false,
+            no_fetch: false,
+            stale: false,
+            target_arch: Items::new(alloc),
+            target_os: Items::new(alloc),
+            url: None,
+            quiet: false,
+            output_format: None,
+            output_json: false,
+            verdicts: false,
+        }
+    }
+}

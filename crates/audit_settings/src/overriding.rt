@@ -1,0 +1,150 @@
+//! The settings of a file under the options of a command.
+ghost use Rattle.std.specs.Prelude.{◌≡◌, IfOk};
+ghost use Rattle.audit_settings.specs.Overriding.{advisories_under, database_under, denied, filter_or, format_of, given_or, output_under, overridden, target_under, yanked_under};
+
+use crate::commands::AuditCommand;
+use crate::configs::{
+    AdvisoryConfig, AuditConfig, DatabaseConfig, FilterList, TargetConfig, YankedConfig,
+};
+use crate::reporting::{add_texts, texts_copied};
+use audit_advisory::{DenyOption, OutputConfig, OutputFormat};
+use std::alloc::Global;
+use tame_names::{Items, NoMemory, Text};
+
+/// A text that is given, else the one of the settings.
+fn given_or(
+    alloc: Global,
+    given: &Option<Text>,
+    settled: Option<Text>,
+) -> Result<Option<Text>, NoMemory>
+    ensures { IfOk result (λ text. text ≡ given_or given.now settled) }
+{
+    match given {
+        None => Ok(settled),
+        Some(text) => Ok(Some(text.try_clone(alloc)?)),
+    }
+}
+
+/// Targets that are given, else those of the settings.
+fn filter_or(
+    alloc: Global,
+    given: &[Text],
+    settled: Option<FilterList>,
+) -> Result<Option<FilterList>, NoMemory>
+    ensures { IfOk result (λ filter. filter ≡ filter_or given.now settled) }
+{
+    if given.is_empty() {
+        return Ok(settled);
+    }
+    Ok(Some(FilterList::Many(texts_copied(alloc, given)?)))
+}
+
+/// What is denied.
+fn denied(
+    alloc: Global,
+    given: &[DenyOption],
+    settled: Items<DenyOption>,
+) -> Result<Items<DenyOption>, NoMemory>
+    ensures { IfOk result (λ options. options ≡ denied given.now settled) }
+{
+    let mut options = settled;
+    for option in given {
+        match option {
+            DenyOption::Warnings => options = DenyOption::all(alloc)?,
+            _ => options.add(*option)?,
+        }
+    }
+    Ok(options)
+}
+
+impl AuditCommand {
+    fn format_of(&self, settled: OutputFormat) -> OutputFormat
+        ensures { result ≡ format_of self.now settled }
+    {
+        if self.output_json {
+            OutputFormat::Json
+        } else {
+            match self.output_format {
+                Some(given) => given,
+                None => settled,
+            }
+        }
+    }
+
+    fn advisories_under(
+        &self,
+        alloc: Global,
+        settled: AdvisoryConfig,
+    ) -> Result<AdvisoryConfig, NoMemory>
+        ensures { IfOk result (λ c. c ≡ advisories_under self.now settled) }
+    {
+        let mut advisories = settled;
+        add_texts(alloc, &mut advisories.ignore, self.ignore.as_slice())?;
+        Ok(advisories)
+    }
+
+    fn database_under(
+        &self,
+        alloc: Global,
+        settled: DatabaseConfig,
+    ) -> Result<DatabaseConfig, NoMemory>
+        ensures { IfOk result (λ c. c ≡ database_under self.now settled) }
+    {
+        Ok(DatabaseConfig {
+            path: given_or(alloc, &self.db, settled.path)?,
+            url: given_or(alloc, &self.url, settled.url)?,
+            fetch: settled.fetch && !self.no_fetch,
+            stale: settled.stale || self.stale,
+        })
+    }
+
+    fn output_under(&self, alloc: Global, settled: OutputConfig) -> Result<OutputConfig, NoMemory>
+        ensures { IfOk result (λ c. c ≡ output_under self.now settled) }
+    {
+        Ok(OutputConfig {
+            deny: denied(alloc, self.deny.as_slice(), settled.deny)?,
+            format: self.format_of(settled.format),
+            quiet: settled.quiet || self.quiet,
+            show_tree: settled.show_tree && !self.quiet,
+        })
+    }
+
+    fn target_under(&self, alloc: Global, settled: TargetConfig) -> Result<TargetConfig, NoMemory>
+        ensures { IfOk result (λ c. c ≡ target_under self.now settled) }
+    {
+        Ok(TargetConfig {
+            arch: filter_or(alloc, self.target_arch.as_slice(), settled.arch)?,
+            os: filter_or(alloc, self.target_os.as_slice(), settled.os)?,
+        })
+    }
+
+    fn yanked_under(&self, settled: YankedConfig) -> YankedConfig
+        ensures { result ≡ yanked_under self.now settled }
+    {
+        YankedConfig {
+            enabled: settled.enabled && !self.no_yanked,
+            update_index: settled.update_index,
+        }
+    }
+
+    /// The settings under the options of this command: `db`, `url`, targets and the format that are
+    /// given replace those of the settings, `ignore` is appended, and so is each `deny`, but that
+    /// `warnings` puts all four in place of the list. `no_fetch` and
+    /// `no_yanked` only switch off, `stale` and `quiet` only on, and `quiet` shows no trees. The
+    /// settings are spent.
+    pub fn override_config(
+        &self,
+        alloc: Global,
+        config: AuditConfig,
+    ) -> Result<AuditConfig, NoMemory>
+        ensures { IfOk result (λ settings. settings ≡ overridden self.now config) }
+    {
+        Ok(AuditConfig {
+            advisories: self.advisories_under(alloc, config.advisories)?,
+            database: self.database_under(alloc, config.database)?,
+            output: self.output_under(alloc, config.output)?,
+            target: self.target_under(alloc, config.target)?,
+            yanked: self.yanked_under(config.yanked),
+        })
+    }
+}

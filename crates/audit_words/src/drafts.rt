@@ -1,0 +1,358 @@
+//! A command while its words are read.
+ghost use Rattle.std.specs.Prelude.{◌≡◌, ◌≢◌, ◌<◌, length, drop, IfSome, IfErr, OnOk, Ok, Err, option_map};
+ghost use Rattle.audit_words.specs.Options.{by_letter, options};
+ghost use Rattle.audit_words.specs.Reading.{Refuses, add_listed, allowed, alone, finish, first_meaning, has_flag, has_options, has_single, is_option, long_given, or_wrong, read_dashed, read_letters, read_long, read_option, read_plain, read_fresh, read_word, repeats, set_flag, set_single, set_value, start, with_path};
+
+use crate::commands::{BinCommand, Command, FixCommand};
+use crate::options::{Flag, Listed, Meaning, Phase, Single, by_letter, by_long};
+use crate::values::{after, color_of, cut_equals, number, unless_empty, without_equals};
+use audit_advisory::{DenyOption, OutputFormat};
+use audit_settings::AuditCommand;
+use std::alloc::Global;
+use tame_names::{Items, NoMemory, Text};
+
+/// What ends the reading before the words do.
+#[derive(Clone, Copy, Debug, PartialEq, Eq)]
+pub enum Stop {
+    Help,
+    Version,
+    /// The word breaks a rule, or the words end too early.
+    Wrong,
+    /// The option before has no value.
+    Missing,
+    NoMemory,
+}
+
+impl From<NoMemory> for Stop {
+    ghost use Rattle.audit_words.specs.declared.drafts.Stop.TheVariants.{NoMemory as no_memory};
+
+    ghost from_gives = { λ _ e. e ≡ no_memory };
+
+    fn from(_: NoMemory) -> Stop {
+        Stop::NoMemory
+    }
+}
+
+/// What the words so far say.
+#[derive(Debug, Drop)]
+pub struct Draft {
+    pub phase: Phase,
+    pub awaited: Option<Meaning>,
+    pub verbose: bool,
+    pub audit: AuditCommand,
+    pub fix: FixCommand,
+    pub bin: BinCommand,
+}
+
+/// Whether a word is an option: it begins with `-` and isn't `-`.
+fn is_option(word: &str) -> bool
+    ensures { result ≡ is_option word.now }
+{
+    after(word, "-").is_some() && word != "-"
+}
+
+/// The meaning of the first letter, and what is left behind it.
+fn first_letter(phase: Phase, letters: &str) -> (Option<Meaning>, &str)
+    requires { 0 < length letters.now }
+    ensures meaning { result.0 ≡ first_meaning phase letters.now }
+    ensures rest { IfSome result.0 (λ _. result.1.now ≡ drop 1 letters.now) }
+{
+    match by_letter(phase, letters.as_bytes()[0]) {
+        None => (None, letters),
+        Some(meaning) => (Some(meaning), &letters[1..]),
+    }
+}
+
+impl Draft {
+    /// Nothing read.
+    pub fn new(alloc: Global) -> Draft
+        ensures { result ≡ start }
+    {
+        Draft {
+            phase: Phase::Before,
+            awaited: None,
+            verbose: false,
+            audit: AuditCommand::new(alloc),
+            fix: FixCommand {
+                file: None,
+                dry_run: false,
+            },
+            bin: BinCommand {
+                max_binary_size: None,
+                audit_data_size_limit: None,
+                binary_paths: Items::new(alloc),
+            },
+        }
+    }
+
+    fn set_flag(&mut self, flag: Flag) -> Result<(), Stop>
+        ensures ok { OnOk result (set_flag flag self.old ≡ Ok self.new) }
+        ensures refused { IfErr result (λ e. set_flag flag self.old ≡ Err e) }
+    {
+        match flag {
+            Flag::Help => return Err(Stop::Help),
+            Flag::Version => return Err(Stop::Version),
+            Flag::Verbose => self.verbose = true,
+            Flag::NoYanked => self.audit.no_yanked = true,
+            Flag::NoFetch => self.audit.no_fetch = true,
+            Flag::Stale => self.audit.stale = true,
+            Flag::Quiet => self.audit.quiet = true,
+            Flag::Json => self.audit.output_json = true,
+            Flag::Verdicts => self.audit.verdicts = true,
+            Flag::DryRun => self.fix.dry_run = true,
+            Flag::PathsFollow => self.phase = Phase::Paths,
+        }
+        Ok(())
+    }
+
+    fn has_flag(&self, flag: Flag) -> bool
+        ensures { result ≡ has_flag flag self.now }
+    {
+        match flag {
+            Flag::Help | Flag::Version | Flag::PathsFollow => false,
+            Flag::Verbose => self.verbose,
+            Flag::NoYanked => self.audit.no_yanked,
+            Flag::NoFetch => self.audit.no_fetch,
+            Flag::Stale => self.audit.stale,
+            Flag::Quiet => self.audit.quiet,
+            Flag::Json => self.audit.output_json,
+            Flag::Verdicts => self.audit.verdicts,
+            Flag::DryRun => self.fix.dry_run,
+        }
+    }
+
+    fn set_single(&mut self, alloc: Global, single: Single, value: &str) -> Result<(), Stop>
+        ensures ok { OnOk result (set_single single value.now self.old ≡ Some self.new) }
+        ensures refused { Refuses result (or_wrong (set_single single value.now self.old)) }
+    {
+        match single {
+            Single::Color => self.audit.color = Some(color_of(value).ok_or(Stop::Wrong)?),
+            Single::Db => self.audit.db = Some(Text::of(alloc, value)?),
+            Single::File => self.audit.file = Some(Text::of(alloc, value)?),
+            Single::Url => self.audit.url = Some(Text::of(alloc, value)?),
+            Single::Format => self.audit.output_format = Some(OutputFormat::from_str(value).ok_or(
+                Stop::Wrong,
+            )?),
+            Single::FixFile => self.fix.file = Some(Text::of(alloc, value)?),
+            Single::MaxBinarySize => self.bin.max_binary_size = Some(number(value).ok_or(
+                Stop::Wrong,
+            )?),
+            Single::AuditDataSizeLimit => {
+                self.bin.audit_data_size_limit = Some(number(value).ok_or(Stop::Wrong)?);
+            }
+        }
+        Ok(())
+    }
+
+    fn has_single(&self, single: Single) -> bool
+        ensures { result ≡ has_single single self.now }
+    {
+        match single {
+            Single::Color => self.audit.color.is_some(),
+            Single::Db => self.audit.db.is_some(),
+            Single::File => self.audit.file.is_some(),
+            Single::Url => self.audit.url.is_some(),
+            Single::Format => self.audit.output_format.is_some(),
+            Single::FixFile => self.fix.file.is_some(),
+            Single::MaxBinarySize => self.bin.max_binary_size.is_some(),
+            Single::AuditDataSizeLimit => self.bin.audit_data_size_limit.is_some(),
+        }
+    }
+
+    fn add_listed(&mut self, alloc: Global, listed: Listed, value: &str) -> Result<(), Stop>
+        ensures ok { OnOk result (add_listed listed value.now self.old ≡ Some self.new) }
+        ensures refused { Refuses result (or_wrong (add_listed listed value.now self.old)) }
+    {
+        if let Listed::Deny = listed {
+            self.audit
+                .deny
+                .add(DenyOption::from_str(value).ok_or(Stop::Wrong)?)?;
+            return Ok(());
+        }
+        let text = Text::of(alloc, unless_empty(value).ok_or(Stop::Wrong)?)?;
+        match listed {
+            Listed::Deny => {}
+            Listed::Ignore => self.audit.ignore.add(text)?,
+            Listed::TargetArch => self.audit.target_arch.add(text)?,
+            Listed::TargetOs => self.audit.target_os.add(text)?,
+        }
+        Ok(())
+    }
+
+    fn repeats(&self, meaning: Meaning) -> bool
+        ensures { result ≡ repeats meaning self.now }
+    {
+        match meaning {
+            Meaning::Alone(flag) => self.has_flag(flag),
+            Meaning::Once(single) => self.has_single(single),
+            Meaning::Many(_) => false,
+        }
+    }
+
+    /// The option, if there is one and it isn't repeated against the rule.
+    fn allowed(&self, known: Option<Meaning>) -> Result<Meaning, Stop>
+        ensures { result ≡ allowed known self.now }
+    {
+        match known {
+            None => Err(Stop::Wrong),
+            Some(meaning) => {
+                if self.repeats(meaning) {
+                    Err(Stop::Wrong)
+                } else {
+                    Ok(meaning)
+                }
+            }
+        }
+    }
+
+    /// An option without a value in its word.
+    fn take_alone(&mut self, meaning: Meaning) -> Result<(), Stop>
+        ensures ok { OnOk result (alone meaning self.old ≡ Ok self.new) }
+        ensures refused { IfErr result (λ e. alone meaning self.old ≡ Err e) }
+    {
+        match meaning {
+            Meaning::Alone(flag) => self.set_flag(flag),
+            Meaning::Once(_) | Meaning::Many(_) => {
+                self.awaited = Some(meaning);
+                Ok(())
+            }
+        }
+    }
+
+    /// An option with a value.
+    fn set_value(&mut self, alloc: Global, meaning: Meaning, value: &str) -> Result<(), Stop>
+        ensures ok { OnOk result (set_value meaning value.now self.old ≡ Ok self.new) }
+        ensures refused { Refuses result (set_value meaning value.now self.old) }
+    {
+        match meaning {
+            Meaning::Alone(_) => Err(Stop::Wrong),
+            Meaning::Once(single) => self.set_single(alloc, single, value),
+            Meaning::Many(listed) => self.add_listed(alloc, listed, value),
+        }
+    }
+
+    /// `--name` or `--name=value`, behind its dashes.
+    fn read_long(&mut self, alloc: Global, text: &str) -> Result<(), Stop>
+        ensures ok { OnOk result (read_long text.now self.old ≡ Ok self.new) }
+        ensures refused { Refuses result (read_long text.now self.old) }
+    {
+        let (name, value) = cut_equals(text);
+        let meaning = self.allowed(by_long(self.phase, name))?;
+        match value {
+            None => self.take_alone(meaning),
+            Some(value) => self.set_value(alloc, meaning, value),
+        }
+    }
+
+    /// The letters behind a dash.
+    #[tactic(auto, using(crate::proofs::Letters::letters_step))]
+    fn read_letters(&mut self, alloc: Global, letters: &str) -> Result<(), Stop>
+        ensures ok { OnOk result (read_letters letters.now self.old ≡ Ok self.new) }
+        ensures refused { Refuses result (read_letters letters.now self.old) }
+    {
+        let mut left = letters;
+        while !left.is_empty() {
+            let (known, rest) = first_letter(self.phase, left);
+            let meaning = self.allowed(known)?;
+            if !meaning.is_flag() && !rest.is_empty() {
+                return self.set_value(alloc, meaning, without_equals(rest));
+            }
+            self.take_alone(meaning)?;
+            left = rest;
+        }
+        Ok(())
+    }
+
+    /// A word that is an option.
+    fn read_option(&mut self, alloc: Global, word: &str) -> Result<(), Stop>
+        ensures ok { OnOk result (read_option word.now self.old ≡ Ok self.new) }
+        ensures refused { Refuses result (read_option word.now self.old) }
+    {
+        if let Some(text) = after(word, "--") {
+            return self.read_long(alloc, text);
+        }
+        match after(word, "-") {
+            Some(letters) => self.read_letters(alloc, letters),
+            None => Err(Stop::Wrong),
+        }
+    }
+
+    fn add_path(&mut self, alloc: Global, word: &str) -> Result<(), Stop>
+        ensures ok { OnOk result (self.new ≡ with_path word.now self.old) }
+        ensures refused { IfErr result (λ e. e ≡ Stop.NoMemory) }
+    {
+        self.bin.binary_paths.add(Text::of(alloc, word)?)?;
+        Ok(())
+    }
+
+    /// A word that is no option.
+    fn read_plain(&mut self, alloc: Global, word: &str) -> Result<(), Stop>
+        ensures ok { OnOk result (read_plain self.old.phase word.now self.old ≡ Ok self.new) }
+        ensures refused { Refuses result (read_plain self.old.phase word.now self.old) }
+    {
+        match (self.phase, word) {
+            (Phase::Before, "audit") => self.phase = Phase::Audit,
+            (Phase::Audit, "fix") => self.phase = Phase::Fix,
+            (Phase::Audit, "bin") => self.phase = Phase::Bin,
+            (Phase::Before | Phase::Audit | Phase::Fix, _) => return Err(Stop::Wrong),
+            (Phase::Bin | Phase::Paths, _) => return self.add_path(alloc, word),
+        }
+        Ok(())
+    }
+
+    fn has_options(&self) -> bool
+        ensures { result ≡ has_options self.now.phase }
+    {
+        match self.phase {
+            Phase::Before | Phase::Audit | Phase::Fix | Phase::Bin => true,
+            Phase::Paths => false,
+        }
+    }
+
+    fn read_fresh(&mut self, alloc: Global, word: &str) -> Result<(), Stop>
+        ensures ok { OnOk result (read_fresh word.now self.old ≡ Ok self.new) }
+        ensures refused { Refuses result (read_fresh word.now self.old) }
+    {
+        if is_option(word) && self.has_options() {
+            self.read_option(alloc, word)
+        } else {
+            self.read_plain(alloc, word)
+        }
+    }
+
+    /// The next word.
+    pub fn read_word(&mut self, alloc: Global, word: &str) -> Result<(), Stop>
+        ensures ok { OnOk result (read_word word.now self.old ≡ Ok self.new) }
+        ensures refused { Refuses result (read_word word.now self.old) }
+    {
+        let Some(meaning) = self.awaited else {
+            return self.read_fresh(alloc, word);
+        };
+        if is_option(word) {
+            return Err(Stop::Missing);
+        }
+        self.awaited = None;
+        self.set_value(alloc, meaning, word)
+    }
+
+    /// The command, where the words end.
+    pub fn finish(self) -> Result<Command, Stop>
+        ensures { result ≡ finish self }
+    {
+        if self.awaited.is_some() {
+            return Err(Stop::Missing);
+        }
+        match self.phase {
+            Phase::Before => Err(Stop::Wrong),
+            Phase::Audit => Ok(Command::Audit(self.audit)),
+            Phase::Fix => Ok(Command::Fix(self.audit, self.fix)),
+            Phase::Bin | Phase::Paths => {
+                if self.bin.binary_paths.as_slice().is_empty() {
+                    Err(Stop::Wrong)
+                } else {
+                    Ok(Command::Bin(self.audit, self.bin))
+                }
+            }
+        }
+    }
+}

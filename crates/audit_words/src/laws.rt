@@ -1,0 +1,49 @@
+//! What holds of the meaning of words.
+ghost use Rattle.std.specs.Prelude.{◌≡◌, ◌≢◌, ℕ, codes, List, [], ◌∷◌, ◌++◌, true, false, Some, None, Ok};
+ghost use Rattle.audit_words.specs.Laws.{CanJoin, IsLettered, IsNamed, drafted, given, is_setting, quieted, set_by, was_quiet};
+ghost use Rattle.audit_words.specs.Reading.{and_then, command_of, is_option, start};
+ghost use Rattle.audit_words.specs.declared.commands.Command.{Command};
+ghost use Rattle.audit_words.specs.declared.drafts.Draft.{Draft};
+ghost use Rattle.audit_words.specs.declared.options.Meaning.{Meaning};
+ghost use Rattle.audit_words.specs.declared.options.Phase.TheVariants.{Audit};
+
+/// The five spellings of a value mean the same: `--x=v`, `--x v`, `-xv`, `-x=v` and `-x v`.
+pub fn spellings_agree()
+    ensures long_equals { (d : Draft) (x v : List ℕ) (m : Meaning) → IsNamed d x m
+        → drafted ((codes "--" ++ (x ++ (codes "=" ++ v))) ∷ []) d ≡ given m v d }
+    ensures long_apart { (d : Draft) (x v : List ℕ) (m : Meaning) → IsNamed d x m
+        → is_option v ≡ false → drafted ((codes "--" ++ x) ∷ v ∷ []) d ≡ given m v d }
+    ensures short_joined { (d : Draft) (x : ℕ) (v : List ℕ) (m : Meaning) → IsLettered d x m
+        → CanJoin v → drafted ((codes "-" ++ x ∷ v) ∷ []) d ≡ given m v d }
+    ensures short_equals { (d : Draft) (x : ℕ) (v : List ℕ) (m : Meaning) → IsLettered d x m
+        → drafted ((codes "-" ++ x ∷ (codes "=" ++ v)) ∷ []) d ≡ given m v d }
+    ensures short_apart { (d : Draft) (x : ℕ) (v : List ℕ) (m : Meaning) → IsLettered d x m
+        → is_option v ≡ false → drafted ((codes "-" ++ x ∷ []) ∷ v ∷ []) d ≡ given m v d }
+{}
+
+/// Words that make the same draft may stand for each other in a list that is accepted.
+pub fn same_drafts_same_command()
+    ensures { (front a b back : List (List ℕ)) (d : Draft) (c : Command)
+        → drafted front start ≡ Ok d → drafted a d ≡ drafted b d
+        → command_of (front ++ (a ++ back)) ≡ Ok c → command_of (front ++ (b ++ back)) ≡ Ok c }
+{}
+
+/// Two different options, each a flag or with its value, set the same in either order, and where one
+/// of them is refused, both orders are.
+pub fn either_order()
+    ensures { (d : Draft) (m n : Meaning) (v w : List ℕ)
+        → is_setting m ≡ true → is_setting n ≡ true → m ≢ n
+        → and_then (set_by n w) (set_by m v d) ≡ and_then (set_by m v) (set_by n w d) }
+{}
+
+/// A list that is accepted and isn't quiet is accepted with `-q` put behind `audit` too, or at any
+/// later place before `fix` or `bin` where no value is awaited: the same command, made quiet.
+pub fn quiet_is_accepted()
+    ensures behind_audit { (back : List (List ℕ)) (c : Command)
+        → command_of (codes "audit" ∷ back) ≡ Ok c → was_quiet c ≡ Some false
+        → command_of (codes "audit" ∷ codes "-q" ∷ back) ≡ Ok (quieted c) }
+    ensures anywhere { (front back : List (List ℕ)) (d : Draft) (c : Command)
+        → drafted front start ≡ Ok d → d.phase ≡ Audit → d.awaited ≡ None
+        → command_of (front ++ back) ≡ Ok c → was_quiet c ≡ Some false
+        → command_of (front ++ (codes "-q" ∷ back)) ≡ Ok (quieted c) }
+{}

@@ -1,0 +1,42 @@
+//! What some lists of words mean, computed.
+ghost use Rattle.std.specs.Prelude.{◌≡◌, codes, [], ◌∷◌, true, Some, None, Ok, Err};
+ghost use Rattle.audit_words.specs.Reading.{command_of, start};
+ghost use Rattle.audit_words.specs.Values.{number};
+ghost use Rattle.audit_words.specs.declared.commands.Command.TheVariants.{Audit, Bin, Fix, Help};
+ghost use Rattle.audit_advisory.specs.declared.outputs.DenyOption.TheVariants.{Yanked};
+ghost use Rattle.audit_words.specs.declared.commands.WordsFault.TheVariants.{Usage};
+
+/// Lists of words that are accepted.
+pub fn accepted()
+    ensures bare { command_of (codes "audit" ∷ []) ≡ Ok (Audit start.audit) }
+    ensures joined { command_of (codes "audit" ∷ codes "-nqDyanked" ∷ [])
+        ≡ Ok (Audit (record start.audit { no_fetch = true; quiet = true; deny = Yanked ∷ [] })) }
+    ensures help_comes_first { command_of (codes "audit" ∷ codes "-qh" ∷ codes "x" ∷ []) ≡ Ok Help }
+    ensures fix { command_of
+        (codes "audit" ∷ codes "-f" ∷ codes "a" ∷ codes "fix" ∷ codes "-f=b" ∷ [])
+        ≡ Ok (Fix (record start.audit { file = Some (codes "a") })
+        (record start.fix { file = Some (codes "b") })) }
+    ensures paths { command_of
+        (codes "audit" ∷ codes "bin" ∷ codes "a" ∷ codes "--" ∷ codes "-h" ∷ [])
+        ≡ Ok (Bin start.audit (record start.bin { binary_paths = codes "a" ∷ codes "-h" ∷ [] })) }
+    ensures largest { number (codes "18446744073709551615") ≡ Some 18446744073709551615 }
+    ensures above { number (codes "18446744073709551616") ≡ None }
+{}
+
+/// Lists of words that are refused, with the place.
+pub fn refused()
+    ensures nothing { command_of [] ≡ Err (Usage 0) }
+    ensures fault_comes_first { command_of (codes "audit" ∷ codes "x" ∷ codes "-h" ∷ [])
+        ≡ Err (Usage 1) }
+    ensures missing_value { command_of (codes "audit" ∷ codes "-f" ∷ codes "-q" ∷ [])
+        ≡ Err (Usage 1) }
+    ensures missing_at_end { command_of (codes "audit" ∷ codes "-q" ∷ codes "--db" ∷ [])
+        ≡ Err (Usage 2) }
+    ensures bad_value { command_of (codes "audit" ∷ codes "-c" ∷ codes "blue" ∷ [])
+        ≡ Err (Usage 2) }
+    ensures bad_joined { command_of (codes "audit" ∷ codes "-c=blue" ∷ []) ≡ Err (Usage 1) }
+    ensures repeated { command_of (codes "audit" ∷ codes "-qq" ∷ []) ≡ Err (Usage 1) }
+    ensures no_paths { command_of (codes "audit" ∷ codes "bin" ∷ []) ≡ Err (Usage 2) }
+    ensures no_version_behind_fix { command_of (codes "audit" ∷ codes "fix" ∷ codes "-V" ∷ [])
+        ≡ Err (Usage 2) }
+{}

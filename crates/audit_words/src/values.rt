@@ -1,0 +1,78 @@
+//! The values of options.
+ghost use Rattle.std.specs.Prelude.{◌≡◌, option_map};
+ghost use Rattle.std.specs.Str.{all_ascii_digits};
+ghost use Rattle.audit_words.specs.Values.{after, color_of, joined_value, name_part, number, unless_empty, without_equals};
+
+use audit_settings::Color;
+
+/// The word that says when output is coloured.
+pub fn color_of(value: &str) -> Option<Color>
+    ensures { result ≡ color_of value.now }
+{
+    match value {
+        "always" => Some(Color::Always),
+        "auto" => Some(Color::Auto),
+        "never" => Some(Color::Never),
+        _ => None,
+    }
+}
+
+/// A text that has a byte at least.
+pub fn unless_empty(value: &str) -> Option<&str>
+    ensures { option_map (λ text. text.now) result ≡ unless_empty value.now }
+{
+    if value.is_empty() { None } else { Some(value) }
+}
+
+/// Whether there are digits alone.
+fn is_digits(bytes: &[u8]) -> bool
+    ensures { result ≡ all_ascii_digits bytes.now }
+{
+    for byte in bytes {
+        if !byte.is_ascii_digit() {
+            return false;
+        }
+    }
+    true
+}
+
+/// The number that digits alone write, where it is at most 2^64 - 1.
+pub fn number(value: &str) -> Option<u64>
+    ensures { result ≡ number value.now }
+{
+    if !is_digits(value.as_bytes()) {
+        return None;
+    }
+    match value.parse::<u64>() {
+        Ok(number) => Some(number),
+        Err(_) => None,
+    }
+}
+
+/// What stands behind a text's beginning.
+pub fn after<'t>(text: &'t str, beginning: &str) -> Option<&'t str>
+    ensures { option_map (λ t. t.now) result ≡ after beginning.now text.now }
+{
+    text.strip_prefix(beginning)
+}
+
+/// A value without the `=` that may stand in front of it.
+pub fn without_equals(value: &str) -> &str
+    ensures { result.now ≡ without_equals value.now }
+{
+    match after(value, "=") {
+        Some(rest) => rest,
+        None => value,
+    }
+}
+
+/// The name before the first `=`, and the value behind it, if there is one.
+pub fn cut_equals(text: &str) -> (&str, Option<&str>)
+    ensures name { result.0.now ≡ name_part text.now }
+    ensures value { option_map (λ v. v.now) result.1 ≡ joined_value text.now }
+{
+    match text.split_once('=') {
+        Some((name, value)) => (name, Some(value)),
+        None => (text, None),
+    }
+}

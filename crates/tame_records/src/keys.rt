@@ -1,0 +1,102 @@
+//! The members of a version and of a dependency, by their keys.
+ghost use Rattle.std.specs.Prelude.{◌≡◌};
+ghost use Rattle.tame_records.specs.Heads.{dependency_key, version_key};
+
+/// What a key means to a version.
+#[derive(Clone, Copy)]
+pub(crate) enum VersionKey {
+    Name,
+    Version,
+    Deps,
+    Checksum,
+    Features,
+    Features2,
+    Yanked,
+    /// One of the members that are a text or null.
+    Text,
+    /// The number of the line's format.
+    Number,
+    /// No member of a version.
+    Other,
+}
+
+/// What a key means to a dependency.
+#[derive(Clone, Copy)]
+pub(crate) enum DependencyKey {
+    Name,
+    Req,
+    Features,
+    Optional,
+    DefaultFeatures,
+    /// One of the members that are a text or null.
+    Text,
+    Kind,
+    /// No member of a dependency.
+    Other,
+}
+
+/// Which required members of a dependency were seen.
+#[derive(Clone, Copy)]
+pub(crate) struct DependencySeen {
+    pub(crate) name: bool,
+    pub(crate) req: bool,
+    pub(crate) features: bool,
+    pub(crate) optional: bool,
+    pub(crate) default_features: bool,
+}
+
+/// The member of a version that has this key.
+pub(crate) fn version_key(key: &[u8]) -> VersionKey
+    ensures { result ≡ version_key key.now }
+{
+    if *key == *b"name".as_slice() {
+        VersionKey::Name
+    } else if *key == *b"vers".as_slice() {
+        VersionKey::Version
+    } else if *key == *b"deps".as_slice() {
+        VersionKey::Deps
+    } else if *key == *b"cksum".as_slice() {
+        VersionKey::Checksum
+    } else if *key == *b"features".as_slice() {
+        VersionKey::Features
+    } else if *key == *b"yanked".as_slice() {
+        VersionKey::Yanked
+    } else if *key == *b"links".as_slice() {
+        VersionKey::Text
+    } else if *key == *b"rust_version".as_slice() {
+        VersionKey::Text
+    } else if *key == *b"pubtime".as_slice() {
+        VersionKey::Text
+    } else if *key == *b"features2".as_slice() {
+        VersionKey::Features2
+    } else if *key == *b"v".as_slice() {
+        VersionKey::Number
+    } else {
+        VersionKey::Other
+    }
+}
+
+/// The member of a dependency that has this key.
+pub(crate) fn dependency_key(key: &[u8]) -> DependencyKey
+    ensures { result ≡ dependency_key key.now }
+{
+    if *key == *b"name".as_slice() {
+        DependencyKey::Name
+    } else if *key == *b"req".as_slice() {
+        DependencyKey::Req
+    } else if *key == *b"features".as_slice() {
+        DependencyKey::Features
+    } else if *key == *b"optional".as_slice() {
+        DependencyKey::Optional
+    } else if *key == *b"default_features".as_slice() {
+        DependencyKey::DefaultFeatures
+    } else if *key == *b"target".as_slice() {
+        DependencyKey::Text
+    } else if *key == *b"package".as_slice() {
+        DependencyKey::Text
+    } else if *key == *b"kind".as_slice() {
+        DependencyKey::Kind
+    } else {
+        DependencyKey::Other
+    }
+}
