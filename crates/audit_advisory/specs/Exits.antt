@@ -1,4 +1,4 @@
--- When an audit fails.
+-- When an audit fails (this project, after cargo-audit).
 use Rattle.std.specs.Prelude.{ℕ, List, length, Bool, true, false, not, ◌&&◌, ◌||◌, ◌==◌}
 use Rattle.std.specs.List.{list_any}
 use Rattle.audit_advisory.specs.Outputs.{warning_kinds_of}

@@ -1,4 +1,4 @@
--- Which packages an advisory hits.
+-- Which packages an advisory hits (RustSec's advisory database; severity by CVSS 3.1, section 5).
 use Rattle.std.specs.Prelude.{◌≡◌, option_map, ℕ, List, length, Bool, true, false, ◌&&◌, ◌||◌, ◌==◌, nat_le, bytes_eq, Option, Some, None, if◌then◌else◌}
 use Rattle.std.specs.List.{list_any}
 use Rattle.std.specs.Result.{result_ok}

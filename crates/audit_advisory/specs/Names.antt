@@ -1,4 +1,4 @@
--- The places of advisories in the order of the names that they are on.
+-- The places of advisories in the order of the names that they are on (this project).
 use Rattle.std.specs.Prelude.{ℕ, List, [], Option, Some, None, Bool, true, false, slice_get, length, ◌≡◌, IsSortedByKey}
 use Rattle.std.specs.List.{filter}
 use Rattle.std.specs.Cmp.Lexicographic.{slice_cmp}

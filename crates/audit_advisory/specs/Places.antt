@@ -1,4 +1,4 @@
--- The items of a list with their places, which count from 0.
+-- The items of a list with their places, which count from 0 (this project).
 use Rattle.std.specs.Prelude.{ℕ, suc, List, [], ◌∷◌, map, Option, Some, None, Bool, false, slice_get}
 use Rattle.std.specs.List.{filter}
 

@@ -1,4 +1,4 @@
--- The report of an audit: a filter over all pairs of a package and an advisory.
+-- The report of an audit: a filter over all pairs of a package and an advisory (this project, after cargo-audit).
 use Rattle.std.specs.Prelude.{ℕ, ◌<◌, List, ◌++◌, length, map, flat_map, All, IfSome, Bool, true, false, not, ◌&&◌, is_none, Option, Some, None}
 use Rattle.std.specs.List.{filter, list_any}
 use Rattle.audit_lock.specs.declared.resolving.Package.{Package}

@@ -118,6 +118,7 @@ turned_others told t old new q (e ∷ es) (h ∷ hs) x other = turned_others tol
 
 -- a turn over the files at the entry and at the exit
 pub record IsWhole (old new : Disk) (e : Exchange) (h : Heard) : Type 0 where
+  pub place : IsIndexPath e.path
   pub path : e.path ≡ h.turn.path
   pub named : NamesKept (reads (old (index_file e.path))) h.turn.disk_before h.turn.disk_asked e.named
   pub answer : IsAnswer (reads (old (index_file e.path))) e.answer h.answer
@@ -135,6 +136,7 @@ paired_from old mid new f (e ∷ es) [] other same x = absurd x
 paired_from old mid new f (e ∷ es) (h ∷ hs) other same x =
     let here : mid (index_file e.path) ≡ old (index_file e.path) = same (index_file e.path) (λ is. other.0 (sym is)) in (
       record {
+        place = x.0.place;
         path = x.0.path;
         named = subst (λ (s : List Step). NamesKept (reads s) h.turn.disk_before h.turn.disk_asked e.named) here x.0.named;
         answer = subst (λ (s : List Step). IsAnswer (reads s) e.answer h.answer) here x.0.answer;
@@ -152,6 +154,7 @@ turned_whole told t old new (e ∷ es) (h ∷ hs) x distinct =
     let turn = x.1 in
     let after : new f ≡ x.0 f = turned_others told t x.0 new f es hs x.2 distinct.0 in (
       record {
+        place = turn.place;
         path = turn.path;
         named = turn.named t;
         answer = turn.exchanged.answer (λ n. t);
@@ -188,4 +191,4 @@ pub all_turned : (old new : Disk) (es : List Exchange) (hs : List Heard) → Pai
 all_turned old new [] [] x = tt
 all_turned old new [] (h ∷ hs) x = absurd x
 all_turned old new (e ∷ es) [] x = absurd x
-all_turned old new (e ∷ es) (h ∷ hs) x = (record { path = x.0.path; named = x.0.named; leaves = x.0.leaves }, all_turned old new es hs x.1)
+all_turned old new (e ∷ es) (h ∷ hs) x = (record { place = x.0.place; path = x.0.path; named = x.0.named; leaves = x.0.leaves }, all_turned old new es hs x.1)

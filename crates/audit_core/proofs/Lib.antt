@@ -1,11 +1,16 @@
+pub mod Agreeing
 pub mod Apart
 pub mod Exchanged
+pub mod Finished
 pub mod HistoryLemmas
 pub mod Lists
 pub mod Names
 pub mod PlanLemmas
+pub mod Recalls
 pub mod Sound
 pub mod Steps
 pub mod Table
 pub mod TakenLemmas
+pub mod Unasked
 pub mod Whole
+pub mod Yanked

@@ -142,7 +142,7 @@ sent_answer body (Err e) a is h = elim is.refused [
   | inr other ↦ h.invalid other.0 (ap Err other.1) ∙ sym (body_wrong body other.2 refl)
 ]
 
-same_answer : (file : File) (taken : Taken) (a : PathAnswer) → IfOk taken (λ o. HandsOut o file) → IfErr taken (λ e. (e ≡ error.NoMemory) ⊎ (e ≡ error.Io io_kind.Failed)) → IsAnswerTaken taken a
+pub same_answer : (file : File) (taken : Taken) (a : PathAnswer) → IfOk taken (λ o. HandsOut o file) → IfErr taken (λ e. (e ≡ error.NoMemory) ⊎ (e ≡ error.Io io_kind.Failed)) → IsAnswerTaken taken a
     → (a ≡ file_answer file) ⊎ (a ≡ Settled cause.Store)
 same_answer file (Ok o) a handed failed h = inl (handed_answer o file a handed (λ e same. h.lines e (ap Ok same)) (λ same. h.absent (ap Ok same)))
 same_answer file (Err e) a handed failed h = elim failed [

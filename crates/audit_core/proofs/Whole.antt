@@ -1,6 +1,7 @@
 -- The audit by its parts.
 use Rattle.std.proofs.Common.{◌≡◌, ◌⊎◌, inl, inr, ℕ, List, [], ◌∷◌, map, Bool, true, false, cond, Option, Some, None, refl, sym, ap, ◌∙◌, subst}
 use Rattle.std.specs.Prelude.{bytes_eq, find}
+use Rattle.tame_names.specs.Names.{path}
 use Rattle.tame_entry.specs.Says.{said_of}
 use Rattle.tame_entry.specs.declared.said.Said.{Said}
 use Rattle.tame_entry.specs.declared.said.Said.TheVariants as says
@@ -57,7 +58,7 @@ turn_case : (b : Bool) (x h : Heard) (o : Option Heard) (t : Option Turn) → (o
 turn_case true x h o t f is = let same : x ≡ h = cc in ap (λ (k : Heard). Some k.turn) same
 turn_case false x h o t f is = f is
 
-turn_found : (q : List ℕ) (hs : List Heard) (h : Heard) → heard_of q hs ≡ Some h → turn_of q (map (λ h. h.turn) hs) ≡ Some h.turn
+pub turn_found : (q : List ℕ) (hs : List Heard) (h : Heard) → heard_of q hs ≡ Some h → turn_of q (map (λ h. h.turn) hs) ≡ Some h.turn
 turn_found q [] h is = cc
 turn_found q (x ∷ hs) h is = turn_case (bytes_eq x.turn.path q) x h _ _ (turn_found q hs h) is
 
@@ -68,6 +69,10 @@ caused_case false x h o mine f is = f is
 caused_of : (q : List ℕ) (hs : List Heard) (h : Heard) → AreCaused hs → heard_of q hs ≡ Some h → IsCaused h
 caused_of q [] h caused is = cc
 caused_of q (x ∷ hs) h caused is = caused_case (bytes_eq x.turn.path q) x h _ caused.0 (caused_of q hs h caused.1) is
+
+-- the turns are those that were planned
+pub heard_paths : (names paths : List (List ℕ)) (hs : List Heard) → map (λ (h : Heard). Some h.turn.path) hs ≡ map path names → map path names ≡ map (λ q. Some q) paths → map (λ (h : Heard). h.turn.path) hs ≡ paths
+heard_paths names paths hs heard named = somes (λ (h : Heard). h.turn.path) hs paths (heard ∙ named)
 
 -- ---- over what the server held
 

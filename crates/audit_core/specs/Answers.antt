@@ -1,4 +1,4 @@
--- What came for a path says of every version of its crate: the table of verdicts, read once for a path.
+-- What came for a path says of every version of its crate: the table of verdicts, read once for a path (Cargo Book, "Registry Index", sparse protocol).
 use Rattle.std.specs.Prelude.{◌≡◌, ◌⊎◌, ℕ, List, map, Bool, ◌==◌, ◌||◌, Option, Some, None, Result, Ok, Err, if◌then◌else◌}
 use Rattle.tame_names.specs.Counts.{Rose}
 use Rattle.tame_names.specs.declared.errors.CacheError.{CacheError}
@@ -61,12 +61,12 @@ IsAnswer file came a = (a ≡ answer_of (file_answer file) came) ⊎ (IsNotModif
 
 -- ---- the table over what the server held
 
--- a held body where it is sent; where nothing is held the crate is absent
+-- a held body where it is sent; where nothing is held an honest server doesn't send 200
 abbrev pub sent_held : Option Held → PathAnswer
 sent_held None = Settled cause.Absent
 sent_held (Some h) = body_answer h.body
 
--- a held body where it is confirmed
+-- a held body where it is confirmed; where nothing is held an honest server doesn't send 304
 abbrev pub kept_held : Option Held → PathAnswer
 kept_held None = Settled cause.Absent
 kept_held (Some h) = Lines (heads_of (lines h.body))

@@ -1,6 +1,7 @@
--- What an audit asked, what it kept, and what it says of the packages.
-use Rattle.std.specs.Prelude.{◌≡◌, ◌≢◌, ℕ, List, [], ◌∷◌, ◌++◌, map, IsTrue, Option, Some, None, IsSomeAnd}
+-- What an audit asked, what it kept, and what it says of the packages (this project).
+use Rattle.std.specs.Prelude.{◌≡◌, ◌≢◌, ℕ, List, [], ◌∷◌, ◌++◌, map, IsTrue, Option, Some, None, IsSomeAnd, Ok}
 use Rattle.tame_names.specs.Counts.{Rose}
+use Rattle.tame_names.specs.Names.{IsIndexPath}
 use Rattle.tame_entry.specs.Held.{ServerMap}
 use Rattle.tame_cache.specs.Disk.{reads}
 use Rattle.tame_cache.specs.Folders.{MakesOnly}
@@ -8,11 +9,20 @@ use Rattle.tame_cache.specs.Kept.{Disk, IsKept}
 use Rattle.tame_sparse.specs.Honest.{AreHonest}
 use Rattle.tame_sparse.specs.Named.{NamesKept}
 use Rattle.tame_sparse.specs.declared.network.Exchange.{Exchange}
+use Rattle.audit_lock.specs.Locked.{locked}
 use Rattle.audit_lock.specs.declared.resolving.Package.{Package}
+use Rattle.audit_advisory.specs.Reports.{IsPlaced}
 use Rattle.audit_core.specs.Paths.{is_among}
+use Rattle.audit_core.specs.Auditors.{audit_exit, audit_report}
+use Rattle.audit_core.specs.Checks.{asked_of, judged_of}
+use Rattle.audit_core.specs.Recalled.{AreUnasked, IsRecalledAt}
 use Rattle.audit_core.specs.Turns.{AreAddressed, Chains, LeavesFile, index_file}
 use Rattle.audit_core.specs.Verdicts.{AreVerdicts, IsCameAt, IsHeldAt, turn_of}
 use Rattle.audit_core.specs.declared.asking.Turn.{Turn}
+use Rattle.audit_core.specs.declared.auditing.Audited.{Audited}
+use Rattle.audit_core.specs.declared.auditors.Auditor.{Auditor}
+use Rattle.audit_core.specs.declared.checking.Checks.{Checks}
+use Rattle.audit_core.specs.declared.checking.Checks.TheVariants.{Online, Offline, Off}
 use Rattle.audit_core.specs.declared.verdicts.Cause.TheVariants as cause
 use Rattle.audit_core.specs.declared.verdicts.Judged.{Judged}
 use Rattle.audit_core.specs.declared.verdicts.Verdict.{Verdict}
@@ -22,6 +32,7 @@ use Rattle.audit_core.specs.declared.verdicts.Verdict.TheVariants.{Unchecked}
 
 -- the request names what the file's revision allows, or nothing; and what its turn leaves of the file stands at the end
 pub record IsTurned (old new : Disk) (e : Exchange) (t : Turn) : Type 0 where
+  pub place : IsIndexPath e.path
   pub path : e.path ≡ t.path
   pub named : NamesKept (reads (old (index_file e.path))) t.disk_before t.disk_asked e.named
   pub leaves : LeavesFile e.answer t.disk_asked t.disk_after (old (index_file e.path)) (new (index_file e.path))
@@ -84,13 +95,32 @@ pub record Moment : Type 0 where
   pub wire_faults : ℕ
   pub disk_faults : ℕ
 
--- what an audit that asks for these paths and judges these packages says from its entry to its exit, where the wire and the disk tell it
-pub record AuditSays (wire_tells disk_tells : Type 0) (entry exit : Moment) (paths : List (List ℕ)) (packages : List (ℕ × Package)) (turns : List Turn) (verdicts : List Judged) : Type 0 where
-  -- over an honest server, and a disk that is kept for what it held, each verdict is the table's over what the server held when asked
-  pub headline : wire_tells → disk_tells → HeldDecides packages entry.exchanges exit.exchanges entry.files turns verdicts
-  -- for every server and every disk: what was asked and named, the verdicts by the table over what came, and what is kept
-  pub audited : wire_tells → AddsAudit disk_tells entry.files exit.files paths packages entry.exchanges exit.exchanges turns verdicts
+-- by the cache alone: nothing is asked, and each verdict is by the file that a read of the path gives
+pub record IsOfCache (told : Type 0) (old : Disk) (packages : List (ℕ × Package)) (turns : List Turn) (verdicts : List Judged) : Type 0 where
+  pub judged : AreVerdicts (IsRecalledAt told (λ q. reads (old (index_file q))) turns) packages verdicts
+  pub unasked : AreUnasked turns
+
+-- what an audit with these checks that asks for these paths and judges these packages says from its entry to its exit, where the wire and the disk tell it
+pub record AuditSays (checks : Checks) (wire_tells disk_tells : Type 0) (entry exit : Moment) (paths : List (List ℕ)) (packages : List (ℕ × Package)) (turns : List Turn) (verdicts : List Judged) : Type 0 where
+  -- online, over an honest server and a disk that is kept for what it held, each verdict is the table's over what the server held when asked
+  pub headline : checks ≡ Online → wire_tells → disk_tells → HeldDecides packages entry.exchanges exit.exchanges entry.files turns verdicts
+  -- online, for every server and every disk: what was asked and named, the verdicts by the table over what came, and what is kept
+  pub audited : checks ≡ Online → wire_tells → AddsAudit disk_tells entry.files exit.files paths packages entry.exchanges exit.exchanges turns verdicts
+  -- offline, for every disk: the verdicts by what it keeps
+  pub recalled : checks ≡ Offline → IsOfCache disk_tells entry.files packages turns verdicts
   -- the counts of the turns go on from the entry to the exit
   pub counted : AreTurns paths entry.wire_faults entry.disk_faults exit.wire_faults exit.disk_faults turns
   -- one fault licenses one turn
   pub caused : Caused packages turns verdicts
+
+-- ---- an audit of a text
+
+-- the audit that an auditor makes of a text from one moment to another: the text's packages, the report and the exit by the auditor's advisories and settings, and what the audit says
+pub record IsAuditOf (auditor : Auditor) (wire_tells disk_tells : Type 0) (began ended : Moment) (text : List ℕ) (audited : Audited) : Type 0 where
+  pub lockfile : locked text ≡ Ok audited.lockfile
+  pub report : audited.report ≡ audit_report auditor audited.lockfile audited.verdicts
+  pub placed : IsPlaced audited.report
+  pub exit : audited.exit ≡ audit_exit auditor audited.report
+  pub says : AuditSays auditor.checks wire_tells disk_tells began ended (asked_of auditor.checks audited.lockfile) (judged_of auditor.checks audited.lockfile) audited.turns audited.verdicts
+  -- where checks are off there is nothing of them
+  pub off : auditor.checks ≡ Off → (audited.verdicts ≡ []) × (audited.turns ≡ [])

@@ -1,4 +1,4 @@
--- Verdicts by what was heard of the paths.
+-- Verdicts by what was heard of the paths (this project).
 use Rattle.std.specs.Prelude.{◌≡◌, ℕ, List, Option, Some, None, bytes_eq, find, IsSomeAnd}
 use Rattle.audit_core.specs.Verdicts.{verdict_by}
 use Rattle.audit_core.specs.declared.asking.Heard.{Heard}

@@ -1,9 +1,14 @@
+pub mod Alike
 pub mod Answers
+pub mod Auditors
 pub mod Audits
+pub mod Checks
 pub mod Heard
 pub mod Histories
+pub mod Opened
 pub mod Paths
 pub mod Plans
+pub mod Recalled
 pub mod Taken
 pub mod Turns
 pub mod Verdicts

@@ -1,4 +1,4 @@
--- Which paths an audit asks for.
+-- Which paths an audit asks for (this project).
 use Rattle.std.specs.Prelude.{ℕ, List, [], ◌∷◌, ◌++◌, Bool, false, bytes_eq, filter, Option, Some, None, if◌then◌else◌}
 use Rattle.std.specs.List.{enumerate_from, filter_map, list_any, position_from}
 use Rattle.tame_names.specs.Names.{path}

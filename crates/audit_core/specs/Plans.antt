@@ -1,4 +1,4 @@
--- The turns of a lockfile's packages, and the paths so far with the place of each.
+-- The turns of a lockfile's packages, and the paths so far with the place of each (this project).
 use Rattle.std.specs.Prelude.{◌≡◌, ℕ, List, [], ◌∷◌, ◌++◌, true, false, map, Option, Some, None, if◌then◌else◌}
 use Rattle.std.specs.BTreeMap.{get_by_text}
 use Rattle.tame_names.specs.Names.{path}
@@ -10,7 +10,7 @@ use Rattle.audit_core.specs.declared.planning.Places.{Places}
 
 -- ---- plans
 
--- a package of another registry has none, one whose name has no path has none, and any other has that of its path
+-- a package of another registry has no turn, one whose name has no path has no turn, and any other has that of its path
 abbrev pub IsPlanned : List (List ℕ) → Package → Planned → Type 0
 IsPlanned paths p Elsewhere = is_default p ≡ false
 IsPlanned paths p Nameless = (is_default p ≡ true) × (path p.name ≡ None)

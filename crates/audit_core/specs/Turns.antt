@@ -1,4 +1,4 @@
--- The turns of an audit: one for each path, one exchange each, their counts chained.
+-- The turns of an audit: one for each path, one exchange each, their counts chained (this project).
 use Rattle.std.specs.Prelude.{◌≡◌, ◌≢◌, ◌≤◌, ℕ, List, [], ◌∷◌, ◌++◌, map, take, IsTrue, Option, Some, IfSome, IsSomeAnd}
 use Rattle.tame_names.specs.Counts.{IsQuiet, Rose}
 use Rattle.tame_names.specs.Names.{IsIndexPath, path}

@@ -1,4 +1,4 @@
--- What an audit says of a package.
+-- What an audit says of a package (this project).
 use Rattle.std.specs.Prelude.{◌≡◌, ℕ, List, [], ◌∷◌, true, false, Option, Some, None, bytes_eq, find, IsSomeAnd}
 use Rattle.tame_names.specs.Names.{path}
 use Rattle.tame_entry.specs.Says.{said_of}

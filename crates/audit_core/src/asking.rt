@@ -115,7 +115,7 @@ fn hear<W: Wire, D: CacheDisk>(
 }
 
 /// The name that a text is.
-fn krate_name(text: &Text) -> KrateName<'_>
+pub fn krate_name(text: &Text) -> KrateName<'_>
     requires { IsTrue (is_name text.now) }
     ensures { text_of result ≡ text.now }
 {

@@ -1,31 +1,37 @@
 //! The audit of a lockfile's text.
-ghost use Rattle.std.specs.Prelude.{◌≡◌, ◌≢◌, ◌≤◌, [], List, codes, map, IfOk, OnErr, Ok, Err};
+ghost use Rattle.std.specs.Prelude.{◌≡◌, ◌≢◌, ◌<◌, [], ℕ, List, All, IfOk, OnErr, Ok, Err};
 ghost use Rattle.audit_lock.specs.Locked.{locked};
-ghost use Rattle.audit_core.specs.Audits.{AuditSays, KeepsOthers, MakesAskedFolders};
-ghost use Rattle.audit_core.specs.Paths.{asked_paths, defaults};
-ghost use Rattle.audit_core.specs.Turns.{AddsPart, KeepsHonest};
 ghost use Rattle.audit_lock.specs.declared.lockfiles.LockfileFault.{LockfileFault};
 ghost use Rattle.audit_lock.specs.declared.resolving.Package.{Package};
+ghost use Rattle.audit_advisory.specs.Reports.{IsPlaced, report_of, with_yanked};
+ghost use Rattle.audit_advisory.specs.declared.faults.AdvisoryFault.{AdvisoryFault};
+ghost use Rattle.audit_core.specs.Auditors.{audit_exit, yanked_in};
 
-use crate::asking::{Heard, Turn, ask};
-use crate::judging::judge;
-use crate::planning::plan_turns;
-use crate::verdicts::Judged;
-use audit_lock::{Lockfile, LockfileFault, Package};
+use crate::asking::Turn;
+use crate::auditors::Auditor;
+use crate::checking::{Checked, check};
+use crate::verdicts::{Judged, Verdict};
+use audit_advisory::{AdvisoryFault, Comparisons, Report};
+use audit_lock::{Lockfile, LockfileFault};
 use std::alloc::Global;
 use tame_cache::CacheDisk;
-use tame_names::{FileLock, Items, NoMemory, Text};
-use tame_sparse::{CRATES_IO_HTTP_INDEX, SparseIndex, Wire};
+use tame_names::{FileLock, Items, NoMemory};
+use tame_sparse::Wire;
 
 /// An audit that was made.
 #[derive(Drop)]
 pub struct Audited {
     pub lockfile: Lockfile,
-    /// One verdict for each package of the default registry, in the lockfile's order.
+    /// What the advisories say of the packages; those that are judged yanked stand behind the other
+    /// warnings.
+    pub report: Report,
+    /// One verdict for each package of the default registry, in the lockfile's order; none where
+    /// checks are off.
     pub verdicts: Items<Judged>,
-    /// One turn for each distinct path of these packages, in the order of their first packages.
+    /// One turn for each distinct path of these packages, in the order of their first packages; none
+    /// where checks are off.
     pub turns: Items<Turn>,
-    /// The status that a build should end with.
+    /// The status that a build should end with: 1 where the audit fails, else 0.
     pub exit: u8,
 }
 
@@ -34,6 +40,8 @@ pub struct Audited {
 pub enum AuditError {
     /// The text is no lockfile, for this reason, which is never want of memory.
     Lockfile(LockfileFault),
+    /// The advisory of this number, from 0, is none, for this reason, which is never want of memory.
+    Advisory { n: usize, fault: AdvisoryFault },
     NoMemory,
 }
 
@@ -47,104 +55,116 @@ impl From<NoMemory> for AuditError {
     }
 }
 
-/// The verdicts and turns of an audit.
-#[derive(Drop)]
-struct Checked {
-    verdicts: Items<Judged>,
-    turns: Items<Turn>,
-}
-
-fn turns_of(alloc: Global, heard: Items<Heard>) -> Result<Items<Turn>, NoMemory>
-    ensures { IfOk result (λ ts. ts ≡ map (λ h. h.turn) heard) }
+/// The places of the packages that are judged yanked.
+fn yanked_places(alloc: Global, verdicts: &[Judged]) -> Result<Items<usize>, NoMemory>
+    ensures { IfOk result (λ places. places ≡ yanked_in verdicts.now) }
 {
-    let mut turns = Items::new(alloc);
-    for h in heard.into_vec() {
-        turns.add(h.turn)?;
+    let mut places = Items::new(alloc);
+    for judged in verdicts {
+        match judged.verdict {
+            Verdict::Yanked => places.add(judged.package)?,
+            Verdict::NotYanked | Verdict::Unchecked(_) => {}
+        }
     }
-    Ok(turns)
+    Ok(places)
 }
 
-/// The sparse index of crates.io, with its cache in the folder `.cache`.
-fn crates_io(alloc: Global) -> Result<SparseIndex, NoMemory>
-    ensures root { IfOk result (λ index. index.cache.path ≡ []) }
-    ensures url { IfOk result (λ index. index.url ≡ codes "sparse+https://index.crates.io/") }
-{
-    match SparseIndex::at(alloc, Text::of(alloc, "")?, CRATES_IO_HTTP_INDEX) {
-        Ok(index) => Ok(index),
-        Err(_) => Err(NoMemory),
+impl Auditor {
+    ghost use Rattle.audit_core.specs.Audits.{IsAuditOf, KeepsOthers, MakesAskedFolders};
+    ghost use Rattle.audit_core.specs.Checks.{asked_of};
+    ghost use Rattle.audit_core.specs.Turns.{AddsPart, KeepsHonest};
+    ghost use Rattle.audit_core.specs.declared.checking.Checks.TheVariants as Checks;
+
+    /// The audit of what was checked, with the report that the advisories gave.
+    fn finish(
+        &self,
+        alloc: Global,
+        lockfile: Lockfile,
+        report: Report,
+        checked: Checked,
+    ) -> Result<Audited, NoMemory>
+        ensures lockfile { IfOk result (λ a. a.lockfile ≡ lockfile) }
+        ensures report { IfOk result (λ a. a.report
+            ≡ with_yanked report (yanked_in checked.verdicts)) }
+        ensures verdicts { IfOk result (λ a. a.verdicts ≡ checked.verdicts) }
+        ensures turns { IfOk result (λ a. a.turns ≡ checked.turns) }
+        ensures placed { IsPlaced report
+            → All (λ place. place < report.dependency_count) (yanked_in checked.verdicts)
+            → IfOk result (λ a. IsPlaced a.report) }
+        ensures exit { IfOk result (λ a. a.exit ≡ audit_exit self.now a.report) }
+    {
+        let mut report = report;
+        let yanked = yanked_places(alloc, checked.verdicts.as_slice())?;
+        report.add_yanked(alloc, yanked.as_slice())?;
+        let failed = self.should_exit_with_failure(alloc, &report)?;
+        Ok(Audited {
+            lockfile,
+            report,
+            verdicts: checked.verdicts,
+            turns: checked.turns,
+            exit: if failed { 1 } else { 0 },
+        })
     }
-}
 
-/// Asks for the packages of the default registry, and judges them.
-fn check<W: Wire, D: CacheDisk>(
-    alloc: Global,
-    packages: &[Package],
-    lock: &FileLock,
-    wire: &mut W,
-    disk: &mut D,
-) -> Result<Checked, NoMemory>
-    ensures says { IfOk result (λ c. AuditSays W.tells D.tells
-        (record { exchanges = W.exchanges wire.old; files = D.past disk.old; wire_faults = W.faults wire.old; disk_faults = D.faults disk.old })
-        (record { exchanges = W.exchanges wire.new; files = D.past disk.new; wire_faults = W.faults wire.new; disk_faults = D.faults disk.new })
-        (asked_paths packages.now) (defaults packages.now) c.turns c.verdicts) }
-    ensures part { W.tells → OnErr result (AddsPart (asked_paths packages.now) (W.exchanges wire.old) (W.exchanges wire.new)) }
-    ensures kept { W.tells → D.tells → KeepsHonest (W.exchanges wire.old) (W.exchanges wire.new) (D.past disk.old) (D.past disk.new) }
-    ensures others { D.tells → KeepsOthers (asked_paths packages.now) (D.past disk.old) (D.past disk.new) }
-    ensures folders { D.tells → MakesAskedFolders (asked_paths packages.now) (D.folders disk.old) (D.folders disk.new) }
-{
-    let index = crates_io(alloc)?;
-    let plan = plan_turns(alloc, packages)?;
-    let heard = ask(alloc, &index, lock, wire, disk, plan.names.as_slice())?;
-    let verdicts = judge(alloc, heard.as_slice(), plan.turns.as_slice(), packages)?;
-    let turns = turns_of(alloc, heard)?;
-    Ok(Checked { verdicts, turns })
-}
+    /// Audits a lockfile's text: what the advisories say of its packages; and, by the auditor's
+    /// checks, one exchange for each distinct path of its packages of the default registry, which
+    /// names what the cache's entry allows and whose body is kept, or a read of the cache alone, or
+    /// neither, and a verdict for each of these packages. `Lockfile` where the text is none.
+    pub fn audit_text<W: Wire, D: CacheDisk>(
+        &self,
+        alloc: Global,
+        text: &str,
+        lock: &FileLock,
+        wire: &mut W,
+        disk: &mut D,
+    ) -> Result<Audited, AuditError>
+        // the packages of the text; the report and the exit by the auditor's advisories and settings; and what the audit says:
+        // online the headline over an honest server and a kept disk, and for every server and every disk what was asked and
+        // named, the verdicts by the table over what came, and what is kept; offline the verdicts by what the cache has;
+        // and counts that go on from the entry to the exit, where one fault licenses one turn
+        ensures audited { IfOk result (IsAuditOf self.now W.tells D.tells
+            (record { exchanges = W.exchanges wire.old; files = D.past disk.old; wire_faults = W.faults wire.old; disk_faults = D.faults disk.old })
+            (record { exchanges = W.exchanges wire.new; files = D.past disk.new; wire_faults = W.faults wire.new; disk_faults = D.faults disk.new })
+            text.now) }
 
-/// Audits a lockfile's text: one exchange for each distinct path of its packages of the default
-/// registry, which names what the cache's entry allows and whose body is kept, and a verdict for
-/// each of these packages.
-pub fn audit_text<W: Wire, D: CacheDisk>(
-    alloc: Global,
-    text: &str,
-    lock: &FileLock,
-    wire: &mut W,
-    disk: &mut D,
-) -> Result<Audited, AuditError>
-    // which packages: those of the text, or why it is no lockfile
-    ensures lockfile { IfOk result (λ a. locked text.now ≡ Ok a.lockfile) }
-    ensures refused { (f : LockfileFault) → result ≡ Err (AuditError.Lockfile f) → locked text.now ≡ Err f }
-    ensures no_memory { result ≢ Err (AuditError.Lockfile LockfileFault.NoMemory) }
-    ensures uncalled { (f : LockfileFault) → locked text.now ≡ Err f → (wire.new ≡ wire.old) × (disk.new ≡ disk.old) }
+        // why there is none: the text is no lockfile, for this reason, and nothing is called; no advisory is to blame
+        ensures refused { (f : LockfileFault) → result ≡ Err (AuditError.Lockfile f) → locked text.now ≡ Err f }
+        ensures no_memory { result ≢ Err (AuditError.Lockfile LockfileFault.NoMemory) }
+        ensures no_advisory { (n : ℕ) (f : AdvisoryFault) → result ≢ Err (AuditError.Advisory n f) }
+        ensures uncalled { (f : LockfileFault) → locked text.now ≡ Err f → (wire.new ≡ wire.old) × (disk.new ≡ disk.old) }
 
-    // what the audit says: the headline over an honest server and a kept disk; for every server and every disk what was asked and named,
-    // the verdicts by the table over what came, and what is kept; counts that go on from the entry to the exit, where one fault licenses one turn
-    ensures says { IfOk result (λ a. AuditSays W.tells D.tells
-        (record { exchanges = W.exchanges wire.old; files = D.past disk.old; wire_faults = W.faults wire.old; disk_faults = D.faults disk.old })
-        (record { exchanges = W.exchanges wire.new; files = D.past disk.new; wire_faults = W.faults wire.new; disk_faults = D.faults disk.new })
-        (asked_paths a.lockfile) (defaults a.lockfile) a.turns a.verdicts) }
+        // whatever the answer, a kept disk is kept at every moment where the exchanges were honest
+        ensures kept { W.tells → D.tells → KeepsHonest (W.exchanges wire.old) (W.exchanges wire.new) (D.past disk.old) (D.past disk.new) }
 
-    // whatever the answer, a kept disk is kept at every moment where the exchanges were honest
-    ensures kept { W.tells → D.tells → KeepsHonest (W.exchanges wire.old) (W.exchanges wire.new) (D.past disk.old) (D.past disk.new) }
+        // whatever the answer, a part of the paths was asked for, from the front
+        ensures part { W.tells → (packages : List Package) → locked text.now ≡ Ok packages
+            → AddsPart (asked_of self.now.checks packages) (W.exchanges wire.old) (W.exchanges wire.new) }
 
-    // where memory runs out, a part of the paths was asked for
-    ensures part { W.tells → (packages : List Package) → locked text.now ≡ Ok packages
-        → OnErr result (AddsPart (asked_paths packages) (W.exchanges wire.old) (W.exchanges wire.new)) }
+        // whatever the answer, no file changes that is that of no path that is asked for, and no folders are made but those above such files
+        ensures others { D.tells → (packages : List Package) → locked text.now ≡ Ok packages
+            → KeepsOthers (asked_of self.now.checks packages) (D.past disk.old) (D.past disk.new) }
+        ensures folders { D.tells → (packages : List Package) → locked text.now ≡ Ok packages
+            → MakesAskedFolders (asked_of self.now.checks packages) (D.folders disk.old) (D.folders disk.new) }
 
-    // whatever the answer, no file changes that is that of no path that is asked for, and no folders are made but those above such files
-    ensures others { D.tells → (packages : List Package) → locked text.now ≡ Ok packages → KeepsOthers (asked_paths packages) (D.past disk.old) (D.past disk.new) }
-    ensures folders { D.tells → (packages : List Package) → locked text.now ≡ Ok packages → MakesAskedFolders (asked_paths packages) (D.folders disk.old) (D.folders disk.new) }
-    ensures exit { IfOk result (λ a. a.exit ≡ 0) }
-{
-    let lockfile = match Lockfile::read(alloc, text) {
-        Ok(lockfile) => lockfile,
-        Err(LockfileFault::NoMemory) => return Err(AuditError::NoMemory),
-        Err(fault) => return Err(AuditError::Lockfile(fault)),
-    };
-    let checked = check(alloc, lockfile.packages(), lock, wire, disk)?;
-    Ok(Audited {
-        lockfile,
-        verdicts: checked.verdicts,
-        turns: checked.turns,
-        exit: 0,
-    })
+        // whatever the answer, the wire isn't called but online, and then alone a file may change; where checks are off the disk isn't called
+        ensures unasked { self.now.checks ≢ Checks.Online → wire.new ≡ wire.old }
+        ensures unchanged { self.now.checks ≢ Checks.Online → D.tells → (q : List ℕ) → D.past disk.new q ≡ D.past disk.old q }
+        ensures off { self.now.checks ≡ Checks.Off → disk.new ≡ disk.old }
+    {
+        let lockfile = match Lockfile::read(alloc, text) {
+            Ok(lockfile) => lockfile,
+            Err(LockfileFault::NoMemory) => return Err(AuditError::NoMemory),
+            Err(fault) => return Err(AuditError::Lockfile(fault)),
+        };
+        let mut count = Comparisons { made: 0 };
+        let report = Report::generate(
+            alloc,
+            &self.database,
+            &lockfile,
+            &self.settings,
+            &mut count,
+        )?;
+        let checked = check(alloc, self.checks, lockfile.packages(), lock, wire, disk)?;
+        Ok(self.finish(alloc, lockfile, report, checked)?)
+    }
 }

@@ -1,11 +1,31 @@
-//! The law of histories.
-ghost use Rattle.std.specs.Prelude.{[]};
+//! Laws of audits.
+ghost use Rattle.std.specs.Prelude.{◌≡◌, [], ℕ, List};
 ghost use Rattle.tame_entry.specs.Held.{ServerMap};
 ghost use Rattle.tame_cache.specs.Kept.{Disk, IsKept};
+ghost use Rattle.tame_sparse.specs.declared.network.Exchange.{Exchange};
+ghost use Rattle.audit_core.specs.Alike.{AreAllAlike, IsSoundAudit};
+ghost use Rattle.audit_core.specs.Audits.{Moment};
 ghost use Rattle.audit_core.specs.Histories.{AuditHistory};
+ghost use Rattle.audit_core.specs.declared.auditing.Audited.{Audited};
+ghost use Rattle.audit_core.specs.declared.auditors.Auditor.{Auditor};
+ghost use Rattle.audit_core.specs.declared.checking.Checks.TheVariants as Checks;
 
 /// In every history of audits and crashes that begins without files, and whose exchanges are
 /// honest for a map of what a server held, the disk is kept for that map after each step.
 pub fn audit_histories_keep()
     ensures { (m : ServerMap) (began now : Disk) → AuditHistory m began now → IsKept m [] now }
+{}
+
+/// Whether a body is sent or only confirmed changes nothing: two online audits of one text by one
+/// auditor over servers that held the same, one of which answers 200 or 304 where the other answers
+/// 200, and as the other elsewhere, have equal verdicts, reports and exits.
+pub fn cached_audits_agree()
+    ensures { (auditor : Auditor) (text : List ℕ) (began ended began_too ended_too : Moment)
+        (added added_too : List Exchange) (audited audited_too : Audited)
+        → auditor.checks ≡ Checks.Online
+        → IsSoundAudit auditor began ended added text audited
+        → IsSoundAudit auditor began_too ended_too added_too text audited_too
+        → AreAllAlike added added_too
+        → (audited.verdicts ≡ audited_too.verdicts) × (audited.report ≡ audited_too.report)
+        × (audited.exit ≡ audited_too.exit) }
 {}

@@ -12,9 +12,9 @@ use tame_names::{Items, KrateName, NoMemory, Text};
 /// The turn of a package.
 #[derive(Clone, Copy, Debug, PartialEq, Eq)]
 pub enum Planned {
-    /// None: the package isn't of the default registry.
+    /// No turn: the package isn't of the default registry.
     Elsewhere,
-    /// None: the package's name isn't the name of a crate.
+    /// No turn: the package's name isn't the name of a crate.
     Nameless,
     /// The turn at this place, from 0.
     Turn(usize),

@@ -1,7 +1,10 @@
 //! Calls on the host. One that a signal interrupts is made again.
-use std::fs::{self, Metadata, OpenFile, OpenOptions};
+use std::alloc::Global;
+use std::env;
+use std::fs::{self, Metadata, OpenFile, OpenOptions, ReadDir};
 use std::io::{self, ErrorKind, Read, Seek, SeekFrom, Write};
-use std::rt::Files;
+use std::path::PathBuf;
+use std::rt::{Env, Files};
 
 /// What a call answers that isn't interrupted.
 macro_rules! again {
@@ -37,6 +40,19 @@ pub fn make_folder<R: Files>(rt: &R, place: &str) -> io::Result<()> {
 
 pub fn open<R: Files>(rt: &R, how: &OpenOptions, place: &str) -> io::Result<R::File> {
     again!(how.open(rt, place))
+}
+
+/// The folder at a place, where a link there leads, opened to be listed.
+pub fn open_folder<'a, R: Files + AllocGlobal>(
+    rt: &'a R,
+    place: &str,
+) -> io::Result<ReadDir<&'a R, Global>> {
+    again!(fs::read_dir(&rt, place))
+}
+
+/// The path of the current folder.
+pub fn current_path<R: Env + AllocGlobal>(rt: &R) -> io::Result<PathBuf> {
+    again!(env::current_dir(rt))
 }
 
 /// The next byte of a file; none at its end.

@@ -6,10 +6,12 @@ mod cache_disk;
 mod cache_folder;
 mod calls;
 mod folders;
+mod listings;
 mod mirror;
 mod reading;
 mod std_files;
 mod std_sink;
+mod surroundings;
 
 pub use cache_disk::FileCacheDisk;
 pub use cache_folder::CACHE_LIMIT;

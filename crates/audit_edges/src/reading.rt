@@ -1,5 +1,5 @@
 //! Files read within a limit.
-ghost use Rattle.std.specs.Prelude.{IfOk};
+ghost use Rattle.std.specs.Prelude.{◌≢◌, IfOk};
 ghost use Rattle.audit_edges.specs.Reading.{IsAbove};
 
 use crate::calls::{look_through, open};
@@ -28,7 +28,8 @@ pub fn is_absent(kind: ErrorKind) -> bool {
 
 /// The bytes of a reader, or that they are more than the limit.
 pub fn read_within<R: Read>(alloc: Global, reader: &mut R, limit: u64) -> io::Result<ReadAnswer>
-    ensures { IfOk result (IsAbove limit) }
+    ensures above { IfOk result (IsAbove limit) }
+    ensures there { IfOk result (λ answer. answer ≢ ReadAnswer.Absent) }
 {
     let mut bytes = Vec::new(alloc);
     let mut buffer = [0u8; 8192];
@@ -51,7 +52,7 @@ pub fn read_within<R: Read>(alloc: Global, reader: &mut R, limit: u64) -> io::Re
 }
 
 /// The path without slashes at its end; one that is nothing but slashes stays.
-fn without_last_slashes(path: &str) -> &str {
+pub fn without_last_slashes(path: &str) -> &str {
     let rest = path.trim_end_matches('/');
     if rest.is_empty() { path } else { rest }
 }

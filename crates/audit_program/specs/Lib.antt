@@ -1,3 +1,5 @@
 pub mod Causes
+pub mod FaultLines
+pub mod Outputs
 pub mod Printed
-pub mod Words
+pub mod Runs

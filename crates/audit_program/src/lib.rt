@@ -1,9 +1,15 @@
-//! The program: from its words, the files of the host and a server's answers to printed verdicts.
+//! The program: from its words, the host, and a server's answers to what is printed, a status and
+//! an updated cache.
 #![tactic(auto)]
 
-mod opening;
+mod auditing;
+mod ending;
+mod fault_lines;
+mod judged_lines;
+mod outputs;
 mod printing;
 mod running;
-mod words;
 
-pub use running::{LOCKFILE_LIMIT, Outcome, RunFault, run};
+pub use audit_asked::RunFault;
+pub use ending::Outcome;
+pub use running::run;

@@ -1,21 +1,15 @@
 //! Rows that the definitions compute: each clause is an equation whose left side is a definition
 //! at written values.
-ghost use Rattle.std.specs.Prelude.{◌≡◌, [], ◌∷◌, codes, Some, Ok, Err};
+ghost use Rattle.std.specs.Prelude.{◌≡◌, [], codes, Some, None};
+ghost use Rattle.audit_asked.specs.declared.faults.RunFault.TheVariants as fault;
 ghost use Rattle.audit_core.specs.declared.verdicts.Cause.TheVariants as cause;
 ghost use Rattle.audit_core.specs.declared.verdicts.Verdict.TheVariants.{NotYanked, Unchecked, Yanked};
-ghost use Rattle.audit_program.specs.Causes.{fault_status};
+ghost use Rattle.audit_lock.specs.declared.listed.LockRule.TheVariants as rule;
+ghost use Rattle.audit_lock.specs.declared.lockfiles.LockfileFault.TheVariants as lockfile_fault;
+ghost use Rattle.audit_program.specs.Causes.{status_of};
+ghost use Rattle.audit_program.specs.FaultLines.{fault_line};
 ghost use Rattle.audit_program.specs.Printed.{verdict_word};
-ghost use Rattle.audit_program.specs.Words.{command};
-ghost use Rattle.audit_program.specs.declared.running.RunFault.TheVariants as fault;
-
-/// The words of the command.
-pub fn words()
-    ensures path { command (codes "audit" ∷ codes "--verdicts" ∷ codes "-f" ∷ codes "Cargo.lock" ∷ []) ≡ Ok (codes "Cargo.lock") }
-    ensures none { command [] ≡ Err 0 }
-    ensures alone { command (codes "audit" ∷ []) ≡ Err 1 }
-    ensures pathless { command (codes "audit" ∷ codes "--verdicts" ∷ codes "-f" ∷ []) ≡ Err 2 }
-    ensures more { command (codes "audit" ∷ codes "--verdicts" ∷ codes "-f" ∷ codes "Cargo.lock" ∷ codes "-q" ∷ []) ≡ Err 4 }
-{}
+ghost use Rattle.audit_settings.specs.declared.configs.SettingsFault.TheVariants as settings_fault;
 
 /// The words of verdicts, and the statuses of faults.
 pub fn verdicts()
@@ -23,6 +17,25 @@ pub fn verdicts()
     ensures not_yanked { verdict_word NotYanked ≡ codes "not yanked" }
     ensures json_lines { verdict_word (Unchecked cause.JsonLines) ≡ codes "unchecked json-lines" }
     ensures store { verdict_word (Unchecked cause.Store) ≡ codes "unchecked store" }
-    ensures fault { fault_status (Some fault.Print) ≡ 2 }
-    ensures memory { fault_status (Some fault.NoMemory) ≡ 3 }
+    ensures fault { status_of (Some fault.Print) None ≡ 2 }
+    ensures memory { status_of (Some fault.NoMemory) None ≡ 3 }
+    ensures none { status_of None None ≡ 0 }
+{}
+
+/// The lines of faults.
+pub fn faults()
+    ensures missing { fault_line [] (fault.Missing (codes "db"))
+        ≡ codes "error: db isn't there\n" }
+    ensures file { fault_line [] (fault.File (codes "cargo home"))
+        ≡ codes "error: I/O error: cargo home\n" }
+    ensures float { fault_line [] (fault.Settings settings_fault.Float)
+        ≡ codes "error: config error: a float\n" }
+    ensures key { fault_line [] (fault.Settings (settings_fault.Unknown (codes "x")))
+        ≡ codes "error: config error: unknown key x\n" }
+    ensures version { fault_line (codes "L") (fault.Lockfile (lockfile_fault.Rule None rule.Version))
+        ≡ codes "error: version error: couldn't load L: rule version\n" }
+    ensures toml { fault_line (codes "L") (fault.Lockfile lockfile_fault.Toml)
+        ≡ codes "error: parse error: couldn't load L: invalid TOML\n" }
+    ensures print { fault_line [] fault.Print ≡ codes "error: I/O error: output\n" }
+    ensures memory { fault_line [] fault.NoMemory ≡ codes "error: out of memory\n" }
 {}

@@ -1,4 +1,5 @@
 //! The edges of one run of a program over recorded files, and what they answer.
+use crate::asked::{asked, really_asked};
 use crate::host::Host;
 use crate::texts::{meant, shown};
 use audit_edges::{FileCacheDisk, MirrorWire, StdFiles, StdSink};
@@ -6,7 +7,7 @@ use std::fs::{self, OpenOptions};
 use std::io::{self, ErrorKind};
 use tame_cache::{CacheDisk, CacheFault, DiskReadFault, IndexCache, Kept, Peek};
 use tame_entry::{CacheWrite, HttpRevision, IndexEntry, JsonLines, OwnedRevision, Revision};
-use tame_names::{FileFault, FileLock, Files, KrateName, NoMemory, ReadAnswer, Sink, Text};
+use tame_names::{FileLock, KrateName, NoMemory, Sink, Text};
 use tame_sparse::{Request, Wire, WireAnswer, WireFault, crates_io_request};
 
 /// The edges of one run.
@@ -18,7 +19,7 @@ pub struct Edges<'a> {
     files: StdFiles<'a, Host<'a>>,
 }
 
-fn wrong(word: &str) -> io::Error {
+pub fn wrong(word: &str) -> io::Error {
     match word {
         "" => io::Error::from(ErrorKind::InvalidInput),
         _ => io::Error::from(ErrorKind::InvalidData),
@@ -33,7 +34,7 @@ fn made<T>(made: Result<T, NoMemory>) -> io::Result<T> {
     }
 }
 
-fn number(word: &str) -> io::Result<u64> {
+pub fn number(word: &str) -> io::Result<u64> {
     match word.parse::<u64>() {
         Ok(number) => Ok(number),
         Err(_) => Err(wrong(word)),
@@ -190,19 +191,6 @@ impl<'a> Edges<'a> {
         }
     }
 
-    /// A file of the host, up to a limit.
-    fn text(&mut self, rest: &str) -> io::Result<String> {
-        let (path, limit) = first_word(rest);
-        let alloc = self.host.alloc();
-        match self.files.read(alloc, path, number(limit)?) {
-            Ok(ReadAnswer::Absent) => self.said("absent"),
-            Ok(ReadAnswer::Whole(bytes)) => Ok(shown(alloc, bytes.as_slice())?),
-            Ok(ReadAnswer::Over(len)) => Ok(format!(in alloc; "over, {len}")?),
-            Err(FileFault::NoMemory) => self.said("no memory"),
-            Err(FileFault::Failed) => self.fault(self.files.file_faults()),
-        }
-    }
-
     /// Puts a text into the file `elsewhere/out`, opened to be written or to be read.
     fn put(&mut self, text: &str, is_open: bool) -> io::Result<String> {
         let mut how = OpenOptions::new();
@@ -233,10 +221,10 @@ impl<'a> Edges<'a> {
             "store" => self.store(rest),
             "entry" => entry(self.host.rt, rest),
             "ask" => self.ask(rest),
-            "text" => self.text(rest),
             "put" => self.put(rest, true),
             "put-closed" => self.put(rest, false),
-            _ => Err(wrong(word)),
+            "real" => really_asked(self.host.rt, rest),
+            _ => asked(&mut self.files, self.host.alloc(), line),
         }
     }
 }

@@ -52,7 +52,7 @@ pub struct Host<'a> {
 
 impl<'a> Host<'a> {
     /// Counts a call, tells it, and fails where it is the one that is meant.
-    fn call(&self, name: &str, path: &str) -> io::Result<()> {
+    pub fn call(&self, name: &str, path: &str) -> io::Result<()> {
         let number = self.plan.made.get().saturating_add(1);
         self.plan.made.set(number);
         if number == self.plan.turns_at.get() {
@@ -109,10 +109,18 @@ pub struct HostFile<'a> {
     host: Host<'a>,
 }
 
+/// An open folder of the host. Whether its first read fails was recorded as it was opened. In the
+/// names that are read from it each `~` is the byte 255, so that some aren't UTF-8.
+#[derive(Drop)]
+pub struct HostFolder {
+    names: <HostRuntime as Files>::Dir,
+    fails: Option<io::Error>,
+}
+
 impl<'a> Files for Host<'a> {
     type File = HostFile<'a>;
 
-    type Dir = <HostRuntime as Files>::Dir;
+    type Dir = HostFolder;
 
     fn open_file(&self, how: &OpenOptions, path: &str) -> io::Result<HostFile<'a>> {
         let name = if how.asks_create_new() {
@@ -126,9 +134,12 @@ impl<'a> Files for Host<'a> {
         self.uncounted(how, path)
     }
 
-    fn open_dir(&self, path: &str) -> io::Result<<HostRuntime as Files>::Dir> {
+    fn open_dir(&self, path: &str) -> io::Result<HostFolder> {
         self.call("list", path)?;
-        self.rt.open_dir(path)
+        Ok(HostFolder {
+            names: self.rt.open_dir(path)?,
+            fails: self.call("read the folder", path).err(),
+        })
     }
 
     fn metadata(&self, path: &str) -> io::Result<Metadata> {
@@ -176,6 +187,21 @@ impl<'a> Read for HostFile<'a> {
     fn read(&mut self, buf: &mut [u8]) -> io::Result<usize> {
         self.host.call("read", self.path.as_str())?;
         self.file.read(buf)
+    }
+}
+
+impl Read for HostFolder {
+    fn read(&mut self, buf: &mut [u8]) -> io::Result<usize> {
+        if let Some(error) = self.fails.take() {
+            return Err(error);
+        }
+        let count = self.names.read(buf)?;
+        for byte in buf.iter_mut() {
+            if *byte == b'~' {
+                *byte = 255;
+            }
+        }
+        Ok(count)
     }
 }
 

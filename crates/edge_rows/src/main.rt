@@ -6,8 +6,16 @@
 //!
 //! Calls on the edges: `peek`, `read`, `folders`, `write PATH AT TEXT`, `cut PATH LENGTH`, `sync`
 //! on the cache, `store NAME TAG LINE` and `entry NAME` by the cache's own write and read;
-//! `ask PATH` and `ask PATH naming TAG` on the mirror; `text PATH LIMIT` on the host's files;
-//! `put TEXT` and `put-closed TEXT` on an output. `fault N` is a fault, with the edge's count.
+//! `ask PATH` and `ask PATH naming TAG` on the mirror; `text PATH LIMIT`, `list PATH` and
+//! `kind PATH` on the host's files, `input LIMIT` on its input, `env NAME` on its environment,
+//! `here` on its current folder; `put TEXT` and `put-closed TEXT` on an output. `fault N` is a
+//! fault, with the edge's count. After `real` the host is the system itself, for `list`, `kind`,
+//! `env` and `kind-here`, which tells what is at the path of the current folder.
+//!
+//! The host's input is the file `elsewhere/input`, its variables are the files of the folder
+//! `variables`, and its current folder is told by the file `elsewhere/current`, if there is one.
+//! In a name that is listed `~` stands for the byte 255. Of the calls that read the entries of a
+//! folder, or the input, the first alone is recorded.
 //!
 //! Before a call: `calls` lists its calls on the system; `fails N` lets the Nth of them fail;
 //! `each-fails` and `each-interrupted` make the call as often as it has such calls, from the state
@@ -15,9 +23,11 @@
 //! `each-turned` puts the folder `next` into the mirror's place before each of them in turn.
 #![tactic(auto)]
 
+mod asked;
 mod edges;
 mod host;
 mod script;
+mod surroundings;
 mod texts;
 
 use crate::host::{Host, Plan};

@@ -8,7 +8,7 @@ use std::os::unix::fs::symlink;
 use std::path::Path;
 
 /// The folders that a case may fill.
-const FOLDERS: [&str; 5] = ["cache", "mirror", "next", "past", "elsewhere"];
+const FOLDERS: [&str; 6] = ["cache", "mirror", "next", "past", "elsewhere", "variables"];
 
 /// A case that is played.
 #[derive(Drop)]

@@ -2,7 +2,7 @@
 use crate::faults::RowFault;
 use std::alloc::{AllocError, Global};
 use tame_cache::MemCacheDisk;
-use tame_names::{Items, MemFile, MemFiles, Text};
+use tame_names::{EnvValue, Items, Listed, MemFile, MemFiles, MemNode, MemVariable, Text};
 use tame_sparse::{CRATES_IO_HTTP_INDEX, SparseIndex};
 
 /// The cache file of the crate `a`.
@@ -47,10 +47,64 @@ pub fn files_with(
     if let Some((path, bytes)) = file {
         there.add(MemFile {
             path: Text::of(alloc, path)?,
-            bytes: Items::copied(alloc, bytes)?,
+            node: MemNode::File(Items::copied(alloc, bytes)?),
         })?;
     }
     Ok(MemFiles::new(alloc, there, Items::of(failing)))
+}
+
+/// What stands at a path.
+#[derive(Drop)]
+pub struct Laid {
+    pub path: String,
+    pub node: LaidNode,
+}
+
+/// A file by its bytes, or a folder by the names in it; a name that ends with `/` is a folder's.
+#[derive(Drop)]
+pub enum LaidNode {
+    File(Vec<u8>),
+    Folder(Vec<String>),
+}
+
+fn listed(alloc: Global, names: &[String]) -> Result<Items<Listed>, RowFault> {
+    let mut entries = Items::new(alloc);
+    for name in names {
+        let (name, file) = match name.as_str().strip_suffix('/') {
+            Some(folder) => (folder, false),
+            None => (name.as_str(), true),
+        };
+        let name = Some(Text::of(alloc, name)?);
+        entries.add(Listed { name, file })?;
+    }
+    Ok(entries)
+}
+
+/// A host where all of these stand, and these variables; the calls with these numbers fail, counted
+/// from 1.
+pub fn host_with(
+    alloc: Global,
+    laid: &[Laid],
+    variables: &[(String, String)],
+    failing: Vec<u64>,
+) -> Result<MemFiles, RowFault> {
+    let mut there = Items::new(alloc);
+    for one in laid {
+        let node = match &one.node {
+            LaidNode::File(bytes) => MemNode::File(Items::copied(alloc, bytes.as_slice())?),
+            LaidNode::Folder(names) => MemNode::Folder(listed(alloc, names.as_slice())?),
+        };
+        let path = Text::of(alloc, one.path.as_str())?;
+        there.add(MemFile { path, node })?;
+    }
+    let mut environment = Items::new(alloc);
+    for (name, value) in variables {
+        environment.add(MemVariable {
+            name: Text::of(alloc, name.as_str())?,
+            value: EnvValue::Value(Text::of(alloc, value.as_str())?),
+        })?;
+    }
+    Ok(MemFiles::new(alloc, there, Items::of(failing)).with_variables(environment))
 }
 
 /// The sparse index of crates.io, with its cache below a folder.

@@ -12,7 +12,8 @@ mod rows;
 pub use escapes::{plain_bytes, plain_text, shown, shown_word};
 pub use faults::{RowFault, answered, told};
 pub use hosts::{
-    FLAGGED_FILE, crashed, crates_io_index, disk_failing, disk_with, files_with, numbers, stop,
+    FLAGGED_FILE, Laid, LaidNode, crashed, crates_io_index, disk_failing, disk_with, files_with,
+    host_with, numbers, stop,
 };
 pub use index_lines::{
     DIGEST, body_of, entry_of, flagged_body, flagged_entry, index_line, lockfile_of,

@@ -42,10 +42,11 @@ impl<'l> LockedMmap<'l> {
         path: &str,
         lock: &'l FileLock,
     ) -> Result<LockedMmap<'l>, Error>
-        ensures read { F.tells → IsMapped (F.stands files.old path.now) result }
-        ensures failed { result ≡ Err (Error.Io IoKind.Failed) → Rose (F.faults files.old) (F.faults files.new) }
+        ensures read { F.tells → IsMapped ((F.host files.old).stands path.now) result }
+        ensures failed { result ≡ Err (Error.Io IoKind.Failed)
+            → Rose (F.faults files.old) (F.faults files.new) }
         ensures later { F.faults files.old ≤ F.faults files.new }
-        ensures same { F.tells → (q : List ℕ) → F.stands files.new q ≡ F.stands files.old q }
+        ensures same { F.tells → F.host files.new ≡ F.host files.old }
     {
         match files.read(alloc, path, u64::MAX) {
             Ok(ReadAnswer::Whole(bytes)) => Ok(LockedMmap { bytes, lock }),

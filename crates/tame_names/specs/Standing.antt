@@ -1,17 +1,36 @@
--- What stands at a path of the host, and what a read of it may answer.
-use Rattle.std.specs.Prelude.{◌≡◌, ◌≤◌, ◌<◌, ℕ, List, [], ◌∷◌, ◌++◌, length, Option, Result, Ok, Err}
+-- What a host has: what stands at its paths, its input, its environment and its current folder; and what calls on it may answer (this project).
+use Rattle.std.specs.Prelude.{◌≡◌, ◌≤◌, ◌<◌, ℕ, List, [], ◌∷◌, ◌++◌, length, Option, Some, None, Result, Ok, Err}
+use Rattle.tame_names.specs.declared.host.EnvValue.{EnvValue}
 use Rattle.tame_names.specs.declared.host.FailedCall.{FailedCall}
 use Rattle.tame_names.specs.declared.host.FileCall.{FileCall}
 use Rattle.tame_names.specs.declared.host.FileFault.{FileFault}
 use Rattle.tame_names.specs.declared.host.FileFault.TheVariants as file_fault
+use Rattle.tame_names.specs.declared.host.Listed.{Listed}
+use Rattle.tame_names.specs.declared.host.PathKind.{PathKind}
+use Rattle.tame_names.specs.declared.host.PathKind.TheVariants as kind
 use Rattle.tame_names.specs.declared.host.ReadAnswer.{ReadAnswer}
 use Rattle.tame_names.specs.declared.host.ReadAnswer.TheVariants as answer
 
+-- ---- what a host has
+
+-- what stands at a path: nothing, a file with its bytes, a folder with its entries, or another thing
 pub data Standing : Type 0 where
   Nothing : Standing
   File : (bytes : List ℕ) → Standing
-  Folder : Standing
+  Folder : (entries : List Listed) → Standing
   Other : Standing
+
+pub record Host : Type 0 where
+  -- what stands at each path
+  pub stands : List ℕ → Standing
+  -- the bytes of standard input
+  pub input : List ℕ
+  -- the value of each variable of the environment
+  pub environment : List ℕ → EnvValue
+  -- the path of the current folder
+  pub current : List ℕ
+
+-- ---- what calls answer
 
 -- absent exactly where nothing is there, whole exactly where a file within the limit is, over exactly where a longer one is, with its length
 abbrev pub Reads : Standing → ℕ → Result ReadAnswer FileFault → Type 0
@@ -25,7 +44,24 @@ abbrev pub IsAboveLimit : ℕ → Result ReadAnswer FileFault → Type 0
 IsAboveLimit limit (Ok (answer.Over n)) = limit < n
 IsAboveLimit limit _ = Unit {0}
 
--- a call that failed is added to the list of failed calls
+-- the entries of a folder; nothing where no folder is
+abbrev pub listing : Standing → Option (List Listed)
+listing (Folder entries) = Some entries
+listing _ = None
+
+abbrev pub kind_of : Standing → PathKind
+kind_of Nothing = kind.Absent
+kind_of (File bytes) = kind.File
+kind_of (Folder entries) = kind.Folder
+kind_of Other = kind.Other
+
+-- ---- calls that failed
+
+-- a call that failed is added to the list of failed calls; want of memory is no failure
+abbrev pub with_fault : List FailedCall → FileCall → Option (List ℕ) → FileFault → List FailedCall
+with_fault before call path file_fault.Failed = before ++ record { call = call; path = path } ∷ []
+with_fault before call path file_fault.NoMemory = before
+
 abbrev pub failed_calls : {T : Type 0} → List FailedCall → FileCall → Option (List ℕ) → Result T FileFault → List FailedCall
-failed_calls before call path (Err file_fault.Failed) = before ++ record { call = call; path = path } ∷ []
-failed_calls before call path _ = before
+failed_calls before call path (Err fault) = with_fault before call path fault
+failed_calls before call path (Ok a) = before

@@ -20,10 +20,10 @@ pub use errors::{
     CacheError, Error, FileLockError, HttpError, InvalidJsonLines, InvalidKrateName, InvalidUrl,
     InvalidUrlError, IoKind, LocalRegistryError, LockError, NoMemory, ReservedNameKind,
 };
-pub use host::{FailedCall, FileCall, FileFault, Files, ReadAnswer};
+pub use host::{EnvValue, FailedCall, FileCall, FileFault, Files, Listed, PathKind, ReadAnswer};
 pub use lists::Items;
 pub use locks::{FileLock, LockState};
-pub use memory_files::{MemFile, MemFiles};
+pub use memory_files::{MemFile, MemFiles, MemNode, MemVariable};
 pub use memory_sink::MemSink;
 pub use names::KrateName;
 pub use output::{Sink, SinkFault, put_counted};

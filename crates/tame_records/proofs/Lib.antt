@@ -12,3 +12,4 @@ pub mod HeadForms
 pub mod DependencyKeys
 pub mod VersionKeys
 pub mod QuickLex
+pub mod QuickNumbers

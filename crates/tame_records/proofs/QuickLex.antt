@@ -4,19 +4,16 @@ use Rattle.std.specs.Prelude.{IfSome, ◌-◌, ◌≤◌, length}
 use Rattle.std.specs.List.{prefix_len}
 use Rattle.std.proofs.lemmas.List.{drop-drop, drop_all}
 use Rattle.std.proofs.lemmas.Bool.{eqb-true, or_parts}
-use Rattle.json.specs.Token.{Token, begin_object, end_object, begin_array, end_array, key, string, number, boolean, null}
+use Rattle.json.specs.Token.{Token, begin_object, end_object, begin_array, end_array, key, string, boolean, null}
 use Rattle.json.specs.Run.{is_plain, is_stop}
 use Rattle.json.specs.Text.{content, plain, short_escape}
 use Rattle.json.specs.Word.{ends_word, is_operator, is_space, word}
 use Rattle.json.specs.Lex.{Lexeme, token, colon, quote, backslash, operator, space, other, lex_byte, lex, Mode, between, in_word, in_string, Place, fresh, after_value, after_comma, after_key, begins_colon, may_begin, punctuate}
-use Rattle.json.specs.Word.{after_number}
-use Rattle.serde_json.specs.Data.{Data, Members, number as numeral, put, unsigned, boolean as flag, null as nothing, string as text}
-use Rattle.serde_json.specs.Read.{number_of}
+use Rattle.serde_json.specs.Data.{Data, Members, put, boolean as flag, null as nothing, string as text}
 use Rattle.serde_json.specs.Written.{has_float}
-use Rattle.serde_json.proofs.OnLiterals.{serde_json_on_literals}
 use Rattle.tame_records.specs.Quick.{HasText, TakesAt, TextAt, ValueAt, ends, left}
 use Rattle.tame_records.specs.Heads.{AreMembers, IsValue}
-use Rattle.tame_records.proofs.HeadTokens.{deeper, flag_taken, members_end, members_more, null_taken, number_taken, text_taken}
+use Rattle.tame_records.proofs.HeadTokens.{deeper, flag_taken, members_end, members_more, null_taken, text_taken}
 
 -- ---- texts
 
@@ -78,8 +75,8 @@ text_lexed xs s ys h = rw (h.0, h.1) refl
 
 -- ---- a comma or a closing bracket
 
-record EndsWell (r : List ℕ) : Type 0 where
-  whole : lex in_word r ≡ lex between r
+pub record EndsWell (r : List ℕ) : Type 0 where
+  pub whole : lex in_word r ≡ lex between r
   ended : ends_word r ≡ true
   no_colon : begins_colon (lex between r) ≡ false
 
@@ -95,7 +92,7 @@ at_bracket : (xs : List ℕ) → EndsWell (93 ∷ xs)
 unfolding lex
 at_bracket xs = record { whole = refl; ended = refl; no_colon = refl }
 
-ends_well : (r : List ℕ) → ends r ≡ true → EndsWell r
+pub ends_well : (r : List ℕ) → ends r ≡ true → EndsWell r
 ends_well [] h = absurd (cc)
 ends_well (x ∷ xs) h = go (x == 44) (x == 125) (x == 93) refl refl refl h
   where
@@ -324,86 +321,7 @@ pub none_left : (bytes : List ℕ) (n : ℕ) → length bytes ≤ n → left byt
 unfolding lex punctuate
 none_left bytes n h = ap (λ (xs : List ℕ). punctuate after_value (lex between xs)) (drop_all n bytes h)
 
--- ---- the numbers 1 and 2
-
-number_placed : (p : Place) (s : List ℕ) (ls : List Lexeme) → may_begin p ≡ true → punctuate p (token (number s) ∷ ls) ≡ number s ∷ punctuate after_value ls
-unfolding punctuate
-number_placed fresh s ls m = refl
-number_placed after_value s ls m = absurd (cc)
-number_placed after_comma s ls m = refl
-number_placed after_key s ls m = absurd (cc)
-
-word_49_comma : (xs : List ℕ) → word (49 ∷ 44 ∷ xs) ≡ number (49 ∷ [])
-unfolding word after_number
-word_49_comma xs = let one : length (49 ∷ 44 ∷ xs) - length (44 ∷ xs) ≡ 1 = omega arith in rw one refl
-
-word_49_brace : (xs : List ℕ) → word (49 ∷ 125 ∷ xs) ≡ number (49 ∷ [])
-unfolding word after_number
-word_49_brace xs = let one : length (49 ∷ 125 ∷ xs) - length (125 ∷ xs) ≡ 1 = omega arith in rw one refl
-
-word_49_bracket : (xs : List ℕ) → word (49 ∷ 93 ∷ xs) ≡ number (49 ∷ [])
-unfolding word after_number
-word_49_bracket xs = let one : length (49 ∷ 93 ∷ xs) - length (93 ∷ xs) ≡ 1 = omega arith in rw one refl
-
-word_49 : (r : List ℕ) → ends r ≡ true → word (49 ∷ r) ≡ number (49 ∷ [])
-word_49 [] h = absurd (cc)
-word_49 (x ∷ xs) h = go (x == 44) (x == 125) (x == 93) refl refl refl h
-  where
-    go : (a b c : Bool) → (x == 44) ≡ a → (x == 125) ≡ b → (x == 93) ≡ c → (a || b || c) ≡ true → word (49 ∷ x ∷ xs) ≡ number (49 ∷ [])
-    go true b c ea eb ec t = subst (λ (y : ℕ). word (49 ∷ y ∷ xs) ≡ number (49 ∷ [])) (sym (eqb-true x 44 ea)) (word_49_comma xs)
-    go false true c ea eb ec t = subst (λ (y : ℕ). word (49 ∷ y ∷ xs) ≡ number (49 ∷ [])) (sym (eqb-true x 125 eb)) (word_49_brace xs)
-    go false false true ea eb ec t = subst (λ (y : ℕ). word (49 ∷ y ∷ xs) ≡ number (49 ∷ [])) (sym (eqb-true x 93 ec)) (word_49_bracket xs)
-    go false false false ea eb ec t = absurd (cc)
-
-digit_lexed_49 : (r : List ℕ) → ends r ≡ true → EndsWell r → lex between (49 ∷ r) ≡ token (number (49 ∷ [])) ∷ lex between r
-unfolding lex
-digit_lexed_49 r h w = rw (word_49 r h, w.whole) refl
-
-number_49 : number_of (49 ∷ []) ≡ Some (unsigned 1)
-unfolding serde_json_on_literals
-number_49 = refl
-
-pub small_at_49 : (bytes : List ℕ) (at : ℕ) → get_or bytes at 0 ≡ 49 → ValueAt 0 bytes at (numeral (unsigned 1)) (at + 1)
-small_at_49 bytes at is = λ p m closes.
-    number_taken (left bytes p at) (left bytes after_value (at + 1)) (49 ∷ []) (unsigned 1)
-    (ap (λ (xs : List ℕ). punctuate p (lex between xs)) (next_byte bytes at 49 is (omega arith)) ∙ ap (punctuate p) (digit_lexed_49 (drop (at + 1) bytes) closes (ends_well (drop (at + 1) bytes) closes)) ∙ number_placed p (49 ∷ []) (lex between (drop (at + 1) bytes)) m)
-    number_49 refl
-
-word_50_comma : (xs : List ℕ) → word (50 ∷ 44 ∷ xs) ≡ number (50 ∷ [])
-unfolding word after_number
-word_50_comma xs = let one : length (50 ∷ 44 ∷ xs) - length (44 ∷ xs) ≡ 1 = omega arith in rw one refl
-
-word_50_brace : (xs : List ℕ) → word (50 ∷ 125 ∷ xs) ≡ number (50 ∷ [])
-unfolding word after_number
-word_50_brace xs = let one : length (50 ∷ 125 ∷ xs) - length (125 ∷ xs) ≡ 1 = omega arith in rw one refl
-
-word_50_bracket : (xs : List ℕ) → word (50 ∷ 93 ∷ xs) ≡ number (50 ∷ [])
-unfolding word after_number
-word_50_bracket xs = let one : length (50 ∷ 93 ∷ xs) - length (93 ∷ xs) ≡ 1 = omega arith in rw one refl
-
-word_50 : (r : List ℕ) → ends r ≡ true → word (50 ∷ r) ≡ number (50 ∷ [])
-word_50 [] h = absurd (cc)
-word_50 (x ∷ xs) h = go (x == 44) (x == 125) (x == 93) refl refl refl h
-  where
-    go : (a b c : Bool) → (x == 44) ≡ a → (x == 125) ≡ b → (x == 93) ≡ c → (a || b || c) ≡ true → word (50 ∷ x ∷ xs) ≡ number (50 ∷ [])
-    go true b c ea eb ec t = subst (λ (y : ℕ). word (50 ∷ y ∷ xs) ≡ number (50 ∷ [])) (sym (eqb-true x 44 ea)) (word_50_comma xs)
-    go false true c ea eb ec t = subst (λ (y : ℕ). word (50 ∷ y ∷ xs) ≡ number (50 ∷ [])) (sym (eqb-true x 125 eb)) (word_50_brace xs)
-    go false false true ea eb ec t = subst (λ (y : ℕ). word (50 ∷ y ∷ xs) ≡ number (50 ∷ [])) (sym (eqb-true x 93 ec)) (word_50_bracket xs)
-    go false false false ea eb ec t = absurd (cc)
-
-digit_lexed_50 : (r : List ℕ) → ends r ≡ true → EndsWell r → lex between (50 ∷ r) ≡ token (number (50 ∷ [])) ∷ lex between r
-unfolding lex
-digit_lexed_50 r h w = rw (word_50 r h, w.whole) refl
-
-number_50 : number_of (50 ∷ []) ≡ Some (unsigned 2)
-unfolding serde_json_on_literals
-number_50 = refl
-
-pub small_at_50 : (bytes : List ℕ) (at : ℕ) → get_or bytes at 0 ≡ 50 → ValueAt 0 bytes at (numeral (unsigned 2)) (at + 1)
-small_at_50 bytes at is = λ p m closes.
-    number_taken (left bytes p at) (left bytes after_value (at + 1)) (50 ∷ []) (unsigned 2)
-    (ap (λ (xs : List ℕ). punctuate p (lex between xs)) (next_byte bytes at 50 is (omega arith)) ∙ ap (punctuate p) (digit_lexed_50 (drop (at + 1) bytes) closes (ends_well (drop (at + 1) bytes) closes)) ∙ number_placed p (50 ∷ []) (lex between (drop (at + 1) bytes)) m)
-    number_50 refl
+-- ---- deeper
 
 pub deeper_at : (bytes : List ℕ) (at m n e : ℕ) (d : Data) → m ≤ n → ValueAt m bytes at d e → ValueAt n bytes at d e
 deeper_at bytes at m n e d le v = λ p b closes. deeper m n (left bytes p at) (left bytes after_value e) d le (v p b closes)

@@ -7,7 +7,7 @@ use crate::versions::{IndexVersion, LineFault, VersionHead};
 use std::alloc::Global;
 use tame_names::{NoMemory, Text};
 
-/// The same by the record itself, whatever the form of the line.
+/// Version and flag by the record itself, whatever the form of the line.
 fn record_head(alloc: Global, line: &[u8]) -> Result<Option<VersionHead>, NoMemory>
     ensures { IfOk result (λ head. head ≡ option_map head_of (record_of line.now)) }
 {

@@ -40,10 +40,11 @@ impl IndexKrate {
     /// The versions in the index file at a path; `Io(NotFound)` where nothing is there,
     /// `Io(Failed)` where it can't be read, else as `from_slice`.
     pub fn new<F: Files>(alloc: Global, files: &mut F, path: &str) -> Result<IndexKrate, Error>
-        ensures read { F.tells → IsReadAt (F.stands files.old path.now) result }
-        ensures failed { result ≡ Err (Error.Io IoKind.Failed) → Rose (F.faults files.old) (F.faults files.new) }
+        ensures read { F.tells → IsReadAt ((F.host files.old).stands path.now) result }
+        ensures failed { result ≡ Err (Error.Io IoKind.Failed)
+            → Rose (F.faults files.old) (F.faults files.new) }
         ensures later { F.faults files.old ≤ F.faults files.new }
-        ensures same { F.tells → (q : List ℕ) → F.stands files.new q ≡ F.stands files.old q }
+        ensures same { F.tells → F.host files.new ≡ F.host files.old }
     {
         match files.read(alloc, path, u64::MAX) {
             Ok(ReadAnswer::Whole(bytes)) => IndexKrate::from_slice(alloc, bytes.as_slice()),

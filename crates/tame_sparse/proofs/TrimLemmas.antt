@@ -1,9 +1,9 @@
 -- A revision of honest text is named as it is.
-use Rattle.std.proofs.Common.{◌≡◌, ℕ, zero, suc, ◌<◌, ◌≤◌, lit<, List, [], ◌∷◌, ◌++◌, Bool, true, false, not, cond, length, Option, Some, None, IsTrue, refl, sym, ap, ◌∙◌, arith}
-use Rattle.std.specs.Prelude.{◌==◌, ◌&&◌, ◌||◌, nat_le, nat_lt}
+use Rattle.std.proofs.Common.{◌≡◌, ℕ, zero, suc, ◌<◌, ◌≤◌, lit<, List, [], ◌∷◌, ◌++◌, Bool, true, false, not, cond, length, Some, IsTrue, refl, ap, ◌∙◌, arith}
+use Rattle.std.specs.Prelude.{◌==◌, ◌&&◌, nat_le}
 use Rattle.std.specs.Char.{is_whitespace}
 use Rattle.std.specs.List.{list_all}
-use Rattle.std.specs.Str.{IsAscii, chars, drop_trailing_whitespace, encode_utf8_all, skip_leading_whitespace, trim, trim_end, trim_start}
+use Rattle.std.specs.Str.{IsAscii, drop_trailing_whitespace, encode_utf8_all, skip_leading_whitespace, trim, trim_end, trim_start}
 use Rattle.std.proofs.lemmas.Bool.Decides.{nat_tests}
 use Rattle.std.proofs.lemmas.Str.{chars-IsAscii, encode_ascii}
 use Rattle.http_header.specs.FieldValue.{is_visible_text}
@@ -12,7 +12,7 @@ use Rattle.tame_names.specs.Pieces.{ends_with}
 use Rattle.tame_entry.specs.Revision.{is_honest_text, revision_text}
 use Rattle.tame_entry.specs.declared.revisions.OwnedRevision.{OwnedRevision}
 use Rattle.tame_entry.specs.declared.revisions.OwnedRevision.TheVariants.{Etag, LastModified}
-use Rattle.tame_sparse.specs.Named.{if_visible, named_http}
+use Rattle.tame_sparse.specs.Named.{named_http}
 
 -- each byte is one of 32 to 126
 abbrev Printed : List ℕ → Type 0

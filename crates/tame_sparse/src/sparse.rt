@@ -65,10 +65,12 @@ impl SparseIndex {
     /// `IoPath(NotFound)` where nothing is there, `IoPath(Failed)` where it can't be read, and
     /// `Json` of line 0 where it is no configuration.
     pub fn index_config<F: Files>(&self, alloc: Global, files: &mut F) -> Result<IndexConfig, Error>
-        ensures read { IsConfigRead F.tells (config_file self.now.cache.path) (F.stands files.old (config_file self.now.cache.path)) result }
-        ensures failed { (p : List ℕ) → result ≡ Err (Error.IoPath IoKind.Failed p) → Rose (F.faults files.old) (F.faults files.new) }
+        ensures read { IsConfigRead F.tells (config_file self.now.cache.path)
+            ((F.host files.old).stands (config_file self.now.cache.path)) result }
+        ensures failed { (p : List ℕ) → result ≡ Err (Error.IoPath IoKind.Failed p)
+            → Rose (F.faults files.old) (F.faults files.new) }
         ensures later { F.faults files.old ≤ F.faults files.new }
-        ensures same { F.tells → (q : List ℕ) → F.stands files.new q ≡ F.stands files.old q }
+        ensures same { F.tells → F.host files.new ≡ F.host files.old }
     {
         let path = join(alloc, self.cache.path(), "config.json")?;
         match files.read(alloc, path.as_str(), u64::MAX) {

@@ -1,9 +1,10 @@
 //! Runs of the command, each as one line.
 use crate::scripts::scripted;
 use crate::stage::Stage;
+use audit_asked::MemRunner;
 use audit_core::{Audited, Judged, Turn};
 use audit_program::{Outcome, run};
-use row_fixtures::{Row, RowFault, files_with, owned_text, shown};
+use row_fixtures::{Row, RowFault, host_with, owned_text, shown};
 use std::alloc::{AllocError, Global};
 use std::mem;
 use tame_cache::{CacheDisk, MemCacheDisk};
@@ -15,44 +16,87 @@ use tame_sparse::{Exchange, MemWire};
 pub struct Ran {
     pub outcome: Outcome,
     pub files: MemFiles,
+    pub runner: MemRunner,
     pub wire: MemWire,
     pub out: MemSink,
     pub err: MemSink,
 }
 
+/// The outside of a run.
+#[derive(Drop)]
+struct Outside {
+    files: MemFiles,
+    runner: MemRunner,
+    wire: MemWire,
+    out: MemSink,
+    err: MemSink,
+}
+
 /// The command over a host.
-fn command(
-    alloc: Global,
-    words: &[String],
-    mut files: MemFiles,
-    mut wire: MemWire,
-    mut out: MemSink,
-    disk: &mut MemCacheDisk,
-) -> Ran {
+fn command(alloc: Global, words: &[String], outside: Outside, disk: &mut MemCacheDisk) -> Ran {
     let lock = FileLock::unlocked();
-    let mut err = MemSink::new(alloc, Items::new(alloc));
+    let Outside {
+        mut files,
+        mut runner,
+        mut wire,
+        mut out,
+        mut err,
+    } = outside;
     let outcome = run(
-        alloc, words, &mut files, &lock, &mut wire, disk, &mut out, &mut err,
+        alloc,
+        words,
+        &mut files,
+        &mut runner,
+        &lock,
+        &mut wire,
+        disk,
+        &mut out,
+        &mut err,
     );
     Ran {
         outcome,
         files,
+        runner,
         wire,
         out,
         err,
     }
 }
 
+/// The status as a program can end with it, at most 255.
+fn exit_of(status: u64) -> i32 {
+    if status < 256 { status as i32 } else { 255 }
+}
+
+/// A runner whose starts end with these statuses.
+fn runner_of(alloc: Global, statuses: &[u64]) -> Result<MemRunner, RowFault> {
+    let mut ends = Items::new(alloc);
+    for status in statuses {
+        ends.add(Some(exit_of(*status)))?;
+    }
+    Ok(MemRunner::new(alloc, ends))
+}
+
 /// The command over the stage; its answers and the numbers of calls that fail are used up.
 pub fn ran_over(alloc: Global, stage: &mut Stage, words: &[String]) -> Result<Ran, RowFault> {
     let script = mem::replace(&mut stage.script, Items::new(alloc));
-    let reads = mem::replace(&mut stage.reads, Vec::new(alloc));
+    let calls = mem::replace(&mut stage.calls, Vec::new(alloc));
     let puts = mem::replace(&mut stage.puts, Vec::new(alloc));
-    let file = (stage.path.as_str(), stage.bytes.as_slice());
-    let files = files_with(alloc, Some(file), reads)?;
-    let wire = MemWire::new(alloc, script);
-    let out = MemSink::new(alloc, Items::of(puts));
-    Ok(command(alloc, words, files, wire, out, &mut stage.disk))
+    let errors = mem::replace(&mut stage.errors, Vec::new(alloc));
+    let statuses = mem::replace(&mut stage.statuses, Vec::new(alloc));
+    let outside = Outside {
+        files: host_with(
+            alloc,
+            stage.laid.as_slice(),
+            stage.variables.as_slice(),
+            calls,
+        )?,
+        runner: runner_of(alloc, statuses.as_slice())?,
+        wire: MemWire::new(alloc, script),
+        out: MemSink::new(alloc, Items::of(puts)),
+        err: MemSink::new(alloc, Items::of(errors)),
+    };
+    Ok(command(alloc, words, outside, &mut stage.disk))
 }
 
 /// The words that are divided by blanks.
@@ -91,10 +135,18 @@ fn push_asked(alloc: Global, out: &mut String, ran: &Ran) -> Result<(), RowFault
     Ok(())
 }
 
-/// Adds the audit: its exit, its verdicts, and its turns with their counts of faults.
+/// Adds the audit: its exit, how many vulnerabilities and warnings it has, its verdicts, and its
+/// turns with their counts of faults.
 fn push_audited(out: &mut String, audited: &Audited) -> Result<(), AllocError> {
     let exit = audited.exit;
-    write!(out, "; audited {exit}")?;
+    let (found, warned) = (
+        audited.report.vulnerabilities.as_slice().len(),
+        audited.report.warnings.as_slice().len(),
+    );
+    write!(
+        out,
+        "; audited {exit}, {found} found, {warned} warned of; verdicts"
+    )?;
     for judged in audited.verdicts.as_slice() {
         push_judged(out, judged)?;
     }
@@ -105,25 +157,24 @@ fn push_audited(out: &mut String, audited: &Audited) -> Result<(), AllocError> {
     Ok(())
 }
 
-/// Adds the fault, and how many reads failed.
+/// Adds the fault, how many calls on the host's files failed, and how many programs were started.
 fn push_fault(out: &mut String, ran: &Ran) -> Result<(), AllocError> {
     match &ran.outcome.fault {
         None => out.push_str("; no fault")?,
         Some(fault) => write!(out, "; {fault:?}")?,
     }
     let failed = ran.files.failed().len();
-    write!(out, "; {failed} failed reads")
+    let started = ran.runner.starts().len();
+    write!(out, "; {failed} failed calls, {started} starts")
 }
 
-/// A run as a line: its status, its output, what was asked and named, the audit, the fault, and
-/// how many calls of the disk have failed.
+/// A run as a line: its status, its output and errors, what was asked and named, the audit, the
+/// fault, and how many calls of the disk have failed.
 fn told(alloc: Global, ran: &Ran, disk: &MemCacheDisk) -> Result<String, RowFault> {
     let status = ran.outcome.status;
     let printed = shown(alloc, ran.out.bytes())?;
-    let mut out = format!(in alloc; "{status} [{printed}]")?;
-    if !ran.err.bytes().is_empty() {
-        out.push_str("; and errors")?;
-    }
+    let errors = shown(alloc, ran.err.bytes())?;
+    let mut out = format!(in alloc; "{status} [{printed}] [{errors}]")?;
     push_asked(alloc, &mut out, ran)?;
     match &ran.outcome.audited {
         Some(audited) => push_audited(&mut out, audited)?,

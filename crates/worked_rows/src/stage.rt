@@ -1,8 +1,8 @@
 //! The host of runs: a lockfile, a server's answers, a disk, and which calls fail.
 use crate::scripts::scripted;
 use row_fixtures::{
-    Row, RowFault, crashed, crates_io_index, disk_failing, disk_with, flagged_entry, lockfile_of,
-    plain_bytes, stop,
+    Laid, LaidNode, Row, RowFault, crashed, crates_io_index, disk_failing, disk_with,
+    flagged_entry, lockfile_of, plain_bytes, stop,
 };
 use std::alloc::Global;
 use std::mem;
@@ -15,14 +15,19 @@ use tame_sparse::{Scripted, SparseIndex};
 pub struct Stage {
     /// The sparse index of crates.io.
     pub index: SparseIndex,
-    /// The path of the one file that stands, and its bytes.
-    pub path: String,
-    pub bytes: Vec<u8>,
+    /// What stands; of paths that are equal the first counts.
+    pub laid: Vec<Laid>,
+    /// The variables of the environment.
+    pub variables: Vec<(String, String)>,
+    /// The statuses of the starts of the next run.
+    pub statuses: Vec<u64>,
     /// The server's answers to the next run.
     pub script: Items<Scripted>,
-    /// The reads and the puts of the next run that fail, counted from 1.
-    pub reads: Vec<u64>,
+    /// The calls on the host's files, and the puts on out and on err of the next run that fail,
+    /// counted from 1.
+    pub calls: Vec<u64>,
     pub puts: Vec<u64>,
+    pub errors: Vec<u64>,
     /// The disk of the cache.
     pub disk: MemCacheDisk,
 }
@@ -36,19 +41,21 @@ impl Stage {
     pub fn new(alloc: Global) -> Result<Stage, RowFault> {
         Ok(Stage {
             index: crates_io_index(alloc, "")?,
-            path: String::new(alloc),
-            bytes: Vec::new(alloc),
+            laid: Vec::new(alloc),
+            variables: Vec::new(alloc),
+            statuses: Vec::new(alloc),
             script: Items::new(alloc),
-            reads: Vec::new(alloc),
+            calls: Vec::new(alloc),
             puts: Vec::new(alloc),
+            errors: Vec::new(alloc),
             disk: disk_failing(alloc, Vec::new(alloc)),
         })
     }
 
     /// An empty disk, and a lockfile of version 0.1.0 of the crate `a`.
     pub fn lock_one(&mut self, alloc: Global) -> Result<(), RowFault> {
-        self.path = String::from_str(alloc, "Cargo.lock")?;
-        self.bytes = lockfile_of(alloc, "a@0.1.0")?.into_bytes();
+        let bytes = lockfile_of(alloc, "a@0.1.0")?.into_bytes();
+        self.lay(alloc, "Cargo.lock", LaidNode::File(bytes))?;
         self.disk = disk_failing(alloc, Vec::new(alloc));
         Ok(())
     }
@@ -97,25 +104,76 @@ impl Stage {
         done(alloc)
     }
 
-    /// `lock NAME@VERSION ..`: a lockfile of packages of the default registry at `Cargo.lock`.
+    /// This alone stands.
+    fn lay(&mut self, alloc: Global, path: &str, node: LaidNode) -> Result<(), RowFault> {
+        self.laid = Vec::new(alloc);
+        let path = String::from_str(alloc, path)?;
+        Ok(self.laid.push(Laid { path, node })?)
+    }
+
+    /// `lock NAME@VERSION ..`: a lockfile of packages of the default registry at `Cargo.lock`, and
+    /// nothing else.
     pub fn lay_lockfile(&mut self, alloc: Global, words: Row<'_>) -> Result<String, RowFault> {
-        self.path = String::from_str(alloc, "Cargo.lock")?;
-        self.bytes = lockfile_of(alloc, words.rest())?.into_bytes();
+        let bytes = lockfile_of(alloc, words.rest())?.into_bytes();
+        self.lay(alloc, "Cargo.lock", LaidNode::File(bytes))?;
         done(alloc)
     }
 
-    /// `stand PATH BYTES`: the file that stands.
+    /// `stand PATH BYTES`: the file that stands, and nothing else.
     pub fn lay_file(&mut self, alloc: Global, mut words: Row<'_>) -> Result<String, RowFault> {
-        self.path = words.text(alloc)?;
-        self.bytes = words.bytes(alloc)?;
+        let path = words.text(alloc)?;
+        let bytes = words.bytes(alloc)?;
+        self.lay(alloc, path.as_str(), LaidNode::File(bytes))?;
         done(alloc)
     }
 
-    /// `| LINE`: adds a line to the file that stands.
+    /// `also PATH BYTES`: a file that stands too.
+    pub fn lay_more(&mut self, alloc: Global, mut words: Row<'_>) -> Result<String, RowFault> {
+        let path = words.text(alloc)?;
+        let node = LaidNode::File(words.bytes(alloc)?);
+        self.laid.push(Laid { path, node })?;
+        done(alloc)
+    }
+
+    /// `folder PATH NAME ..`: a folder with these entries; a name that ends with `/` is a folder's.
+    pub fn lay_folder(&mut self, alloc: Global, mut words: Row<'_>) -> Result<String, RowFault> {
+        let path = words.text(alloc)?;
+        let mut names = Vec::new(alloc);
+        for name in words.rest().split(' ') {
+            names.push(String::from_str(alloc, name)?)?;
+        }
+        let node = LaidNode::Folder(names);
+        self.laid.push(Laid { path, node })?;
+        done(alloc)
+    }
+
+    /// `| LINE`: adds a line to the last file that stands.
     pub fn add_line(&mut self, alloc: Global, words: Row<'_>) -> Result<String, RowFault> {
         let line = plain_bytes(alloc, words.rest())?;
-        self.bytes.extend_from_slice(line.as_slice())?;
-        self.bytes.push(b'\n')?;
+        if let Some(
+            Laid {
+                node: LaidNode::File(bytes),
+                ..
+            },
+        ) = self.laid.last_mut()
+        {
+            bytes.extend_from_slice(line.as_slice())?;
+            bytes.push(b'\n')?;
+        }
+        done(alloc)
+    }
+
+    /// `env NAME VALUE`: a variable of the environment.
+    pub fn set(&mut self, alloc: Global, mut words: Row<'_>) -> Result<String, RowFault> {
+        let name = words.text(alloc)?;
+        let value = words.text(alloc)?;
+        self.variables.push((name, value))?;
+        done(alloc)
+    }
+
+    /// `statuses NUMBERS`: what the starts of the next run end with.
+    pub fn end_with(&mut self, alloc: Global, mut words: Row<'_>) -> Result<String, RowFault> {
+        self.statuses = words.numbers(alloc)?;
         done(alloc)
     }
 
@@ -126,9 +184,15 @@ impl Stage {
         done(alloc)
     }
 
-    /// `reads NUMBERS`: the reads of the next run that fail.
-    pub fn fail_reads(&mut self, alloc: Global, mut words: Row<'_>) -> Result<String, RowFault> {
-        self.reads = words.numbers(alloc)?;
+    /// `calls NUMBERS`: the calls on the host's files of the next run that fail.
+    pub fn fail_calls(&mut self, alloc: Global, mut words: Row<'_>) -> Result<String, RowFault> {
+        self.calls = words.numbers(alloc)?;
+        done(alloc)
+    }
+
+    /// `errors NUMBERS`: the puts on err of the next run that fail.
+    pub fn fail_errors(&mut self, alloc: Global, mut words: Row<'_>) -> Result<String, RowFault> {
+        self.errors = words.numbers(alloc)?;
         done(alloc)
     }
 

@@ -1,6 +1,6 @@
 use Rattle.std.proofs.Common.{◌≡◌, get_or, refl, arith}
 use Rattle.serde_json.specs.Data.{number, unsigned}
-use Rattle.tame_records.proofs.QuickLex.{small_at_49, small_at_50}
+use Rattle.tame_records.proofs.QuickNumbers.{small_at_49, small_at_50}
 use Rattle.tame_records.proofs.quick_values.small_end.Goals as goal
 
 pub returns-then-first-eq49-clause-value : goal.returns-then-first-eq49-clause-value

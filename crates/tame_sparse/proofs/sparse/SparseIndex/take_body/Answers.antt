@@ -1,4 +1,4 @@
-use Rattle.std.proofs.Common.{◌≡◌, map, refl, sym, ap, subst}
+use Rattle.std.proofs.Common.{◌≡◌, map, refl, ap}
 use Rattle.tame_names.specs.KrateNames.{text_of}
 use Rattle.tame_entry.specs.Entry.{pair_of, pairs}
 use Rattle.tame_entry.specs.JsonLines.{lines_of}

@@ -1,0 +1,40 @@
+-- A call that may fail for one reason may fail for a wider one.
+use Rattle.std.proofs.Common.{◌≡◌, ℕ, List, codes, bytes_eq, true, false, Result, Ok, Err}
+use Rattle.tame_names.specs.declared.host.FailedCall.{FailedCall}
+use Rattle.tame_names.specs.declared.host.FileCall.TheVariants.{Read}
+use Rattle.audit_asked.specs.Calls.{AddsBy, AddsFailed, IsCallOn, IsInputCall, IsLockfileCall}
+use Rattle.audit_asked.specs.declared.faults.RunFault.{RunFault}
+use Rattle.audit_asked.specs.declared.faults.RunFault.TheVariants as fault
+
+pub widen_by : (one wider : List ℕ → FailedCall → Type 0) (before now : List FailedCall) (e : RunFault)
+    → ((path : List ℕ) (call : FailedCall) → one path call → wider path call) → AddsBy one before now e → AddsBy wider before now e
+widen_by one wider before now (fault.Usage place) w h = h
+widen_by one wider before now (fault.Settings reason) w h = h
+widen_by one wider before now (fault.Missing path) w h = h
+widen_by one wider before now (fault.NotUtf8 path) w h = h
+widen_by one wider before now (fault.TooLarge path len) w h = h
+widen_by one wider before now (fault.File path) w h = (h.0, h.1, w path h.0 h.2)
+widen_by one wider before now (fault.Lockfile reason) w h = h
+widen_by one wider before now (fault.Advisory n reason) w h = h
+widen_by one wider before now fault.Print w h = h
+widen_by one wider before now (fault.Generate status) w h = h
+widen_by one wider before now (fault.Start failed) w h = h
+widen_by one wider before now fault.Later w h = h
+widen_by one wider before now fault.NoMemory w h = h
+
+pub widen : {T : Type 0} (one wider : List ℕ → FailedCall → Type 0) (before now : List FailedCall) (r : Result T RunFault)
+    → ((path : List ℕ) (call : FailedCall) → one path call → wider path call) → AddsFailed one before now r → AddsFailed wider before now r
+widen one wider before now (Ok a) w h = h
+widen one wider before now (Err e) w h = widen_by one wider before now e w h
+
+-- the call that reads standard input, and the one that reads a file
+pub input_call : (path told : List ℕ) (call : FailedCall) → bytes_eq path (codes "-") ≡ true → IsInputCall path told call → IsLockfileCall path told call
+input_call path told call e h = (h.0, rw e h.1)
+
+pub read_call : (path told : List ℕ) (call : FailedCall) → bytes_eq path (codes "-") ≡ false → IsCallOn Read path told call → IsLockfileCall path told call
+read_call path told call e h = (h.0, rw e h.1)
+
+-- the same of an answer that is this fault
+pub widen_err : {T : Type 0} (one wider : List ℕ → FailedCall → Type 0) (before now : List FailedCall) (r : Result T RunFault) (e : RunFault)
+    → r ≡ Err e → ((path : List ℕ) (call : FailedCall) → one path call → wider path call) → AddsBy one before now e → AddsFailed wider before now r
+widen_err one wider before now r e is w h = rw is (widen_by one wider before now e w h)

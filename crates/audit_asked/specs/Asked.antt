@@ -1,0 +1,78 @@
+-- What a run asks of its host, in its order (this project, after cargo-audit).
+use Rattle.std.specs.Prelude.{◌≡◌, ◌⊎◌, ℕ, ℤ, pos, List, Bool, false, Option, Some, None, Result, Ok, Err}
+use Rattle.tame_names.specs.Standing.{Host}
+use Rattle.tame_names.specs.declared.host.FailedCall.{FailedCall}
+use Rattle.audit_advisory.specs.declared.advisories.Advisory.{Advisory}
+use Rattle.audit_settings.specs.declared.commands.AuditCommand.{AuditCommand}
+use Rattle.audit_settings.specs.declared.configs.AuditConfig.{AuditConfig}
+use Rattle.audit_asked.specs.Advisories.{advisories_asked, advisory_paths}
+use Rattle.audit_asked.specs.Calls.{IsDatabaseCall, IsListingCall, IsLockfileCall, IsPlaceCall, IsReadingCall, IsSettingsCall}
+use Rattle.audit_asked.specs.Databases.{database_asked, database_path}
+use Rattle.audit_asked.specs.Places.{is_to_generate, place_asked, place_of}
+use Rattle.audit_asked.specs.Refusals.{Refused}
+use Rattle.audit_asked.specs.Settings.{settled}
+use Rattle.audit_asked.specs.Texts.{go_on, input_or_text}
+use Rattle.audit_asked.specs.declared.asking.Asked.{Asked}
+use Rattle.audit_asked.specs.declared.faults.RunFault.{RunFault}
+use Rattle.audit_asked.specs.declared.faults.RunFault.TheVariants as fault
+
+-- under these settings, with the lockfile at this place: the database, the advisories, and the lockfile's text, or the first refusal
+abbrev pub texts_asked : Host → AuditConfig → List ℕ → Result Asked Refused
+texts_asked host config place =
+    go_on (database_asked config.database.path host) (λ database.
+    go_on (advisories_asked host database) (λ advisories.
+    go_on (input_or_text host place) (λ text.
+    Ok (record { config = config; place = place; database = database_path database; advisories = advisories; text = text }))))
+
+-- the settings, the lockfile's place, the database, the advisories, and the lockfile's text, or the first refusal; a lockfile that has to
+-- be generated is generated with this status
+abbrev pub asked : AuditCommand → Host → ℤ → Result Asked Refused
+asked command host status =
+    go_on (settled command host) (λ config.
+    go_on (place_asked command.file host status) (λ place.
+    texts_asked host config place))
+
+-- the status that a generating start ended with, by what was answered: 0, or the one that is told
+abbrev pub status_of : RunFault → ℤ
+status_of (fault.Generate status) = status
+status_of _ = pos 0
+
+abbrev pub status_told : {T : Type 0} → Result T RunFault → ℤ
+status_told (Ok a) = pos 0
+status_told (Err e) = status_of e
+
+-- a lockfile is generated: the settings are accepted, and one has to be
+abbrev pub generates : AuditCommand → Host → Result AuditConfig Refused → Bool
+generates command host (Ok config) = is_to_generate command.file host
+generates command host (Err reason) = false
+
+-- ---- the calls that may fail, each after the parts before it were accepted
+
+-- a call for the advisories of a database
+abbrev pub IsAdvisoriesCall : Host → Option (List ℕ) → List ℕ → FailedCall → Type 0
+IsAdvisoriesCall host None told call = IsReadingCall (advisory_paths host None) told call
+IsAdvisoriesCall host (Some database) told call =
+    IsListingCall database told call ⊎ IsReadingCall (advisory_paths host (Some database)) told call
+
+-- a call once the database is known
+abbrev pub IsKnownCall : Host → Option (List ℕ) → List ℕ → List ℕ → FailedCall → Type 0
+IsKnownCall host database place told call =
+    IsAdvisoriesCall host database told call
+    ⊎ ((advisories : List Advisory) × (advisories_asked host database ≡ Ok advisories) × IsLockfileCall place told call)
+
+-- a call once the settings and the lockfile's place are known
+abbrev pub IsTextsCall : Host → AuditConfig → List ℕ → List ℕ → FailedCall → Type 0
+IsTextsCall host config place told call =
+    IsDatabaseCall config.database.path told call
+    ⊎ ((database : Option (List ℕ)) × (database_asked config.database.path host ≡ Ok database)
+    × IsKnownCall host database place told call)
+
+-- a call once the settings are known
+abbrev pub IsLaterCall : AuditCommand → Host → AuditConfig → List ℕ → FailedCall → Type 0
+IsLaterCall command host config told call =
+    IsPlaceCall told call ⊎ IsTextsCall host config (place_of command.file) told call
+
+abbrev pub IsAskedCall : AuditCommand → Host → List ℕ → FailedCall → Type 0
+IsAskedCall command host told call =
+    IsSettingsCall host told call
+    ⊎ ((config : AuditConfig) × (settled command host ≡ Ok config) × IsLaterCall command host config told call)

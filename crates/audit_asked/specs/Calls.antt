@@ -1,0 +1,110 @@
+-- The calls on a host's files that may fail, and what a failed one ends (this project).
+use Rattle.std.specs.Prelude.{◌≡◌, ◌≤◌, ◌⊎◌, ℕ, codes, List, [], ◌∷◌, ◌++◌, bytes_eq, Option, Some, None, if◌then◌else◌, Result, Ok, Err, IfErr}
+use Rattle.std.specs.List.{slice_get}
+use Rattle.tame_names.specs.Counts.{Rose}
+use Rattle.tame_names.specs.Paths.{join}
+use Rattle.tame_names.specs.Standing.{Host}
+use Rattle.tame_names.specs.declared.host.FailedCall.{FailedCall}
+use Rattle.tame_names.specs.declared.host.FileCall.{FileCall}
+use Rattle.tame_names.specs.declared.host.FileCall.TheVariants as file_call
+use Rattle.tame_location.specs.Homes.{IsHomeCall}
+use Rattle.audit_asked.specs.Advisories.{crates_folder}
+use Rattle.audit_asked.specs.Places.{lockfile_name, manifest_name}
+use Rattle.audit_asked.specs.Settings.{folder_file, home_file, known_home}
+use Rattle.audit_asked.specs.declared.faults.RunFault.{RunFault}
+use Rattle.audit_asked.specs.declared.faults.RunFault.TheVariants as fault
+use Rattle.audit_asked.specs.declared.places.LocateError.{LocateError}
+use Rattle.audit_asked.specs.declared.places.LocateError.TheVariants as locate
+
+-- ---- what a failed call does
+
+-- a fault of the files added one call to the failed ones, which may end a run with its path; any other fault none
+abbrev pub AddsBy : (List ℕ → FailedCall → Type 0) → List FailedCall → List FailedCall → RunFault → Type 0
+AddsBy may before now (fault.File path) =
+    (call : FailedCall) × (now ≡ before ++ call ∷ []) × may path call
+AddsBy may before now _ = now ≡ before
+
+abbrev pub AddsFailed : {T : Type 0} → (List ℕ → FailedCall → Type 0) → List FailedCall → List FailedCall → Result T RunFault → Type 0
+AddsFailed may before now (Ok a) = now ≡ before
+AddsFailed may before now (Err e) = AddsBy may before now e
+
+-- the count never falls, and a fault of the files raised it
+pub record HasFileCause {T : Type 0} (before now : ℕ) (result : Result T RunFault) : Type 0 where
+  pub later : before ≤ now
+  pub rose : (path : List ℕ) → result ≡ Err (fault.File path) → Rose before now
+
+-- a failed look at one of two files by name added it to the failed ones
+abbrev pub AddsLook : {T : Type 0} → List FailedCall → List FailedCall → Result T LocateError → Type 0
+AddsLook before now (Err (locate.File path)) =
+    now ≡ before ++ record { call = file_call.Kind; path = Some path.now } ∷ []
+AddsLook before now _ = now ≡ before
+
+abbrev pub IsLookError : LocateError → Type 0
+IsLookError (locate.File path) = Unit {0}
+IsLookError _ = ⊥
+
+-- the count never falls, and a failed look raised it
+pub record HasLookCause {T : Type 0} (before now : ℕ) (result : Result T LocateError) : Type 0 where
+  pub later : before ≤ now
+  pub rose : IfErr result (λ e. IsLookError e → Rose before now)
+
+-- ---- which calls may fail, with the path that is told
+
+-- a call on this path, which is told
+abbrev pub IsCallOn : FileCall → List ℕ → List ℕ → FailedCall → Type 0
+IsCallOn name path told call = (told ≡ path) × (call ≡ record { call = name; path = Some path })
+
+-- the reading of standard input, which is told as this path
+abbrev pub IsInputCall : List ℕ → List ℕ → FailedCall → Type 0
+IsInputCall path told call = (told ≡ path) × (call ≡ record { call = file_call.ReadStdin; path = None })
+
+-- the call that reads what is at a path, where `-` is standard input
+abbrev pub reading_call : List ℕ → FailedCall
+reading_call path =
+    if bytes_eq path (codes "-") then record { call = file_call.ReadStdin; path = None }
+    else record { call = file_call.Read; path = Some path }
+
+-- cargo's home was asked for
+abbrev pub AsksHome : List ℕ → FailedCall → Type 0
+AsksHome told call = (told ≡ codes "cargo home") × IsHomeCall call
+
+-- cargo's home was asked for, or the settings in it were read
+abbrev pub IsHomeConfigCall : Host → List ℕ → FailedCall → Type 0
+IsHomeConfigCall host told call =
+    AsksHome told call
+    ⊎ ((home : List ℕ) × (known_home host ≡ Some home) × IsCallOn file_call.Read (home_file home) told call)
+
+-- the reading of settings: a file's, or those in cargo's home
+abbrev pub IsSettingsFrom : Host → List ℕ → List ℕ → FailedCall → Type 0
+IsSettingsFrom host path told call = IsCallOn file_call.Read path told call ⊎ IsHomeConfigCall host told call
+
+abbrev pub IsSettingsCall : Host → List ℕ → FailedCall → Type 0
+IsSettingsCall host told call = IsSettingsFrom host folder_file told call
+
+-- a look at `Cargo.lock` or at `Cargo.toml`
+abbrev pub IsPlaceCall : List ℕ → FailedCall → Type 0
+IsPlaceCall told call =
+    IsCallOn file_call.Kind lockfile_name told call ⊎ IsCallOn file_call.Kind manifest_name told call
+
+-- a look at the database that was named, or cargo's home was asked for
+abbrev pub IsDatabaseCall : Option (List ℕ) → List ℕ → FailedCall → Type 0
+IsDatabaseCall (Some path) told call = IsCallOn file_call.Kind path told call
+IsDatabaseCall None told call = AsksHome told call
+
+-- a listing of a folder in this one
+abbrev pub IsListingBelow : List ℕ → List ℕ → FailedCall → Type 0
+IsListingBelow folder told call = (name : List ℕ) × IsCallOn file_call.List (join folder name) told call
+
+-- a listing of the folder `crates` of a database, or of a folder in it
+abbrev pub IsListingCall : List ℕ → List ℕ → FailedCall → Type 0
+IsListingCall database told call =
+    IsCallOn file_call.List (crates_folder database) told call ⊎ IsListingBelow (crates_folder database) told call
+
+-- the reading of one of these paths
+abbrev pub IsReadingCall : List (List ℕ) → List ℕ → FailedCall → Type 0
+IsReadingCall paths told call =
+    (n : ℕ) × (slice_get paths n ≡ Some told) × IsCallOn file_call.Read told told call
+
+-- the reading of the lockfile
+abbrev pub IsLockfileCall : List ℕ → List ℕ → FailedCall → Type 0
+IsLockfileCall place told call = (told ≡ place) × (call ≡ reading_call place)

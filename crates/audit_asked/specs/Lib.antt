@@ -1,0 +1,9 @@
+pub mod Advisories
+pub mod Asked
+pub mod Calls
+pub mod Databases
+pub mod Places
+pub mod Refusals
+pub mod Settings
+pub mod Starts
+pub mod Texts

@@ -1,0 +1,69 @@
+-- Why what a run asks of its host is refused (this project).
+use Rattle.std.specs.Prelude.{◌≡◌, ◌≢◌, ◌<◌, ℕ, ℤ, pos, List, Bool, true, false, IsTrue, Result, Ok, Err, IfOk, IfErr}
+use Rattle.audit_advisory.specs.declared.faults.AdvisoryFault.{AdvisoryFault}
+use Rattle.audit_advisory.specs.declared.faults.AdvisoryFault.TheVariants as advisory_fault
+use Rattle.audit_settings.specs.Refusals.{Refusal, refusal}
+use Rattle.audit_settings.specs.declared.configs.SettingsFault.TheVariants as settings_fault
+use Rattle.audit_asked.specs.declared.faults.RunFault.{RunFault}
+use Rattle.audit_asked.specs.declared.faults.RunFault.TheVariants as fault
+
+-- the largest settings, advisories and lockfiles that are read: 64 MiB
+abbrev pub limit : ℕ
+limit = 67108864
+
+-- the settings are refused; nothing is at a path; what is there isn't UTF-8, has too many bytes, or is no file; the n-th
+-- advisory is refused; cargo ended with another status than 0; the last one is told by no host
+pub data Refused : Type 0 where
+  settings : (reason : Refusal) → Refused
+  missing : (path : List ℕ) → Refused
+  not_utf8 : (path : List ℕ) → Refused
+  too_large : (path : List ℕ) → (len : ℕ) → Refused
+  no_file : (path : List ℕ) → Refused
+  advisory : (n : ℕ) → (reason : AdvisoryFault) → Refused
+  generate : (status : ℤ) → Refused
+  untold : Refused
+
+-- the refusal that a fault tells
+abbrev pub refused : RunFault → Refused
+refused (fault.Settings reason) = settings (refusal reason)
+refused (fault.Missing path) = missing path
+refused (fault.NotUtf8 path) = not_utf8 path
+refused (fault.TooLarge path len) = too_large path len
+refused (fault.Advisory n reason) = advisory n reason
+refused (fault.Generate status) = generate status
+refused _ = untold
+
+-- what a host has decides this fault: no call failed, and memory didn't run out
+abbrev pub is_told : RunFault → Bool
+is_told (fault.File path) = false
+is_told (fault.Start failed) = false
+is_told fault.NoMemory = false
+is_told _ = true
+
+-- the faults that reading may end with: a text is too large only above the limit, and want of memory is a fault of its own
+abbrev pub IsReadFault : RunFault → Type 0
+IsReadFault (fault.Settings reason) = reason ≢ settings_fault.NoMemory
+IsReadFault (fault.Missing path) = Unit {0}
+IsReadFault (fault.NotUtf8 path) = Unit {0}
+IsReadFault (fault.TooLarge path len) = limit < len
+IsReadFault (fault.File path) = Unit {0}
+IsReadFault (fault.Advisory n reason) = reason ≢ advisory_fault.NoMemory
+IsReadFault fault.NoMemory = Unit {0}
+IsReadFault _ = ⊥
+
+-- the faults that asking may end with: besides, a start ended with another status than 0, or failed
+abbrev pub IsAskFault : RunFault → Type 0
+IsAskFault (fault.Generate status) = status ≢ pos 0
+IsAskFault (fault.Start failed) = failed ≡ 1
+IsAskFault e = IsReadFault e
+
+-- a call on the files failed, or memory ran out
+abbrev pub IsCallFault : RunFault → Type 0
+IsCallFault (fault.File path) = Unit {0}
+IsCallFault fault.NoMemory = Unit {0}
+IsCallFault _ = ⊥
+
+-- what the parts give, and what was answered: an answer is theirs, and so is a refusal that the host tells
+pub record Gives {A : Type 0} (part : Result A Refused) (result : Result A RunFault) : Type 0 where
+  pub ok : IfOk result (λ a. part ≡ Ok a)
+  pub refused : IfErr result (λ e. IsTrue (is_told e) → part ≡ Err (refused e))

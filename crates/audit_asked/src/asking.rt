@@ -1,0 +1,106 @@
+//! What a run asks of its host.
+ghost use Rattle.std.specs.Prelude.{◌≡◌, Ok, Err, IfOk, IfErr, IsTrue, option_map};
+ghost use Rattle.audit_asked.specs.Asked.{IsAskedCall, IsTextsCall, asked, generates, status_told, texts_asked};
+ghost use Rattle.audit_asked.specs.Calls.{AddsFailed, HasFileCause};
+ghost use Rattle.audit_asked.specs.Refusals.{Gives, IsAskFault, IsReadFault, is_told, refused};
+ghost use Rattle.audit_asked.specs.Settings.{settled};
+ghost use Rattle.audit_asked.specs.Starts.{HasRunStartCause, RunStartsWhere, StartsAtMost};
+
+use crate::advisories::advisories;
+use crate::databases::{database, database_path};
+use crate::faults::RunFault;
+use crate::places::place;
+use crate::runners::Runner;
+use crate::settings::settled;
+use crate::texts::input_or_text;
+use audit_advisory::Advisory;
+use audit_settings::{AuditCommand, AuditConfig};
+use std::alloc::Global;
+use tame_names::{Files, Items, Text};
+
+/// What a run asked of its host.
+#[derive(Debug, Drop)]
+pub struct Asked {
+    /// The settings under the command's options.
+    pub config: AuditConfig,
+    /// The lockfile's path; `-` is standard input.
+    pub place: Text,
+    /// The path of the database; `advisory-db` where cargo's home can't be told.
+    pub database: Text,
+    /// The advisories, in the byte order of their folders and files.
+    pub advisories: Items<Advisory>,
+    /// The lockfile's text.
+    pub text: Text,
+}
+
+/// The path of a text that may be absent.
+fn path_of(text: &Option<Text>) -> Option<&str>
+    ensures { option_map (λ path. path.now) result ≡ text.now }
+{
+    match text {
+        None => None,
+        Some(text) => Some(text.as_str()),
+    }
+}
+
+/// Asks the host for the advisories and for the lockfile's text, under these settings.
+fn texts<F: Files>(
+    alloc: Global,
+    files: &mut F,
+    config: AuditConfig,
+    place: Text,
+) -> Result<Asked, RunFault>
+    ensures ok { F.tells → IfOk result (λ asked.
+        texts_asked (F.host files.old) config place ≡ Ok asked) }
+    ensures refused { F.tells → IfErr result (λ e. IsTrue (is_told e)
+        → texts_asked (F.host files.old) config place ≡ Err (refused e)) }
+    ensures only { IfErr result IsReadFault }
+    ensures cause { HasFileCause (F.faults files.old) (F.faults files.new) result }
+    ensures failed { F.tells → AddsFailed (IsTextsCall (F.host files.old) config place)
+        (F.failed files.old) (F.failed files.new) result }
+    ensures same { F.tells → F.host files.new ≡ F.host files.old }
+{
+    let database = database(alloc, files, &config.database.path)?;
+    let advisories = advisories(alloc, files, &database)?;
+    let text = input_or_text(alloc, files, place.as_str())?;
+    let database = database_path(alloc, database)?;
+    Ok(Asked {
+        config,
+        place,
+        database,
+        advisories,
+        text,
+    })
+}
+
+/// Asks the host for the settings, for the lockfile's place, for the advisories one after the
+/// other, and for the lockfile's text. The first that is refused ends it.
+pub fn ask<F: Files, R: Runner>(
+    alloc: Global,
+    command: &AuditCommand,
+    files: &mut F,
+    runner: &mut R,
+) -> Result<Asked, RunFault>
+    // what was asked, or the first refusal
+    ensures gives { F.tells
+        → Gives (asked command.now (F.host files.old) (status_told result)) result }
+    ensures only { IfErr result IsAskFault }
+
+    // what was started
+    ensures started { F.tells → R.tells
+        → RunStartsWhere (generates command.now (F.host files.old)
+        (settled command.now (F.host files.old)))
+        (R.starts runner.old) (R.starts runner.new) result }
+    ensures at_most { R.tells → StartsAtMost (R.starts runner.old) (R.starts runner.new) }
+    ensures start_cause { HasRunStartCause (R.faults runner.old) (R.faults runner.new) result }
+
+    // which call failed
+    ensures cause { HasFileCause (F.faults files.old) (F.faults files.new) result }
+    ensures failed { F.tells → AddsFailed (IsAskedCall command.now (F.host files.old))
+        (F.failed files.old) (F.failed files.new) result }
+    ensures same { F.tells → F.host files.new ≡ F.host files.old }
+{
+    let config = settled(alloc, command, files)?;
+    let place = place(alloc, files, runner, path_of(&command.file))?;
+    texts(alloc, files, config, place)
+}

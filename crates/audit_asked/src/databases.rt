@@ -1,0 +1,90 @@
+//! Where the advisories are.
+ghost use Rattle.std.specs.Prelude.{◌≡◌, Ok, Err, Some, None, IfOk, IfErr, IsTrue};
+ghost use Rattle.tame_names.specs.declared.host.FileCall.TheVariants as FileCall;
+ghost use Rattle.audit_asked.specs.Calls.{AddsFailed, AsksHome, HasFileCause, IsCallOn, IsDatabaseCall};
+ghost use Rattle.audit_asked.specs.Databases.{database_asked, database_path};
+ghost use Rattle.audit_asked.specs.Refusals.{IsReadFault, is_told, refused};
+
+use crate::faults::RunFault;
+use crate::homes::known_home;
+use std::alloc::Global;
+use tame_names::{FileFault, Files, NoMemory, PathKind, Text, join};
+
+/// The folder of advisories in cargo's home, and the path that is told where there is none.
+const DATABASE_NAME: &str = "advisory-db";
+
+/// A database that was named, which has to be there.
+fn named_database<F: Files>(
+    alloc: Global,
+    files: &mut F,
+    path: &str,
+) -> Result<Option<Text>, RunFault>
+    ensures ok { F.tells → IfOk result (λ database.
+        database_asked (Some path.now) (F.host files.old) ≡ Ok database) }
+    ensures refused { F.tells → IfErr result (λ e. IsTrue (is_told e)
+        → database_asked (Some path.now) (F.host files.old) ≡ Err (refused e)) }
+    ensures only { IfErr result IsReadFault }
+    ensures cause { HasFileCause (F.faults files.old) (F.faults files.new) result }
+    ensures failed { F.tells → AddsFailed (IsCallOn FileCall.Kind path.now)
+        (F.failed files.old) (F.failed files.new) result }
+    ensures same { F.tells → F.host files.new ≡ F.host files.old }
+{
+    let copy = Text::of(alloc, path)?;
+    match files.kind(path) {
+        Ok(PathKind::Absent) => Err(RunFault::Missing { path: copy }),
+        Ok(_) => Ok(Some(copy)),
+        Err(FileFault::Failed) => Err(RunFault::File { path: copy }),
+        Err(FileFault::NoMemory) => Err(RunFault::NoMemory),
+    }
+}
+
+/// The database in cargo's home.
+fn home_database<F: Files>(alloc: Global, files: &mut F) -> Result<Option<Text>, RunFault>
+    ensures ok { F.tells → IfOk result (λ database.
+        database_asked None (F.host files.old) ≡ Ok database) }
+    ensures refused { F.tells → IfErr result (λ e. IsTrue (is_told e)
+        → database_asked None (F.host files.old) ≡ Err (refused e)) }
+    ensures only { IfErr result IsReadFault }
+    ensures cause { HasFileCause (F.faults files.old) (F.faults files.new) result }
+    ensures failed { F.tells → AddsFailed AsksHome
+        (F.failed files.old) (F.failed files.new) result }
+    ensures same { F.tells → F.host files.new ≡ F.host files.old }
+{
+    match known_home(alloc, files)? {
+        None => Ok(None),
+        Some(home) => Ok(Some(join(alloc, home.as_str(), DATABASE_NAME)?)),
+    }
+}
+
+/// The database: the one that was named, which has to be there, else the one in cargo's home, where
+/// that can be told.
+pub(crate) fn database<F: Files>(
+    alloc: Global,
+    files: &mut F,
+    named: &Option<Text>,
+) -> Result<Option<Text>, RunFault>
+    ensures ok { F.tells → IfOk result (λ database.
+        database_asked named.now (F.host files.old) ≡ Ok database) }
+    ensures refused { F.tells → IfErr result (λ e. IsTrue (is_told e)
+        → database_asked named.now (F.host files.old) ≡ Err (refused e)) }
+    ensures only { IfErr result IsReadFault }
+    ensures cause { HasFileCause (F.faults files.old) (F.faults files.new) result }
+    ensures failed { F.tells → AddsFailed (IsDatabaseCall named.now)
+        (F.failed files.old) (F.failed files.new) result }
+    ensures same { F.tells → F.host files.new ≡ F.host files.old }
+{
+    match named {
+        Some(path) => named_database(alloc, files, path.as_str()),
+        None => home_database(alloc, files),
+    }
+}
+
+/// The path that is told of a database.
+pub(crate) fn database_path(alloc: Global, database: Option<Text>) -> Result<Text, NoMemory>
+    ensures { IfOk result (λ path. path ≡ database_path database) }
+{
+    match database {
+        Some(path) => Ok(path),
+        None => Text::of(alloc, DATABASE_NAME),
+    }
+}

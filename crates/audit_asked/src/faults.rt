@@ -1,0 +1,47 @@
+//! Why a run ends without its output.
+ghost use Rattle.std.specs.Prelude.{◌≡◌};
+
+use audit_advisory::AdvisoryFault;
+use audit_lock::LockfileFault;
+use audit_settings::SettingsFault;
+use tame_names::{NoMemory, Text};
+
+/// Why a run ended without its output. No reason that a fault holds is want of memory.
+#[derive(Debug, Drop)]
+pub enum RunFault {
+    /// The word at this place, counted from 0, is wrong or missing.
+    Usage { place: usize },
+    /// The file of settings is refused, for this reason.
+    Settings(SettingsFault),
+    /// Nothing is at the path.
+    Missing { path: Text },
+    /// The file isn't UTF-8.
+    NotUtf8 { path: Text },
+    /// The file has this number of bytes, which is too many.
+    TooLarge { path: Text, len: u64 },
+    /// A call on the path failed; `cargo home` where the folder of cargo's home was asked for.
+    File { path: Text },
+    /// The text is no lockfile, for this reason.
+    Lockfile(LockfileFault),
+    /// The advisory with this number, counted from 0, is refused, for this reason.
+    Advisory { n: usize, fault: AdvisoryFault },
+    /// The output failed.
+    Print,
+    /// The start that should generate a lockfile ended with this status, which isn't 0.
+    Generate { status: i32 },
+    /// This number of programs couldn't be started.
+    Start { failed: u64 },
+    /// The words ask for what can't be done yet.
+    Later,
+    NoMemory,
+}
+
+impl From<NoMemory> for RunFault {
+    ghost use Rattle.audit_asked.specs.declared.faults.RunFault.TheVariants.{NoMemory as no_memory};
+
+    ghost from_gives = { λ _ e. e ≡ no_memory };
+
+    fn from(_: NoMemory) -> RunFault {
+        RunFault::NoMemory
+    }
+}

@@ -1,0 +1,28 @@
+//! The folder of cargo's home, where it can be told.
+ghost use Rattle.std.specs.Prelude.{◌≡◌, Ok, Err, IfOk, IfErr};
+ghost use Rattle.audit_asked.specs.Calls.{AddsFailed, AsksHome, HasFileCause};
+ghost use Rattle.audit_asked.specs.Settings.{known_home};
+ghost use Rattle.audit_asked.specs.Refusals.{IsCallFault};
+
+use crate::faults::RunFault;
+use std::alloc::Global;
+use tame_location::cargo_home;
+use tame_names::{Error, Files, IoKind, Text};
+
+/// The folder of cargo's home; nothing where a variable isn't UTF-8 or none names it.
+pub(crate) fn known_home<F: Files>(alloc: Global, files: &mut F) -> Result<Option<Text>, RunFault>
+    ensures ok { F.tells → IfOk result (λ home. home ≡ known_home (F.host files.old)) }
+    ensures only { IfErr result IsCallFault }
+    ensures cause { HasFileCause (F.faults files.old) (F.faults files.new) result }
+    ensures failed { F.tells → AddsFailed AsksHome
+        (F.failed files.old) (F.failed files.new) result }
+    ensures same { F.tells → F.host files.new ≡ F.host files.old }
+{
+    let path = Text::of(alloc, "cargo home")?;
+    match cargo_home(alloc, files) {
+        Ok(home) => Ok(Some(home)),
+        Err(Error::Io(IoKind::Failed)) => Err(RunFault::File { path }),
+        Err(Error::NoMemory) => Err(RunFault::NoMemory),
+        Err(_) => Ok(None),
+    }
+}

@@ -1,0 +1,16 @@
+use Rattle.std.proofs.Common.{◌≡◌, Some, ap, ◌∙◌}
+use Rattle.tame_names.specs.KrateNames.{text_of}
+use Rattle.tame_cache.specs.Disk.{reads}
+use Rattle.tame_cache.specs.Kept.{cache_file_of}
+use Rattle.audit_core.proofs.Lists.{if_ok}
+use Rattle.audit_core.proofs.TakenLemmas.{same_answer}
+use Rattle.audit_core.proofs.recalling.recall.Goals as goal
+
+pub returns-clause-answer : goal.returns-clause-answer
+returns-clause-answer g c told q place =
+    let past = g.D.CacheDisk.past in
+    let t = c.cached_krate-taken in
+    let there : cache_file_of c.args.index.now.cache.path (text_of c.args.name) ≡ Some q = ap (λ root. cache_file_of root (text_of c.args.name)) c.requires ∙ place in
+    if_ok c.answer_taken.result
+    (λ a h. same_answer (reads (past c.args.disk.now q)) t.result a (t.ensures.read told q there) t.ensures.only h)
+    c.answer_taken.ensures

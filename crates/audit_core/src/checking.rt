@@ -1,0 +1,149 @@
+//! Checks for yanked versions: by the index, by the cache alone, or none.
+ghost use Rattle.std.specs.Prelude.{◌≡◌, ◌≢◌, [], ℕ, List, codes, map, IfOk, OnErr};
+ghost use Rattle.audit_core.specs.Audits.{AuditSays, KeepsOthers, MakesAskedFolders};
+ghost use Rattle.audit_core.specs.Checks.{asked_of, checks_of, judged_of};
+ghost use Rattle.audit_core.specs.Paths.{asked_paths, defaults};
+ghost use Rattle.audit_core.specs.Turns.{AddsPart, KeepsHonest};
+
+use crate::asking::{Heard, Turn, ask};
+use crate::judging::judge;
+use crate::planning::{Plan, plan_turns};
+use crate::recalling::recall_all;
+use crate::verdicts::Judged;
+use audit_lock::Package;
+use audit_settings::AuditConfig;
+use std::alloc::Global;
+use tame_cache::CacheDisk;
+use tame_names::{FileLock, Items, NoMemory, Text};
+use tame_sparse::{CRATES_IO_HTTP_INDEX, SparseIndex, Wire};
+
+/// How yanked versions are checked.
+#[derive(Clone, Copy, Debug, PartialEq, Eq)]
+pub enum Checks {
+    /// The index is asked, and what it sends is kept.
+    Online,
+    /// The cache alone is read.
+    Offline,
+    /// Not at all.
+    Off,
+}
+
+/// The checks that settings ask for.
+pub fn checks_of(config: &AuditConfig) -> Checks
+    ensures { result ≡ checks_of config.now }
+{
+    if !config.yanked.enabled {
+        Checks::Off
+    } else if config.yanked.update_index && config.database.fetch {
+        Checks::Online
+    } else {
+        Checks::Offline
+    }
+}
+
+/// The verdicts and turns of an audit.
+#[derive(Drop)]
+pub struct Checked {
+    pub verdicts: Items<Judged>,
+    pub turns: Items<Turn>,
+}
+
+fn turns_of(alloc: Global, heard: Items<Heard>) -> Result<Items<Turn>, NoMemory>
+    ensures { IfOk result (λ ts. ts ≡ map (λ h. h.turn) heard) }
+{
+    let mut turns = Items::new(alloc);
+    for h in heard.into_vec() {
+        turns.add(h.turn)?;
+    }
+    Ok(turns)
+}
+
+/// The sparse index of crates.io, with its cache in the folder `.cache`.
+fn crates_io(alloc: Global) -> Result<SparseIndex, NoMemory>
+    ensures root { IfOk result (λ index. index.cache.path ≡ []) }
+    ensures url { IfOk result (λ index. index.url ≡ codes "sparse+https://index.crates.io/") }
+{
+    match SparseIndex::at(alloc, Text::of(alloc, "")?, CRATES_IO_HTTP_INDEX) {
+        Ok(index) => Ok(index),
+        Err(_) => Err(NoMemory),
+    }
+}
+
+/// Asks for the packages of the default registry, and judges them.
+fn check_online<W: Wire, D: CacheDisk>(
+    alloc: Global,
+    packages: &[Package],
+    lock: &FileLock,
+    wire: &mut W,
+    disk: &mut D,
+) -> Result<Checked, NoMemory>
+    ensures says { IfOk result (λ c. AuditSays Checks.Online W.tells D.tells
+        (record { exchanges = W.exchanges wire.old; files = D.past disk.old; wire_faults = W.faults wire.old; disk_faults = D.faults disk.old })
+        (record { exchanges = W.exchanges wire.new; files = D.past disk.new; wire_faults = W.faults wire.new; disk_faults = D.faults disk.new })
+        (asked_paths packages.now) (defaults packages.now) c.turns c.verdicts) }
+    ensures part { W.tells → AddsPart (asked_paths packages.now) (W.exchanges wire.old) (W.exchanges wire.new) }
+    ensures kept { W.tells → D.tells → KeepsHonest (W.exchanges wire.old) (W.exchanges wire.new) (D.past disk.old) (D.past disk.new) }
+    ensures others { D.tells → KeepsOthers (asked_paths packages.now) (D.past disk.old) (D.past disk.new) }
+    ensures folders { D.tells → MakesAskedFolders (asked_paths packages.now) (D.folders disk.old) (D.folders disk.new) }
+{
+    let index = crates_io(alloc)?;
+    let plan = plan_turns(alloc, packages)?;
+    let heard = ask(alloc, &index, lock, wire, disk, plan.names.as_slice())?;
+    let verdicts = judge(alloc, heard.as_slice(), plan.turns.as_slice(), packages)?;
+    let turns = turns_of(alloc, heard)?;
+    Ok(Checked { verdicts, turns })
+}
+
+/// Judges the packages of the default registry by the cache alone.
+fn check_offline<W: Wire, D: CacheDisk>(
+    alloc: Global,
+    packages: &[Package],
+    lock: &FileLock,
+    wire: &W,
+    disk: &mut D,
+) -> Result<Checked, NoMemory>
+    ensures says { IfOk result (λ c. AuditSays Checks.Offline W.tells D.tells
+        (record { exchanges = W.exchanges wire.now; files = D.past disk.old; wire_faults = W.faults wire.now; disk_faults = D.faults disk.old })
+        (record { exchanges = W.exchanges wire.now; files = D.past disk.new; wire_faults = W.faults wire.now; disk_faults = D.faults disk.new })
+        (asked_paths packages.now) (defaults packages.now) c.turns c.verdicts) }
+    ensures same { D.tells → (q : List ℕ) → D.past disk.new q ≡ D.past disk.old q }
+    ensures folders { D.tells → D.folders disk.new ≡ D.folders disk.old }
+{
+    let index = crates_io(alloc)?;
+    let plan = plan_turns(alloc, packages)?;
+    let heard = recall_all(alloc, &index, lock, wire, disk, plan.names.as_slice())?;
+    let verdicts = judge(alloc, heard.as_slice(), plan.turns.as_slice(), packages)?;
+    let turns = turns_of(alloc, heard)?;
+    Ok(Checked { verdicts, turns })
+}
+
+/// Checks the packages of the default registry for yanked versions.
+pub fn check<W: Wire, D: CacheDisk>(
+    alloc: Global,
+    checks: Checks,
+    packages: &[Package],
+    lock: &FileLock,
+    wire: &mut W,
+    disk: &mut D,
+) -> Result<Checked, NoMemory>
+    ensures says { IfOk result (λ c. AuditSays checks W.tells D.tells
+        (record { exchanges = W.exchanges wire.old; files = D.past disk.old; wire_faults = W.faults wire.old; disk_faults = D.faults disk.old })
+        (record { exchanges = W.exchanges wire.new; files = D.past disk.new; wire_faults = W.faults wire.new; disk_faults = D.faults disk.new })
+        (asked_of checks packages.now) (judged_of checks packages.now) c.turns c.verdicts) }
+    ensures part { W.tells → AddsPart (asked_of checks packages.now) (W.exchanges wire.old) (W.exchanges wire.new) }
+    ensures kept { W.tells → D.tells → KeepsHonest (W.exchanges wire.old) (W.exchanges wire.new) (D.past disk.old) (D.past disk.new) }
+    ensures others { D.tells → KeepsOthers (asked_of checks packages.now) (D.past disk.old) (D.past disk.new) }
+    ensures folders { D.tells → MakesAskedFolders (asked_of checks packages.now) (D.folders disk.old) (D.folders disk.new) }
+    ensures unasked { checks ≢ Checks.Online → wire.new ≡ wire.old }
+    ensures unchanged { checks ≢ Checks.Online → D.tells → (q : List ℕ) → D.past disk.new q ≡ D.past disk.old q }
+    ensures uncalled { checks ≡ Checks.Off → disk.new ≡ disk.old }
+{
+    match checks {
+        Checks::Online => check_online(alloc, packages, lock, wire, disk),
+        Checks::Offline => check_offline(alloc, packages, lock, &*wire, disk),
+        Checks::Off => Ok(Checked {
+            verdicts: Items::new(alloc),
+            turns: Items::new(alloc),
+        }),
+    }
+}

@@ -1,0 +1,52 @@
+//! The audit of what was asked for.
+ghost use Rattle.std.specs.Prelude.{◌≡◌, ◌≢◌, ℕ, List, Ok, Err, IfOk, IfErr};
+ghost use Rattle.audit_lock.specs.Locked.{locked};
+ghost use Rattle.audit_lock.specs.declared.lockfiles.LockfileFault.{LockfileFault};
+ghost use Rattle.audit_lock.specs.declared.resolving.Package.{Package};
+ghost use Rattle.audit_core.specs.Audits.{IsAuditOf, KeepsOthers, MakesAskedFolders};
+ghost use Rattle.audit_core.specs.Checks.{asked_of};
+ghost use Rattle.audit_core.specs.Turns.{AddsPart, KeepsHonest};
+ghost use Rattle.audit_core.specs.declared.checking.Checks.TheVariants as Checks;
+ghost use Rattle.audit_program.specs.Causes.{IsAuditFault};
+
+use audit_asked::RunFault;
+use audit_core::{AuditError, Audited, Auditor};
+use std::alloc::Global;
+use tame_cache::CacheDisk;
+use tame_names::FileLock;
+use tame_sparse::Wire;
+
+/// The audit of a text.
+pub fn audit<W: Wire, D: CacheDisk>(
+    alloc: Global,
+    auditor: &Auditor,
+    text: &str,
+    lock: &FileLock,
+    wire: &mut W,
+    disk: &mut D,
+) -> Result<Audited, RunFault>
+    ensures audited { IfOk result (IsAuditOf auditor.now W.tells D.tells
+        (record { exchanges = W.exchanges wire.old; files = D.past disk.old; wire_faults = W.faults wire.old; disk_faults = D.faults disk.old })
+        (record { exchanges = W.exchanges wire.new; files = D.past disk.new; wire_faults = W.faults wire.new; disk_faults = D.faults disk.new })
+        text.now) }
+    ensures refused { (f : LockfileFault) → result ≡ Err (RunFault.Lockfile f) → locked text.now ≡ Err f }
+    ensures only { IfErr result IsAuditFault }
+    ensures uncalled { (f : LockfileFault) → locked text.now ≡ Err f → (wire.new ≡ wire.old) × (disk.new ≡ disk.old) }
+    ensures kept { W.tells → D.tells → KeepsHonest (W.exchanges wire.old) (W.exchanges wire.new) (D.past disk.old) (D.past disk.new) }
+    ensures part { W.tells → (packages : List Package) → locked text.now ≡ Ok packages
+        → AddsPart (asked_of auditor.now.checks packages) (W.exchanges wire.old) (W.exchanges wire.new) }
+    ensures others { D.tells → (packages : List Package) → locked text.now ≡ Ok packages
+        → KeepsOthers (asked_of auditor.now.checks packages) (D.past disk.old) (D.past disk.new) }
+    ensures folders { D.tells → (packages : List Package) → locked text.now ≡ Ok packages
+        → MakesAskedFolders (asked_of auditor.now.checks packages) (D.folders disk.old) (D.folders disk.new) }
+    ensures unasked { auditor.now.checks ≢ Checks.Online → wire.new ≡ wire.old }
+    ensures unchanged { auditor.now.checks ≢ Checks.Online → D.tells → (q : List ℕ) → D.past disk.new q ≡ D.past disk.old q }
+    ensures off { auditor.now.checks ≡ Checks.Off → disk.new ≡ disk.old }
+{
+    match auditor.audit_text(alloc, text, lock, wire, disk) {
+        Ok(audited) => Ok(audited),
+        Err(AuditError::Lockfile(fault)) => Err(RunFault::Lockfile(fault)),
+        Err(AuditError::Advisory { n, fault }) => Err(RunFault::Advisory { n, fault }),
+        Err(AuditError::NoMemory) => Err(RunFault::NoMemory),
+    }
+}

@@ -1,0 +1,89 @@
+//! How a run ends.
+ghost use Rattle.std.specs.Prelude.{◌≡◌, ◌≤◌, ◌⊎◌, ℕ, List, Some};
+ghost use Rattle.tame_names.specs.Output.{AddsPrefix};
+ghost use Rattle.audit_program.specs.Causes.{fault_status, status_of};
+ghost use Rattle.audit_program.specs.FaultLines.{fault_line};
+ghost use Rattle.audit_program.specs.Outputs.{IsEnded, IsLinePut, IsPutBy};
+
+use crate::fault_lines::fault_line;
+use audit_asked::RunFault;
+use audit_core::Audited;
+use std::alloc::Global;
+use tame_names::{Sink, put_counted};
+
+/// How a run ended.
+#[derive(Drop)]
+pub struct Outcome {
+    /// The status that the process should end with: that of the audit, 0 where words ask for a text
+    /// alone, 2 for a fault, or 3 for want of memory.
+    pub status: u8,
+    /// The audit, where one was made.
+    pub audited: Option<Audited>,
+    pub fault: Option<RunFault>,
+}
+
+fn fault_status(fault: &RunFault) -> u8
+    ensures { result ≡ fault_status fault.now }
+{
+    match fault {
+        RunFault::NoMemory => 3,
+        _ => 2,
+    }
+}
+
+/// Puts a line, whatever becomes of it.
+fn put_text<E: Sink>(err: &mut E, line: &[u8])
+    ensures line { E.tells → IsLinePut (E.holds err.old) line.now (E.holds err.new)
+        (E.faults err.old) (E.faults err.new) }
+    ensures later { E.faults err.old ≤ E.faults err.new }
+{
+    let _ = put_counted(err, line);
+}
+
+/// Puts the line of a fault; where no memory is left to make it, the fault is another one, and its
+/// line is put.
+fn put_line<E: Sink>(alloc: Global, err: &mut E, place: &str, fault: RunFault) -> RunFault
+    ensures fault { (result ≡ fault) ⊎ (result ≡ RunFault.NoMemory) }
+    ensures line { E.tells → IsLinePut (E.holds err.old) (fault_line place.now result)
+        (E.holds err.new) (E.faults err.old) (E.faults err.new) }
+    ensures later { E.faults err.old ≤ E.faults err.new }
+{
+    match fault_line(alloc, place, &fault) {
+        Ok(line) => {
+            put_text(err, line.as_bytes());
+            fault
+        }
+        Err(_) => {
+            put_text(err, "error: out of memory\n".as_bytes());
+            RunFault::NoMemory
+        }
+    }
+}
+
+/// Ends a run with a fault, whose line is put. The path is that of the lockfile, for a fault that
+/// tells it.
+pub fn failed<E: Sink>(
+    alloc: Global,
+    err: &mut E,
+    place: &str,
+    fault: RunFault,
+    audited: Option<Audited>,
+) -> Outcome
+    ensures fault { (result.fault ≡ Some fault) ⊎ (result.fault ≡ Some RunFault.NoMemory) }
+    ensures audited { result.audited ≡ audited }
+    ensures status { result.status ≡ status_of result.fault result.audited }
+    // the line stands behind a part of a text that was put before
+    ensures ended { E.tells → (before text : List ℕ) → AddsPrefix before text (E.holds err.old)
+        → IsEnded place.now before text result.fault (E.holds err.new) (E.faults err.old)
+        (E.faults err.new) }
+    ensures put { (before text now : List ℕ) → AddsPrefix before text now
+        → IsPutBy before text result.fault now }
+    ensures later { E.faults err.old ≤ E.faults err.new }
+{
+    let fault = put_line(alloc, err, place, fault);
+    Outcome {
+        status: fault_status(&fault),
+        audited,
+        fault: Some(fault),
+    }
+}

@@ -1,0 +1,12 @@
+use Rattle.audit_report.proofs.Writing.{behind}
+use Rattle.audit_report.proofs.objects.write_warning.Goals as goal
+
+pub returns : goal.returns
+returns c =
+    behind (behind (behind (behind (behind (behind c.in_ok-close_object.ensures
+    c.in_ok-write_stated.ensures)
+    c.in_ok-write_name-2.ensures)
+    c.in_ok-write_package.ensures)
+    c.in_ok-write_name.ensures)
+    c.in_ok-write_kind.ensures)
+    c.in_ok-open_object.ensures

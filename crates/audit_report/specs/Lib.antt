@@ -1,0 +1,14 @@
+pub mod Adds
+pub mod Attributes
+pub mod Blocks
+pub mod Documents
+pub mod Objects
+pub mod Outputs
+pub mod Placing
+pub mod Printed
+pub mod SelfReports
+pub mod Shown
+pub mod StatusLines
+pub mod Summaries
+pub mod Values
+pub mod Words

@@ -1,0 +1,50 @@
+-- What a presenter prints of a report: a function of how it shows reports, of the trees that it has
+-- shown, of the report, and of the advisories and packages that the report speaks of.
+use Rattle.std.specs.Prelude.{ℕ, List, [], Option}
+use Rattle.audit_lock.specs.declared.resolving.Package.{Package}
+use Rattle.audit_advisory.specs.declared.advisories.Advisory.{Advisory}
+use Rattle.audit_advisory.specs.declared.outputs.OutputFormat.{OutputFormat}
+use Rattle.audit_advisory.specs.declared.outputs.OutputFormat.TheVariants as format
+use Rattle.audit_advisory.specs.declared.reports.Report.{Report}
+use Rattle.audit_report.specs.Blocks.{blocks_of}
+use Rattle.audit_report.specs.Documents.{report_line}
+use Rattle.audit_report.specs.Shown.{blocks_text, shown_after}
+use Rattle.audit_report.specs.Summaries.{summary}
+use Rattle.audit_report.specs.declared.presenters.Presenter.{Presenter}
+use Rattle.audit_report.specs.declared.shown_trees.ShownTree.{ShownTree}
+
+-- the text for out, the text for err, and the trees that count as shown afterwards
+pub record Printed : Type 0 where
+  pub out : List ℕ
+  pub err : List ℕ
+  pub trees : List ShownTree
+
+-- the blocks on out, and on err the lines that sum them up
+abbrev pub terminal_form : Presenter → Option (List ℕ) → List Advisory → List Package → Report
+    → Printed
+terminal_form p path advisories packages report = record {
+  out = blocks_text p.config.show_tree p.trees (blocks_of advisories packages report);
+  err = summary p.config.deny path report;
+  trees = shown_after p.config.show_tree p.trees (blocks_of advisories packages report);
+}
+
+-- one line on out
+abbrev pub json_form : Presenter → List Advisory → List Package → Report → Printed
+json_form p advisories packages report =
+    record { out = report_line advisories packages report; err = []; trees = p.trees }
+
+-- nothing: SARIF isn't printed yet
+abbrev pub sarif_form : Presenter → Printed
+sarif_form p = record { out = []; err = []; trees = p.trees }
+
+abbrev pub printed_as : OutputFormat → Presenter → Option (List ℕ) → List Advisory → List Package
+    → Report → Printed
+printed_as format.Terminal p path advisories packages report =
+    terminal_form p path advisories packages report
+printed_as format.Json p path advisories packages report = json_form p advisories packages report
+printed_as format.Sarif p path advisories packages report = sarif_form p
+
+-- what a presenter prints, by its format; the path is that of a binary, if there is one
+abbrev pub printed : Presenter → Option (List ℕ) → List Advisory → List Package → Report → Printed
+printed p path advisories packages report =
+    printed_as p.config.format p path advisories packages report

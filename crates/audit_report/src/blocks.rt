@@ -1,0 +1,99 @@
+//! The lines of a vulnerability and of a warning.
+ghost use Rattle.std.specs.Prelude.{◌≡◌, ◌++◌, IfOk, OnOk, option_map, string_bytes};
+ghost use Rattle.audit_report.specs.Blocks.{crate_lines, metadata_lines, or_texts, solution, vulnerability_lines, warning_lines};
+
+use crate::attributes::{push_attribute, push_severity, push_url};
+use crate::words::kind_word;
+use audit_advisory::{Advisory, Metadata, Requirement, WarningKind};
+use audit_lock::Package;
+use std::alloc::{AllocError, Global};
+
+#[tactic(auto, unfolding(crate::specs::Blocks::crate_lines))]
+fn push_crate(out: &mut String, locked: &Package) -> Result<(), AllocError>
+    ensures { OnOk result (string_bytes out.new ≡ string_bytes out.old ++ crate_lines locked.now) }
+{
+    push_attribute(out, "Crate:", locked.name.as_str())?;
+    push_attribute(out, "Version:", locked.version.as_str())
+}
+
+/// Appends what an advisory says of itself.
+#[tactic(auto, unfolding(crate::specs::Blocks::metadata_lines))]
+pub fn push_metadata(alloc: Global, out: &mut String, metadata: &Metadata) -> Result<(), AllocError>
+    ensures { OnOk result (string_bytes out.new
+        ≡ string_bytes out.old ++ metadata_lines metadata.now) }
+{
+    push_attribute(out, "Title:", metadata.title.as_str())?;
+    push_attribute(out, "Date:", metadata.date.as_str())?;
+    push_attribute(out, "ID:", metadata.id.as_str())?;
+    push_url(out, metadata)?;
+    push_severity(alloc, out, metadata.score_tenths)
+}
+
+/// The text of a requirement.
+pub fn requirement_text(requirement: &Requirement) -> &str
+    ensures { result.now ≡ requirement.now }
+{
+    requirement.text.as_str()
+}
+
+fn push_or_texts(out: &mut String, texts: &[Requirement]) -> Result<(), AllocError>
+    ensures { OnOk result (string_bytes out.new ≡ string_bytes out.old ++ or_texts texts.now) }
+{
+    for text in texts {
+        out.push_str(" OR ")?;
+        out.push_str(requirement_text(text))?;
+    }
+    Ok(())
+}
+
+/// The versions to upgrade to, if there are any.
+#[tactic(auto, unfolding(crate::specs::Blocks::solution))]
+fn solution(alloc: Global, patched: &[Requirement]) -> Result<String, AllocError>
+    ensures { IfOk result (λ text. string_bytes text ≡ solution patched.now) }
+{
+    let Some((first, more)) = patched.split_first() else {
+        return String::from_str(alloc, "No fixed upgrade is available!");
+    };
+    let mut out = String::from_str(alloc, "Upgrade to ")?;
+    out.push_str(requirement_text(first))?;
+    push_or_texts(&mut out, more)?;
+    Ok(out)
+}
+
+/// The lines of a package that an advisory hits.
+#[tactic(auto, unfolding(crate::specs::Blocks::vulnerability_lines))]
+pub fn vulnerability_lines(
+    alloc: Global,
+    locked: &Package,
+    advisory: &Advisory,
+) -> Result<String, AllocError>
+    ensures { IfOk result (λ text. string_bytes text
+        ≡ vulnerability_lines locked.now advisory.now) }
+{
+    let mut out = String::new(alloc);
+    push_crate(&mut out, locked)?;
+    push_metadata(alloc, &mut out, &advisory.metadata)?;
+    let solution = solution(alloc, advisory.versions.patched())?;
+    push_attribute(&mut out, "Solution:", solution.as_str())?;
+    Ok(out)
+}
+
+/// The lines of a package that is warned of.
+#[tactic(auto, unfolding(crate::specs::Blocks::warning_lines))]
+pub fn warning_lines(
+    alloc: Global,
+    kind: WarningKind,
+    locked: &Package,
+    advisory: Option<&Advisory>,
+) -> Result<String, AllocError>
+    ensures { IfOk result (λ text. string_bytes text
+        ≡ warning_lines kind locked.now (option_map (λ a. a.now) advisory.entry)) }
+{
+    let mut out = String::new(alloc);
+    push_crate(&mut out, locked)?;
+    push_attribute(&mut out, "Warning:", kind_word(kind))?;
+    if let Some(advisory) = advisory {
+        push_metadata(alloc, &mut out, &advisory.metadata)?;
+    }
+    Ok(out)
+}

@@ -1,0 +1,19 @@
+//! What holds of everything that a presenter prints for a terminal.
+ghost use Rattle.std.specs.Prelude.{◌≡◌, ℕ, List, [], ◌∷◌, ◌++◌, Bool, true, not, ◌&&◌, ◌||◌};
+ghost use Rattle.audit_lock.specs.declared.resolving.Package.{Package};
+ghost use Rattle.audit_report.specs.Blocks.{Block};
+ghost use Rattle.audit_report.specs.Shown.{blocks_text, is_among, shown_after, tree_lines, was_shown};
+ghost use Rattle.audit_report.specs.declared.shown_trees.ShownTree.{ShownTree};
+
+/// Where trees are wanted, the trees that count as shown after some blocks are those from before
+/// and those of the blocks; and a block behind others has its tree exactly where neither one from
+/// before nor one of a block in front of it is of its package's name, version and source. So over
+/// a presenter's life each tree stands once.
+pub fn each_tree_stands_once()
+    ensures shown { (shown : List ShownTree) (blocks : List Block) (p : Package)
+        → was_shown (shown_after true shown blocks) p ≡ (was_shown shown p || is_among blocks p) }
+    ensures text { (shown : List ShownTree) (blocks : List Block) (b : Block)
+        → blocks_text true shown (blocks ++ b ∷ []) ≡ blocks_text true shown blocks
+        ++ (b.lines ++ tree_lines
+        (not (was_shown shown b.locked || is_among blocks b.locked)) b.tree) }
+{}

@@ -1,0 +1,28 @@
+//! What a user reads of an audit: its report for a terminal or as JSON, the lines that sum it up,
+//! and status lines.
+#![tactic(auto)]
+
+mod attributes;
+mod blocks;
+mod documents;
+mod findings;
+mod laws;
+mod listed;
+mod members;
+mod objects;
+mod pages;
+mod placing;
+mod presenters;
+mod putting;
+mod self_reports;
+mod settings;
+mod shown_trees;
+mod status_lines;
+mod summaries;
+mod words;
+
+pub use documents::{report_line, report_text};
+pub use laws::each_tree_stands_once;
+pub use presenters::{Found, Presenter};
+pub use putting::PrintError;
+pub use status_lines::{push_loaded, push_unchecked, push_updating, scanning_line_in};

@@ -1,0 +1,68 @@
+//! A text that is made in memory before it is put anywhere.
+ghost use Rattle.std.specs.Prelude.{◌≡◌, ◌++◌, [], ⊤, OnOk};
+
+use std::alloc::Global;
+use tame_names::{NoMemory, Sink, SinkFault};
+
+/// A text that is made in memory. As an output it fails only where memory runs out.
+#[derive(Drop)]
+pub struct Page {
+    bytes: Vec<u8>,
+    faults: u64,
+}
+
+impl Page {
+    /// An empty page.
+    pub fn new(alloc: Global) -> Page
+        ensures { result.bytes.items ≡ [] }
+    {
+        Page {
+            bytes: Vec::new(alloc),
+            faults: 0,
+        }
+    }
+
+    /// A page of these bytes, without a copy.
+    pub fn of(bytes: Vec<u8>) -> Page
+        ensures { result.bytes.items ≡ bytes.items }
+    {
+        Page { bytes, faults: 0 }
+    }
+
+    /// Appends a text.
+    pub fn push(&mut self, text: &str) -> Result<(), NoMemory>
+        ensures { OnOk result (self.new.bytes.items ≡ self.old.bytes.items ++ text.now) }
+    {
+        self.bytes.extend_from_slice(text.as_bytes())?;
+        Ok(())
+    }
+
+    /// The text so far.
+    pub fn as_bytes(&self) -> &[u8]
+        ensures { result.now ≡ self.now.bytes.items }
+    {
+        self.bytes.as_slice()
+    }
+}
+
+impl Sink for Page {
+    ghost tells = { ⊤ };
+
+    ghost holds = { λ p. p.bytes.items };
+
+    ghost faults = { λ p. p.faults };
+
+    fn sink_faults(&self) -> u64 {
+        self.faults
+    }
+
+    fn put(&mut self, piece: &[u8]) -> Result<(), SinkFault> {
+        match self.bytes.extend_from_slice(piece) {
+            Ok(()) => Ok(()),
+            Err(_) => {
+                self.faults = self.faults.saturating_add(1);
+                Err(SinkFault)
+            }
+        }
+    }
+}

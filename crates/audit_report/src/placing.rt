@@ -1,0 +1,85 @@
+//! The places that a report and a list name.
+ghost use Rattle.std.specs.Prelude.{◌≡◌, ◌<◌, IfSome, length, option_copied, slice_get};
+ghost use Rattle.std.specs.List.{list_all};
+ghost use Rattle.audit_report.specs.Blocks.{advisory_at};
+ghost use Rattle.audit_report.specs.Placing.{are_placed, is_place, is_placed, is_vulnerability, is_warning};
+
+use audit_advisory::{Advisory, Report, Vulnerability, Warning};
+use audit_lock::Package;
+
+/// The package at a place.
+pub fn package_at(packages: &[Package], place: usize) -> Option<&Package>
+    ensures at { option_copied result ≡ slice_get packages.now place }
+    ensures below { IfSome result (λ _. place < length packages.now) }
+{
+    packages.get(place)
+}
+
+/// The advisory at a place.
+pub fn listed_at(advisories: &[Advisory], place: usize) -> Option<&Advisory>
+    ensures { option_copied result ≡ slice_get advisories.now place }
+{
+    advisories.get(place)
+}
+
+/// The advisory at a place, where one is named.
+pub fn advisory_at(advisories: &[Advisory], place: Option<usize>) -> Option<&Advisory>
+    ensures { option_copied result ≡ advisory_at advisories.now place }
+{
+    match place {
+        None => None,
+        Some(place) => listed_at(advisories, place),
+    }
+}
+
+fn is_place(count: usize, place: Option<usize>) -> bool
+    ensures { result ≡ is_place count place }
+{
+    match place {
+        None => true,
+        Some(place) => place < count,
+    }
+}
+
+fn is_vulnerability(advisories: usize, packages: usize, found: &Vulnerability) -> bool
+    ensures { result ≡ is_vulnerability advisories packages found.now }
+{
+    found.advisory < advisories && found.package < packages
+}
+
+fn is_warning(advisories: usize, packages: usize, warning: &Warning) -> bool
+    ensures { result ≡ is_warning advisories packages warning.now }
+{
+    is_place(advisories, warning.advisory) && warning.package < packages
+}
+
+fn are_vulnerabilities(advisories: usize, packages: usize, found: &[Vulnerability]) -> bool
+    ensures { result ≡ list_all (is_vulnerability advisories packages) found.now }
+{
+    found
+        .iter()
+        .all(|found| is_vulnerability(advisories, packages, found))
+}
+
+fn are_warnings(advisories: usize, packages: usize, warnings: &[Warning]) -> bool
+    ensures { result ≡ list_all (is_warning advisories packages) warnings.now }
+{
+    warnings
+        .iter()
+        .all(|warning| is_warning(advisories, packages, warning))
+}
+
+/// Whether each place that a report names has an advisory or a package.
+pub fn is_placed(advisories: usize, packages: usize, report: &Report) -> bool
+    ensures { result ≡ is_placed advisories packages report.now }
+{
+    are_vulnerabilities(advisories, packages, report.vulnerabilities.as_slice())
+        && are_warnings(advisories, packages, report.warnings.as_slice())
+}
+
+/// Whether each of these places has an advisory.
+pub fn are_placed(advisories: usize, places: &[usize]) -> bool
+    ensures { result ≡ are_placed advisories places.now }
+{
+    places.iter().all(|place| *place < advisories)
+}

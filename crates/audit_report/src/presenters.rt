@@ -1,0 +1,359 @@
+//! Prints reports, and each tree once in its life.
+ghost use Rattle.std.specs.Prelude.{◌≡◌, ◌≢◌, ◌<◌, ◌≤◌, ◌++◌, ◌↔◌, ◌⊎◌, [], length, option_map, string_bytes, All, IfOk, IfErr, IsErrOf, IsFalse, OnOk, OnErr};
+ghost use Rattle.tame_names.specs.Counts.{Rose};
+ghost use Rattle.audit_lock.specs.Parents.{tree_of};
+ghost use Rattle.audit_advisory.specs.Reports.{IsPlaced};
+ghost use Rattle.audit_advisory.specs.Exits.{report_fails, self_fails};
+ghost use Rattle.audit_report.specs.Blocks.{blocks_of};
+ghost use Rattle.audit_report.specs.Documents.{ReadsBack, report_line};
+ghost use Rattle.audit_report.specs.Outputs.{IsPut};
+ghost use Rattle.audit_report.specs.Placing.{are_placed, is_placed};
+ghost use Rattle.audit_report.specs.Printed.{printed, terminal_form};
+ghost use Rattle.audit_report.specs.SelfReports.{self_summary, self_text};
+ghost use Rattle.audit_report.specs.Shown.{Shows};
+ghost use Rattle.audit_report.specs.StatusLines.{scanning_line_in};
+
+use crate::documents::report_line;
+use crate::findings::{Findings, Sheet, push_report};
+use crate::pages::Page;
+use crate::placing::{are_placed, is_placed};
+use crate::putting::{PrintError, put_text, put_texts};
+use crate::self_reports::{self_summary, self_text};
+use crate::shown_trees::Trees;
+use crate::status_lines::scanning_line_in;
+use crate::summaries::summary;
+use audit_advisory::{Database, OutputConfig, OutputFormat, Report, report_fails, self_fails};
+use audit_lock::{Lockfile, Tree};
+use std::alloc::Global;
+use tame_names::{Items, NoMemory, Sink};
+
+/// What a binary tells of the packages that it was built from.
+#[derive(Clone, Copy, Debug, PartialEq, Eq)]
+pub enum Found {
+    /// All of them.
+    Complete,
+    /// Some of them.
+    Incomplete,
+    Nothing,
+}
+
+/// The texts of a report, with the trees that they show.
+#[derive(Drop)]
+struct Made {
+    out: Page,
+    err: String,
+    added: Trees,
+}
+
+/// Prints reports. Over its life it shows each package's tree once.
+#[derive(Drop)]
+pub struct Presenter {
+    config: OutputConfig,
+    /// The trees that it has shown.
+    trees: Trees,
+}
+
+/// A copy of a configuration.
+fn config_copied(alloc: Global, config: &OutputConfig) -> Result<OutputConfig, NoMemory>
+    ensures { IfOk result (λ copy. copy ≡ config.now) }
+{
+    let mut deny = Items::new(alloc);
+    deny.extend(config.deny.as_slice())?;
+    Ok(OutputConfig {
+        deny,
+        format: config.format,
+        quiet: config.quiet,
+        show_tree: config.show_tree,
+    })
+}
+
+/// The blocks of a report, and the trees that they show.
+fn sheet_of(alloc: Global, findings: &Findings<'_>, report: &Report) -> Result<Sheet, NoMemory>
+    requires made { findings.now.tree.now ≡ tree_of findings.now.lockfile.now }
+    ensures { IfOk result (λ sheet. Shows findings.now.wanted
+        (blocks_of findings.now.advisories.now findings.now.lockfile.now report.now)
+        [] findings.now.known.now
+        sheet.page.bytes.items (findings.now.known.now ++ sheet.added)) }
+{
+    let mut sheet = Sheet {
+        page: Page::new(alloc),
+        added: Trees::new(alloc),
+    };
+    push_report(alloc, &mut sheet, findings, report)?;
+    Ok(sheet)
+}
+
+/// The line of a report as JSON.
+fn made_json(
+    alloc: Global,
+    database: &Database,
+    lockfile: &Lockfile,
+    report: &Report,
+) -> Result<Made, NoMemory>
+    ensures out { IfOk result (λ made. made.out.bytes.items
+        ≡ report_line database.now lockfile.now report.now) }
+    ensures err { IfOk result (λ made. string_bytes made.err ≡ []) }
+    ensures added { IfOk result (λ made. made.added ≡ []) }
+    ensures reads_back { OnOk result (ReadsBack database.now lockfile.now report.now) }
+{
+    let line = report_line(alloc, report, database.advisories(), lockfile.packages())?;
+    Ok(Made {
+        out: Page::of(line),
+        err: String::new(alloc),
+        added: Trees::new(alloc),
+    })
+}
+
+/// Nothing.
+fn made_nothing(alloc: Global) -> Made
+    ensures out { result.out.bytes.items ≡ [] }
+    ensures err { string_bytes result.err ≡ [] }
+    ensures added { result.added ≡ [] }
+{
+    Made {
+        out: Page::new(alloc),
+        err: String::new(alloc),
+        added: Trees::new(alloc),
+    }
+}
+
+impl Presenter {
+    /// A presenter that has shown no tree.
+    pub fn new(alloc: Global, config: &OutputConfig) -> Result<Presenter, NoMemory>
+        ensures config { IfOk result (λ presenter. presenter.config ≡ config.now) }
+        ensures trees { IfOk result (λ presenter. presenter.trees ≡ []) }
+    {
+        Ok(Presenter {
+            config: config_copied(alloc, config)?,
+            trees: Trees::new(alloc),
+        })
+    }
+
+    /// Puts the status line of a lockfile, unless status lines are left out.
+    pub fn before_report<E: Sink>(
+        &mut self,
+        alloc: Global,
+        err: &mut E,
+        path: &str,
+        lockfile: &Lockfile,
+    ) -> Result<(), PrintError>
+        ensures err { E.tells → IsPut (E.holds err.old)
+            (scanning_line_in self.old.config path.now (length lockfile.now))
+            (E.holds err.new) result }
+        ensures later { E.faults err.old ≤ E.faults err.new }
+        ensures failed { IsErrOf result PrintError.Io
+            → Rose (E.faults err.old) (E.faults err.new) }
+        ensures placed { IfErr result (λ e. e ≢ PrintError.Tree) }
+        ensures unput { IsErrOf result PrintError.NoMemory → err.new ≡ err.old }
+        ensures same { self.new ≡ self.old }
+    {
+        let line = scanning_line_in(alloc, &self.config, path, lockfile.packages().len())?;
+        put_text(err, line.as_bytes())
+    }
+
+    /// The terminal form of a report.
+    fn made_terminal(
+        &self,
+        alloc: Global,
+        report: &Report,
+        database: &Database,
+        lockfile: &Lockfile,
+        path: Option<&str>,
+    ) -> Result<Made, NoMemory>
+        ensures out { IfOk result (λ made. made.out.bytes.items
+            ≡ (terminal_form self.now (option_map (λ p. p.now) path.entry)
+            database.now lockfile.now report.now).out) }
+        ensures err { IfOk result (λ made. string_bytes made.err
+            ≡ (terminal_form self.now (option_map (λ p. p.now) path.entry)
+            database.now lockfile.now report.now).err) }
+        ensures trees { IfOk result (λ made. self.now.trees ++ made.added
+            ≡ (terminal_form self.now (option_map (λ p. p.now) path.entry)
+            database.now lockfile.now report.now).trees) }
+    {
+        let tree = Tree::of(alloc, lockfile)?;
+        let findings = Findings {
+            advisories: database.advisories(),
+            lockfile,
+            tree: &tree,
+            wanted: self.config.show_tree,
+            known: self.trees.as_slice(),
+        };
+        let sheet = sheet_of(alloc, &findings, report)?;
+        let err = summary(alloc, self.config.deny.as_slice(), path, report)?;
+        Ok(Made {
+            out: sheet.page,
+            err,
+            added: sheet.added,
+        })
+    }
+
+    /// The texts of a report in the presenter's form.
+    fn made(
+        &self,
+        alloc: Global,
+        report: &Report,
+        database: &Database,
+        lockfile: &Lockfile,
+        path: Option<&str>,
+    ) -> Result<Made, NoMemory>
+        ensures out { IfOk result (λ made. made.out.bytes.items
+            ≡ (printed self.now (option_map (λ p. p.now) path.entry)
+            database.now lockfile.now report.now).out) }
+        ensures err { IfOk result (λ made. string_bytes made.err
+            ≡ (printed self.now (option_map (λ p. p.now) path.entry)
+            database.now lockfile.now report.now).err) }
+        ensures trees { IfOk result (λ made. self.now.trees ++ made.added
+            ≡ (printed self.now (option_map (λ p. p.now) path.entry)
+            database.now lockfile.now report.now).trees) }
+        ensures reads_back { self.now.config.format ≡ OutputFormat.Json
+            → OnOk result (ReadsBack database.now lockfile.now report.now) }
+    {
+        match self.config.format {
+            OutputFormat::Terminal => self.made_terminal(alloc, report, database, lockfile, path),
+            OutputFormat::Json => made_json(alloc, database, lockfile, report),
+            OutputFormat::Sarif => Ok(made_nothing(alloc)),
+        }
+    }
+
+    /// Puts texts, whose trees count as shown once both are put.
+    fn put_made<O: Sink, E: Sink>(
+        &mut self,
+        out: &mut O,
+        err: &mut E,
+        made: &mut Made,
+    ) -> Result<(), PrintError>
+        ensures out { O.tells
+            → IsPut (O.holds out.old) made.old.out.bytes.items (O.holds out.new) result }
+        ensures err { E.tells
+            → IsPut (E.holds err.old) (string_bytes made.old.err) (E.holds err.new) result }
+        ensures out_nothing { made.old.out.bytes.items ≡ [] → out.new ≡ out.old }
+        ensures err_nothing { string_bytes made.old.err ≡ [] → err.new ≡ err.old }
+        ensures out_later { O.faults out.old ≤ O.faults out.new }
+        ensures err_later { E.faults err.old ≤ E.faults err.new }
+        ensures failed { IsErrOf result PrintError.Io
+            → Rose (O.faults out.old) (O.faults out.new)
+            ⊎ Rose (E.faults err.old) (E.faults err.new) }
+        ensures placed { IfErr result (λ e. e ≢ PrintError.Tree) }
+        ensures unput { IfErr result (λ e. e ≢ PrintError.Io
+            → (out.new ≡ out.old) × (err.new ≡ err.old)) }
+        ensures config { self.new.config ≡ self.old.config }
+        ensures trees { OnOk result (self.new.trees ≡ self.old.trees ++ made.old.added) }
+        ensures same { OnErr result (self.new ≡ self.old) }
+    {
+        let known = self.trees.count();
+        self.trees.extend(&mut made.added)?;
+        match put_texts(out, err, made.out.as_bytes(), made.err.as_bytes()) {
+            Ok(()) => Ok(()),
+            Err(error) => {
+                self.trees.keep(known);
+                Err(error)
+            }
+        }
+    }
+
+    /// Prints a report in the presenter's form: on `out` its text, on `err` the lines that sum it
+    /// up; `path` is that of a binary, if there is one. `Tree` comes before anything is put. After
+    /// any refusal the trees count as shown that did before. SARIF isn't printed yet: its texts
+    /// are empty.
+    pub fn print_report<O: Sink, E: Sink>(
+        &mut self,
+        alloc: Global,
+        out: &mut O,
+        err: &mut E,
+        report: &Report,
+        database: &Database,
+        lockfile: &Lockfile,
+        path: Option<&str>,
+    ) -> Result<(), PrintError>
+        ensures tree { IsErrOf result PrintError.Tree
+            ↔ IsFalse (is_placed (length database.now) (length lockfile.now) report.now) }
+        // the report of this database on this lockfile has no such place
+        ensures placed { IsPlaced report.now → report.now.advisory_count ≡ length database.now
+            → report.now.dependency_count ≡ length lockfile.now
+            → IfErr result (λ e. e ≢ PrintError.Tree) }
+        ensures out { O.tells → IsPut (O.holds out.old)
+            (printed self.old (option_map (λ p. p.now) path.entry)
+            database.now lockfile.now report.now).out (O.holds out.new) result }
+        ensures err { E.tells → IsPut (E.holds err.old)
+            (printed self.old (option_map (λ p. p.now) path.entry)
+            database.now lockfile.now report.now).err (E.holds err.new) result }
+        ensures out_later { O.faults out.old ≤ O.faults out.new }
+        ensures err_later { E.faults err.old ≤ E.faults err.new }
+        ensures failed { IsErrOf result PrintError.Io
+            → Rose (O.faults out.old) (O.faults out.new)
+            ⊎ Rose (E.faults err.old) (E.faults err.new) }
+        ensures unput { IfErr result (λ e. e ≢ PrintError.Io
+            → (out.new ≡ out.old) × (err.new ≡ err.old)) }
+        ensures config { self.new.config ≡ self.old.config }
+        ensures trees { OnOk result (self.new.trees
+            ≡ (printed self.old (option_map (λ p. p.now) path.entry)
+            database.now lockfile.now report.now).trees) }
+        ensures same { OnErr result (self.new ≡ self.old) }
+        // the line of JSON is read as the object that is meant
+        ensures reads_back { self.old.config.format ≡ OutputFormat.Json
+            → OnOk result (ReadsBack database.now lockfile.now report.now) }
+        // nothing in a form that isn't printed yet
+        ensures unprinted { self.old.config.format ≡ OutputFormat.Sarif
+            → (out.new ≡ out.old) × (err.new ≡ err.old) }
+    {
+        let advisories = database.advisories().len();
+        if !is_placed(advisories, lockfile.packages().len(), report) {
+            return Err(PrintError::Tree);
+        }
+        let mut made = self.made(alloc, report, database, lockfile, path)?;
+        self.put_made(out, err, &mut made)
+    }
+
+    /// Prints what advisories on the auditor itself say, by their places, where there is one: a
+    /// line on `err`, and then the text on `out`. `Tree` comes before anything is put.
+    pub fn print_self_report<O: Sink, E: Sink>(
+        &mut self,
+        alloc: Global,
+        out: &mut O,
+        err: &mut E,
+        database: &Database,
+        advisories: &Items<usize>,
+    ) -> Result<(), PrintError>
+        ensures tree { IsErrOf result PrintError.Tree
+            ↔ IsFalse (are_placed (length database.now) advisories.now) }
+        // places that a query of this database finds are none of these
+        ensures placed { All (λ place. place < length database.now) advisories.now
+            → IfErr result (λ e. e ≢ PrintError.Tree) }
+        ensures out { O.tells → IsPut (O.holds out.old)
+            (self_text database.now advisories.now) (O.holds out.new) result }
+        ensures err { E.tells → IsPut (E.holds err.old)
+            (self_summary self.old.config.deny advisories.now) (E.holds err.new) result }
+        ensures out_later { O.faults out.old ≤ O.faults out.new }
+        ensures err_later { E.faults err.old ≤ E.faults err.new }
+        ensures failed { IsErrOf result PrintError.Io
+            → Rose (O.faults out.old) (O.faults out.new)
+            ⊎ Rose (E.faults err.old) (E.faults err.new) }
+        ensures unput { IfErr result (λ e. e ≢ PrintError.Io
+            → (out.new ≡ out.old) × (err.new ≡ err.old)) }
+        ensures same { self.new ≡ self.old }
+    {
+        let places = advisories.as_slice();
+        if !are_placed(database.advisories().len(), places) {
+            return Err(PrintError::Tree);
+        }
+        let line = self_summary(alloc, self.config.deny.as_slice(), places)?;
+        let text = self_text(alloc, database.advisories(), places)?;
+        put_texts(err, out, line.as_bytes(), text.as_bytes())
+    }
+
+    /// Whether an audit fails by its report: it has a vulnerability, or a warning of a kind that is
+    /// denied.
+    pub fn should_exit_with_failure(&self, report: &Report) -> bool
+        ensures { result ≡ report_fails report.now self.now.config.deny }
+    {
+        report_fails(report, self.config.deny.as_slice())
+    }
+
+    /// Whether an audit fails by advisories on the auditor itself: there are some, and they are
+    /// denied.
+    pub fn should_exit_with_failure_due_to_self(&self, advisories: &Items<usize>) -> bool
+        ensures { result ≡ self_fails self.now.config.deny advisories.now }
+    {
+        self_fails(self.config.deny.as_slice(), advisories.as_slice())
+    }
+}

@@ -1,0 +1,106 @@
+//! Status lines.
+ghost use Rattle.std.specs.Prelude.{◌≡◌, ◌++◌, decimal, IfOk, OnOk, string_bytes};
+ghost use Rattle.json.specs.Print.{quoted};
+ghost use Rattle.audit_report.specs.StatusLines.{loaded_line, scanning_line, scanning_line_in, unchecked_line, unchecked_title, updating_line};
+
+use audit_advisory::OutputConfig;
+use serde_json::Value;
+use std::alloc::{AllocError, Global};
+
+fn push_number(alloc: Global, out: &mut String, number: usize) -> Result<(), AllocError>
+    ensures { OnOk result (string_bytes out.new ≡ string_bytes out.old ++ decimal number) }
+{
+    let text = format!(in alloc; "{number}")?;
+    out.push_str(text.as_str())
+}
+
+fn push_quoted(alloc: Global, out: &mut String, text: &str) -> Result<(), AllocError>
+    ensures { OnOk result (string_bytes out.new ≡ string_bytes out.old ++ quoted text.now) }
+{
+    let quoted = Value::String(String::from_str(alloc, text)?).to_string(alloc)?;
+    out.push_str(quoted.as_str())
+}
+
+/// Appends the line that tells how many advisories the database at a path has.
+#[tactic(auto, unfolding(crate::specs::StatusLines::loaded_line))]
+pub fn push_loaded(
+    alloc: Global,
+    out: &mut String,
+    count: usize,
+    path: &str,
+) -> Result<(), AllocError>
+    ensures { OnOk result (string_bytes out.new
+        ≡ string_bytes out.old ++ loaded_line count path.now) }
+{
+    out.push_str("Loaded ")?;
+    push_number(alloc, out, count)?;
+    out.push_str(" security advisories (from ")?;
+    out.push_str(path)?;
+    out.push_str(")\n")
+}
+
+/// Appends the line that tells that the index is asked.
+#[tactic(auto, unfolding(crate::specs::StatusLines::updating_line))]
+pub fn push_updating(out: &mut String) -> Result<(), AllocError>
+    ensures { OnOk result (string_bytes out.new ≡ string_bytes out.old ++ updating_line) }
+{
+    out.push_str("Updating crates.io index\n")
+}
+
+/// The line that tells how many packages the lockfile at a path has.
+#[tactic(auto, unfolding(crate::specs::StatusLines::scanning_line))]
+fn scanning_line(alloc: Global, path: &str, count: usize) -> Result<String, AllocError>
+    ensures { IfOk result (λ text. string_bytes text ≡ scanning_line path.now count) }
+{
+    let mut out = String::from_str(alloc, "Scanning ")?;
+    out.push_str(path)?;
+    out.push_str(" for vulnerabilities (")?;
+    push_number(alloc, &mut out, count)?;
+    out.push_str(" crate dependencies)\n")?;
+    Ok(out)
+}
+
+/// That line, unless status lines are left out.
+pub fn scanning_line_in(
+    alloc: Global,
+    config: &OutputConfig,
+    path: &str,
+    count: usize,
+) -> Result<String, AllocError>
+    ensures { IfOk result (λ text. string_bytes text
+        ≡ scanning_line_in config.now path.now count) }
+{
+    if config.is_quiet() {
+        Ok(String::new(alloc))
+    } else {
+        scanning_line(alloc, path, count)
+    }
+}
+
+#[tactic(auto, unfolding(crate::specs::StatusLines::unchecked_title))]
+fn push_unchecked_title(out: &mut String) -> Result<(), AllocError>
+    ensures { OnOk result (string_bytes out.new ≡ string_bytes out.old ++ unchecked_title) }
+{
+    out.push_str("error: couldn't check if the package is yanked: ")
+}
+
+/// Appends the line of a package of which it isn't known whether it is yanked, and why.
+#[tactic(auto, unfolding(crate::specs::StatusLines::unchecked_line))]
+pub fn push_unchecked(
+    alloc: Global,
+    out: &mut String,
+    name: &str,
+    version: &str,
+    cause: &str,
+) -> Result<(), AllocError>
+    ensures { OnOk result (string_bytes out.new
+        ≡ string_bytes out.old ++ unchecked_line name.now version.now cause.now) }
+{
+    push_unchecked_title(out)?;
+    push_quoted(alloc, out, name)?;
+    out.push_str(" ")?;
+    out.push_str(version)?;
+    out.push_str(": ")?;
+    out.push_str(cause)?;
+    out.push_str("\n")
+}

@@ -1,0 +1,118 @@
+//! What is printed.
+use crate::stage::Stage;
+use crate::words::{place, places};
+use audit_report::{PrintError, push_loaded, push_unchecked, push_updating};
+use row_fixtures::{Row, RowFault};
+use std::alloc::{AllocError, Global};
+use tame_names::{Items, MemSink, utf8_text};
+
+/// Appends what an output gained, between its name and a mark.
+fn push_gained(text: &mut String, name: &str, sink: &MemSink) -> Result<(), AllocError> {
+    let gained = utf8_text(sink.bytes()).unwrap_or("no text");
+    write!(text, "\n{name}:\n{gained}.")
+}
+
+/// An answer, and what two outputs gained.
+fn gained(
+    alloc: Global,
+    answer: Result<(), PrintError>,
+    out: &MemSink,
+    err: &MemSink,
+) -> Result<String, RowFault> {
+    let mut text = format!(in alloc; "{answer:?}")?;
+    push_gained(&mut text, "out", out)?;
+    push_gained(&mut text, "err", err)?;
+    Ok(text)
+}
+
+/// An output whose puts with the numbers of the next word fail.
+fn sink_of(alloc: Global, row: &mut Row<'_>) -> Result<MemSink, RowFault> {
+    Ok(MemSink::new(alloc, Items::of(row.numbers(alloc)?)))
+}
+
+/// `print PATH OUT ERR`
+pub fn print(alloc: Global, stage: &mut Stage, mut row: Row<'_>) -> Result<String, RowFault> {
+    let path = row.text_or_none(alloc)?;
+    let mut out = sink_of(alloc, &mut row)?;
+    let mut err = sink_of(alloc, &mut row)?;
+    let (Some(presenter), Some(laid)) = (&mut stage.presenter, &stage.laid) else {
+        return Err(RowFault::Unread);
+    };
+    let path = match &path {
+        Some(path) => Some(path.as_str()),
+        None => None,
+    };
+    let (report, database, lockfile) = (&laid.report, &laid.database, &laid.lockfile);
+    let answer = presenter.print_report(
+        alloc, &mut out, &mut err, report, database, lockfile, path,
+    );
+    gained(alloc, answer, &out, &err)
+}
+
+/// `self PLACES OUT ERR`
+pub fn print_self(alloc: Global, stage: &mut Stage, mut row: Row<'_>) -> Result<String, RowFault> {
+    let places = places(alloc, &mut row)?;
+    let mut out = sink_of(alloc, &mut row)?;
+    let mut err = sink_of(alloc, &mut row)?;
+    let (Some(presenter), Some(laid)) = (&mut stage.presenter, &stage.laid) else {
+        return Err(RowFault::Unread);
+    };
+    let answer = presenter.print_self_report(alloc, &mut out, &mut err, &laid.database, &places);
+    gained(alloc, answer, &out, &err)
+}
+
+/// `scanning PATH ERR`
+pub fn scanning(alloc: Global, stage: &mut Stage, mut row: Row<'_>) -> Result<String, RowFault> {
+    let path = row.text(alloc)?;
+    let mut err = sink_of(alloc, &mut row)?;
+    let (Some(presenter), Some(laid)) = (&mut stage.presenter, &stage.laid) else {
+        return Err(RowFault::Unread);
+    };
+    let answer = presenter.before_report(alloc, &mut err, path.as_str(), &laid.lockfile);
+    let mut text = format!(in alloc; "{answer:?}")?;
+    push_gained(&mut text, "err", &err)?;
+    Ok(text)
+}
+
+/// `exits PLACES`
+pub fn exits(alloc: Global, stage: &mut Stage, mut row: Row<'_>) -> Result<String, RowFault> {
+    let places = places(alloc, &mut row)?;
+    let (Some(presenter), Some(laid)) = (&stage.presenter, &stage.laid) else {
+        return Err(RowFault::Unread);
+    };
+    let by_report = presenter.should_exit_with_failure(&laid.report);
+    let by_self = presenter.should_exit_with_failure_due_to_self(&places);
+    Ok(format!(in alloc; "{by_report} {by_self}")?)
+}
+
+/// A line without its newline.
+fn line_of(alloc: Global, text: &str) -> Result<String, RowFault> {
+    match text.strip_suffix('\n') {
+        Some(line) => Ok(String::from_str(alloc, line)?),
+        None => Err(RowFault::Unread),
+    }
+}
+
+/// `loaded N PATH`
+pub fn loaded(alloc: Global, mut row: Row<'_>) -> Result<String, RowFault> {
+    let mut out = String::new(alloc);
+    let count = place(&mut row)?;
+    push_loaded(alloc, &mut out, count, row.rest())?;
+    line_of(alloc, out.as_str())
+}
+
+/// `updating`
+pub fn updating(alloc: Global) -> Result<String, RowFault> {
+    let mut out = String::new(alloc);
+    push_updating(&mut out)?;
+    line_of(alloc, out.as_str())
+}
+
+/// `unchecked NAME VERSION CAUSE`
+pub fn unchecked(alloc: Global, mut row: Row<'_>) -> Result<String, RowFault> {
+    let name = row.text(alloc)?;
+    let version = row.text(alloc)?;
+    let mut out = String::new(alloc);
+    push_unchecked(alloc, &mut out, name.as_str(), version.as_str(), row.rest())?;
+    line_of(alloc, out.as_str())
+}
