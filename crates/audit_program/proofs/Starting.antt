@@ -10,25 +10,25 @@ use Rattle.audit_program.specs.Causes.{IsAskedFault, StartsBy, StartsWhere}
 
 -- ---- once it has what it asked for
 
-asked_case : (given : Asked) (verdicts : Bool) (before now : List Started) (o : Option RunFault) → IfSome o (IsAskedFault given verdicts) → RunStarts {T = Asked} before now (Ok given) → StartsBy before now o
-asked_case given verdicts before now None is h = h
-asked_case given verdicts before now (Some (fault.Lockfile reason)) is h = h
-asked_case given verdicts before now (Some fault.Later) is h = h
-asked_case given verdicts before now (Some fault.Print) is h = h
-asked_case given verdicts before now (Some fault.NoMemory) is h = inr (Some (pos 0), h)
-asked_case given verdicts before now (Some (fault.Usage place)) is h = absurd is
-asked_case given verdicts before now (Some (fault.Settings reason)) is h = absurd is
-asked_case given verdicts before now (Some (fault.Missing path)) is h = absurd is
-asked_case given verdicts before now (Some (fault.NotUtf8 path)) is h = absurd is
-asked_case given verdicts before now (Some (fault.TooLarge path len)) is h = absurd is
-asked_case given verdicts before now (Some (fault.File path)) is h = absurd is
-asked_case given verdicts before now (Some (fault.Advisory n reason)) is h = absurd is
-asked_case given verdicts before now (Some (fault.Generate status)) is h = absurd is
-asked_case given verdicts before now (Some (fault.Start failed)) is h = absurd is
+asked_case : (given : Asked) (before now : List Started) (o : Option RunFault) → IfSome o (IsAskedFault given) → RunStarts {T = Asked} before now (Ok given) → StartsBy before now o
+asked_case given before now None is h = h
+asked_case given before now (Some (fault.Lockfile reason)) is h = h
+asked_case given before now (Some fault.Later) is h = absurd is
+asked_case given before now (Some fault.Print) is h = h
+asked_case given before now (Some fault.NoMemory) is h = inr (Some (pos 0), h)
+asked_case given before now (Some (fault.Usage place)) is h = absurd is
+asked_case given before now (Some (fault.Settings reason)) is h = absurd is
+asked_case given before now (Some (fault.Missing path)) is h = absurd is
+asked_case given before now (Some (fault.NotUtf8 path)) is h = absurd is
+asked_case given before now (Some (fault.TooLarge path len)) is h = absurd is
+asked_case given before now (Some (fault.File path)) is h = absurd is
+asked_case given before now (Some (fault.Advisory n reason)) is h = absurd is
+asked_case given before now (Some (fault.Generate status)) is h = absurd is
+asked_case given before now (Some (fault.Start failed)) is h = absurd is
 
-pub asked_starts : (given : Asked) (verdicts b : Bool) (before now : List Started) (o : Option RunFault) → IfSome o (IsAskedFault given verdicts) → RunStartsWhere {T = Asked} b before now (Ok given) → StartsWhere b before now o
-asked_starts given verdicts true before now o is h = asked_case given verdicts before now o is h
-asked_starts given verdicts false before now o is h = h
+pub asked_starts : (given : Asked) (b : Bool) (before now : List Started) (o : Option RunFault) → IfSome o (IsAskedFault given) → RunStartsWhere {T = Asked} b before now (Ok given) → StartsWhere b before now o
+asked_starts given true before now o is h = asked_case given before now o is h
+asked_starts given false before now o is h = h
 
 -- ---- where asking failed
 

@@ -6,7 +6,6 @@ use Rattle.audit_lock.specs.Locked.{locked}
 use Rattle.audit_lock.specs.declared.lockfiles.LockfileFault.{LockfileFault}
 use Rattle.audit_lock.specs.declared.lockfiles.LockfileFault.TheVariants as lockfile_fault
 use Rattle.audit_lock.specs.declared.resolving.Package.{Package}
-use Rattle.audit_advisory.specs.declared.outputs.OutputFormat.TheVariants as format
 use Rattle.audit_settings.specs.declared.commands.AuditCommand.{AuditCommand}
 use Rattle.audit_words.specs.Reading.{command_of}
 use Rattle.audit_words.specs.declared.commands.BinCommand.{BinCommand}
@@ -58,13 +57,6 @@ pub record HasNoLockfile (told : Type 0) (command : AuditCommand) (host : Host) 
   pub lockfile : locked given.text ≡ Err reason
   pub no_memory : reason ≢ lockfile_fault.NoMemory
 
--- a report as SARIF was asked for, which can't be done yet
-pub record WantsSarif (told : Type 0) (command : AuditCommand) (host : Host) : Type 0 where
-  pub given : Asked
-  pub gives : told → asked command host (pos 0) ≡ Ok given
-  pub verdicts : command.verdicts ≡ false
-  pub sarif : given.config.output.format ≡ format.Sarif
-
 -- what the host has gives this refusal, where the host decides it
 pub record Refuses (told : Type 0) (command : AuditCommand) (host : Host) (reason : RunFault) : Type 0 where
   pub gives : told → IsTrue (is_told reason) → asked command host (status_told {T = Unit {0}} (Err reason)) ≡ Err (refused reason)
@@ -73,7 +65,6 @@ pub record Refuses (told : Type 0) (command : AuditCommand) (host : Host) (reaso
 -- the cause of a fault of a command's audit: what the host has, or the lockfile's text; that a count rose is said beside it
 abbrev pub CommandCause : Type 0 → AuditCommand → Host → RunFault → Type 0
 CommandCause told command host (fault.Lockfile reason) = HasNoLockfile told command host reason
-CommandCause told command host fault.Later = WantsSarif told command host
 CommandCause told command host fault.Print = Unit {0}
 CommandCause told command host fault.NoMemory = Unit {0}
 CommandCause told command host reason = Refuses told command host reason
@@ -97,7 +88,7 @@ MayPrint words =
 -- the cause of each fault: the words, what the host has, or the lockfile's text
 abbrev pub CauseOf : Type 0 → List (List ℕ) → Host → RunFault → Type 0
 CauseOf told words host (fault.Usage place) = command_of words ≡ Err (words_fault.Usage place)
-CauseOf told words host fault.Later = IsUnbuilt words ⊎ AuditCause told words host fault.Later
+CauseOf told words host fault.Later = IsUnbuilt words
 CauseOf told words host fault.Print = MayPrint words
 CauseOf told words host fault.NoMemory = Unit {0}
 CauseOf told words host reason = AuditCause told words host reason
@@ -122,12 +113,11 @@ IsAuditFault fault.NoMemory = Unit {0}
 IsAuditFault _ = ⊥
 
 -- the fault that a run ends with once it has what it asked for
-abbrev pub IsAskedFault : Asked → Bool → RunFault → Type 0
-IsAskedFault given verdicts (fault.Lockfile reason) = (reason ≢ lockfile_fault.NoMemory) × (locked given.text ≡ Err reason)
-IsAskedFault given verdicts fault.Later = (verdicts ≡ false) × (given.config.output.format ≡ format.Sarif)
-IsAskedFault given verdicts fault.Print = Unit {0}
-IsAskedFault given verdicts fault.NoMemory = Unit {0}
-IsAskedFault given verdicts _ = ⊥
+abbrev pub IsAskedFault : Asked → RunFault → Type 0
+IsAskedFault given (fault.Lockfile reason) = (reason ≢ lockfile_fault.NoMemory) × (locked given.text ≡ Err reason)
+IsAskedFault given fault.Print = Unit {0}
+IsAskedFault given fault.NoMemory = Unit {0}
+IsAskedFault given _ = ⊥
 
 -- ---- the calls that failed, and the starts
 

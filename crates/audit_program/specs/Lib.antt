@@ -1,4 +1,5 @@
 pub mod Causes
+pub mod Completes
 pub mod FaultLines
 pub mod Outputs
 pub mod Printed

@@ -4,6 +4,7 @@ use Rattle.tame_names.specs.Counts.{IsQuiet}
 use Rattle.tame_names.specs.Output.{AddsPrefix}
 use Rattle.audit_lock.specs.declared.resolving.Package.{Package}
 use Rattle.audit_advisory.specs.Outputs.{is_quiet}
+use Rattle.audit_advisory.specs.Reports.{IsPlaced}
 use Rattle.audit_advisory.specs.declared.advisories.Advisory.{Advisory}
 use Rattle.audit_advisory.specs.declared.outputs.OutputConfig.{OutputConfig}
 use Rattle.audit_words.specs.declared.commands.Command.{Command}
@@ -86,6 +87,12 @@ shown_on sheet = record {
   checks = sheet.auditor.now.checks;
   advisories = sheet.auditor.now.database;
 }
+
+-- the report of an audit is one of these advisories and of its packages: each place in it is that of one of them
+pub record IsReportOf (advisories : List Advisory) (audited : Audited) : Type 0 where
+  pub placed : IsPlaced audited.report
+  pub counted : audited.report.advisory_count ≡ length advisories
+  pub packages : audited.report.dependency_count ≡ length audited.lockfile
 
 -- all status lines of an audit, in their order
 abbrev pub status_lines : Shown → Audited → List ℕ

@@ -8,6 +8,7 @@ ghost use Rattle.audit_core.specs.Checks.{asked_of};
 ghost use Rattle.audit_core.specs.Turns.{AddsPart, KeepsHonest};
 ghost use Rattle.audit_core.specs.declared.checking.Checks.TheVariants as Checks;
 ghost use Rattle.audit_program.specs.Causes.{IsAuditFault};
+ghost use Rattle.audit_program.specs.Outputs.{IsReportOf};
 
 use audit_asked::RunFault;
 use audit_core::{AuditError, Audited, Auditor};
@@ -29,6 +30,7 @@ pub fn audit<W: Wire, D: CacheDisk>(
         (record { exchanges = W.exchanges wire.old; files = D.past disk.old; wire_faults = W.faults wire.old; disk_faults = D.faults disk.old })
         (record { exchanges = W.exchanges wire.new; files = D.past disk.new; wire_faults = W.faults wire.new; disk_faults = D.faults disk.new })
         text.now) }
+    ensures report { IfOk result (IsReportOf auditor.now.database) }
     ensures refused { (f : LockfileFault) → result ≡ Err (RunFault.Lockfile f) → locked text.now ≡ Err f }
     ensures only { IfErr result IsAuditFault }
     ensures uncalled { (f : LockfileFault) → locked text.now ≡ Err f → (wire.new ≡ wire.old) × (disk.new ≡ disk.old) }

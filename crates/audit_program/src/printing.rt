@@ -1,11 +1,11 @@
 //! The output of an audit.
-ghost use Rattle.std.specs.Prelude.{◌≡◌, ◌≤◌, ◌⊎◌, ◌++◌, codes, Ok, Err, IfOk, IfErr, string_bytes};
+ghost use Rattle.std.specs.Prelude.{◌≡◌, ◌≢◌, ◌≤◌, ◌⊎◌, ◌++◌, codes, Ok, Err, IfOk, IfErr, string_bytes};
 ghost use Rattle.tame_names.specs.Counts.{Rose};
 ghost use Rattle.audit_core.specs.Auditors.{self_advisories};
 ghost use Rattle.audit_report.specs.Outputs.{IsPut};
 ghost use Rattle.audit_report.specs.SelfReports.{self_summary, self_text};
 ghost use Rattle.audit_program.specs.Causes.{IsPrintFault};
-ghost use Rattle.audit_program.specs.Outputs.{output_of, presenter_of, report_output, report_printed, shown_on, status_lines};
+ghost use Rattle.audit_program.specs.Outputs.{IsReportOf, output_of, presenter_of, report_output, report_printed, shown_on, status_lines};
 ghost use Rattle.audit_program.specs.Printed.{verdict_lines};
 
 use crate::judged_lines::verdict_lines;
@@ -45,15 +45,16 @@ fn put<S: Sink>(sink: &mut S, text: &[u8]) -> Result<(), RunFault>
     }
 }
 
-/// The fault of a run whose report can't be printed. The places of a report are those of its
-/// database and its lockfile, so that none of them is to blame.
+/// The fault of a run whose report can't be printed. No place of its report is to blame.
 fn print_fault(error: PrintError) -> RunFault
+    requires { error ≢ PrintError.Tree }
     ensures print { result ≡ RunFault.Print → error ≡ PrintError.Io }
     ensures only { IsPrintFault result }
 {
     match error {
         PrintError::Io => RunFault::Print,
-        PrintError::Tree | PrintError::NoMemory => RunFault::NoMemory,
+        PrintError::NoMemory => RunFault::NoMemory,
+        PrintError::Tree => unreachable!(),
     }
 }
 
@@ -94,7 +95,8 @@ fn print_report<O: Sink, E: Sink>(
     out: &mut O,
     err: &mut E,
 ) -> Result<(), RunFault>
-    requires { presenter.old ≡ presenter_of sheet.now.config.now }
+    requires presenter { presenter.old ≡ presenter_of sheet.now.config.now }
+    requires report { IsReportOf sheet.now.auditor.now.database sheet.now.audited.now }
     ensures out { O.tells → IsPut (O.holds out.old) (report_printed (shown_on sheet.now) sheet.now.audited.now).out
         (O.holds out.new) result }
     ensures err { E.tells → IsPut (E.holds err.old) (report_printed (shown_on sheet.now) sheet.now.audited.now).err
@@ -157,6 +159,7 @@ fn print_all<O: Sink, E: Sink>(
     out: &mut O,
     err: &mut E,
 ) -> Result<(), RunFault>
+    requires report { IsReportOf sheet.now.auditor.now.database sheet.now.audited.now }
     ensures out { O.tells → IsPut (O.holds out.old) (report_output (shown_on sheet.now) sheet.now.audited.now).out
         (O.holds out.new) result }
     ensures err { E.tells → IsPut (E.holds err.old) (report_output (shown_on sheet.now) sheet.now.audited.now).err
@@ -199,6 +202,7 @@ pub fn print<O: Sink, E: Sink>(
     out: &mut O,
     err: &mut E,
 ) -> Result<(), RunFault>
+    requires report { IsReportOf sheet.now.auditor.now.database sheet.now.audited.now }
     ensures out { O.tells → IsPut (O.holds out.old) (output_of verdicts (shown_on sheet.now) sheet.now.audited.now).out
         (O.holds out.new) result }
     ensures err { E.tells → IsPut (E.holds err.old) (output_of verdicts (shown_on sheet.now) sheet.now.audited.now).err

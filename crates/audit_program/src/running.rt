@@ -1,6 +1,6 @@
 //! A run of the program.
-ghost use Rattle.std.specs.Prelude.{◌≡◌, ◌≢◌, ◌⊎◌, ◌≤◌, ◌++◌, [], ℕ, List, map, pos, codes, false, string_bytes, Ok, Err, Some, None, IsTrue, IsSome, IfSome, IfNone};
-ghost use Rattle.tame_names.specs.Counts.{Rose, IsQuiet};
+ghost use Rattle.std.specs.Prelude.{◌≡◌, ◌≢◌, ◌⊎◌, ◌≤◌, ◌++◌, [], ℕ, List, map, pos, codes, string_bytes, Ok, Err, Some, None, IsTrue, IsSome, IfSome, IfNone};
+ghost use Rattle.tame_names.specs.Counts.{Rose};
 ghost use Rattle.audit_lock.specs.Locked.{locked};
 ghost use Rattle.audit_lock.specs.declared.resolving.Package.{Package};
 ghost use Rattle.audit_settings.specs.declared.commands.AuditCommand.{AuditCommand};
@@ -18,13 +18,13 @@ ghost use Rattle.audit_core.specs.Checks.{asked_of, checks_of};
 ghost use Rattle.audit_core.specs.Turns.{AddsPart, KeepsHonest};
 ghost use Rattle.audit_core.specs.declared.checking.Checks.TheVariants as Checks;
 ghost use Rattle.audit_program.specs.Causes.{Accepts, AddsRunCall, CauseOf, CommandCause, IsAskedFault, IsPrintFault, MayFail, StartsWhere, is_early, status_of, words_generate};
+ghost use Rattle.audit_program.specs.Completes.{AreQuiet, IsReady};
 ghost use Rattle.audit_program.specs.Outputs.{IsEnded, IsPutBy, output_by, plain_text, shown_of, words_place};
 ghost use Rattle.audit_program.specs.Runs.{IsRun, IsRunOf};
 
 use crate::auditing::audit;
 use crate::ending::{Outcome, failed};
 use crate::printing::{Sheet, print, print_text};
-use audit_advisory::{OutputConfig, OutputFormat};
 use audit_asked::{Asked, RunFault, Runner, ask};
 use audit_core::Auditor;
 use audit_settings::AuditCommand;
@@ -33,16 +33,6 @@ use std::alloc::Global;
 use tame_cache::CacheDisk;
 use tame_names::{FileLock, Files, Sink};
 use tame_sparse::Wire;
-
-/// Whether a report can't be shown in this form yet.
-fn is_later(verdicts: bool, config: &OutputConfig) -> bool
-    ensures { IsTrue result → (verdicts ≡ false) × (config.now.format ≡ OutputFormat.Sarif) }
-{
-    match config.format {
-        OutputFormat::Sarif => !verdicts,
-        OutputFormat::Json | OutputFormat::Terminal => false,
-    }
-}
 
 /// Audits what was asked for, and prints the audit. The path is that of the lockfile, for a fault
 /// that tells it.
@@ -61,7 +51,7 @@ fn run_asked<W: Wire, D: CacheDisk, O: Sink, E: Sink>(
         (record { exchanges = W.exchanges wire.old; files = D.past disk.old; wire_faults = W.faults wire.old; disk_faults = D.faults disk.old })
         (record { exchanges = W.exchanges wire.new; files = D.past disk.new; wire_faults = W.faults wire.new; disk_faults = D.faults disk.new })
         given.text) }
-    ensures fault { IfSome result.fault (IsAskedFault given verdicts) }
+    ensures fault { IfSome result.fault (IsAskedFault given) }
     ensures rose { result.fault ≡ Some RunFault.Print → Rose (O.faults out.old) (O.faults out.new)
         ⊎ Rose (E.faults err.old) (E.faults err.new) }
     ensures has_audit { (result.fault ≡ None) ⊎ (result.fault ≡ Some RunFault.Print)
@@ -94,9 +84,6 @@ fn run_asked<W: Wire, D: CacheDisk, O: Sink, E: Sink>(
         advisories,
         text,
     } = given;
-    if is_later(verdicts, &config.output) {
-        return failed(alloc, err, place, RunFault::Later, None);
-    }
     let Ok(auditor) = Auditor::of(alloc, &config, advisories) else {
         return failed(alloc, err, place, RunFault::NoMemory, None);
     };
@@ -271,6 +258,13 @@ pub fn run<F: Files, R: Runner, W: Wire, D: CacheDisk, O: Sink, E: Sink>(
         → Rose (R.faults runner.old) (R.faults runner.new) }
     ensures usage { (place : ℕ) → command_of (map string_bytes words.now) ≡ Err (WordsFault.Usage place)
         → (result.fault ≡ Some (RunFault.Usage place)) ⊎ (result.fault ≡ Some RunFault.NoMemory) }
+
+    // a run of an audit that has all that it asks for, and of which no call on host or sinks fails, ends without a fault but want of memory
+    ensures complete { F.tells → IsReady (map string_bytes words.now) (F.host files.old)
+        → AreQuiet
+        (record { files = F.faults files.old; starts = R.faults runner.old; out = O.faults out.old; err = E.faults err.old })
+        (record { files = F.faults files.new; starts = R.faults runner.new; out = O.faults out.new; err = E.faults err.new })
+        → (result.fault ≡ None) ⊎ (result.fault ≡ Some RunFault.NoMemory) }
 
     // which call on the host failed, what was started, and that what the host has stays
     ensures failed { F.tells → AddsRunCall (MayFail (command_of (map string_bytes words.now)) (F.host files.old))

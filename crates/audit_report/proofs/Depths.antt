@@ -21,13 +21,13 @@ use Rattle.audit_advisory.specs.declared.outputs.WarningKind.TheVariants as kind
 
 -- ---- members and items of bounded depth
 
-both : (a b n : ℕ) → a ≤ n → b ≤ n → max a b ≤ n
+pub both : (a b n : ℕ) → a ≤ n → b ≤ n → max a b ≤ n
 both a b n h k = omega (arith, h, k)
 
-zero_le : (n : ℕ) → 0 ≤ n
+pub zero_le : (n : ℕ) → 0 ≤ n
 zero_le n = omega arith
 
-members_both : (n : ℕ) (xs ys : List (List ℕ × Json))
+pub members_both : (n : ℕ) (xs ys : List (List ℕ × Json))
     → members_depth (members_of xs) ≤ n → members_depth (members_of ys) ≤ n → members_depth (members_of (xs ++ ys)) ≤ n
 members_both n [] ys h k = k
 members_both n (x ∷ xs) ys h k = omega (arith, h, members_both n xs ys (omega (arith, h)) k)
@@ -42,7 +42,7 @@ items_within : {X : Type 0} (n : ℕ) (g : X → List Json) → ((x : X) → ite
 items_within n g h [] = omega arith
 items_within n g h (x ∷ xs) = items_both n (g x) (flat_map g xs) (h x) (items_within n g h xs)
 
-le_suc : (m n : ℕ) → m ≤ n → suc m ≤ n + 1
+pub le_suc : (m n : ℕ) → m ≤ n → suc m ≤ n + 1
 le_suc m n h = omega (arith, h)
 
 -- ---- the parts
@@ -59,13 +59,13 @@ texts_items : (ts : List (List ℕ)) → items_depth (items_of (map string ts)) 
 texts_items [] = omega arith
 texts_items (t ∷ ts) = omega (arith, texts_items ts)
 
-texts_within : (ts : List (List ℕ)) → depth (texts ts) ≤ 1
+pub texts_within : (ts : List (List ℕ)) → depth (texts ts) ≤ 1
 texts_within ts = omega (arith, texts_items ts)
 
 one_le : 1 ≤ 5
 one_le = omega arith
 
-low : 0 ≤ 0
+pub low : 0 ≤ 0
 low = omega arith
 
 metadata_within : (m : Metadata) → depth (metadata_object m) ≤ 1
@@ -89,7 +89,7 @@ package_within p = le_suc _ 0 (both _ _ _ low
     (both _ _ _ (text_within p.checksum)
     (zero_le 0)))))
 
-up : (j : Json) (n k : ℕ) → n ≤ k → depth j ≤ n → depth j ≤ k
+pub up : (j : Json) (n k : ℕ) → n ≤ k → depth j ≤ n → depth j ≤ k
 up j n k h d = omega (arith, h, d)
 
 versions_within : (a : Advisory) → depth (versions_object a) ≤ 2
@@ -132,7 +132,7 @@ warning_at_within k xs ps w =
       | false ↦ omega arith
     ]
 
-array_within : (n : ℕ) (js : List Json) → items_depth (items_of js) ≤ n → depth (array_of js) ≤ n + 1
+pub array_within : (n : ℕ) (js : List Json) → items_depth (items_of js) ≤ n → depth (array_of js) ≤ n + 1
 array_within n js h = omega (arith, h)
 
 member_if_within : (n : ℕ) (stands : Bool) (k : List ℕ) (j : Json) → depth j ≤ n → members_depth (members_of (member_if stands k j)) ≤ n

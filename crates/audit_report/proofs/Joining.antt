@@ -7,6 +7,7 @@ use Rattle.json.specs.Written.{Written}
 use Rattle.audit_report.specs.Documents.{listed_tokens, member_if}
 use Rattle.audit_report.specs.Adds.{Adds}
 use Rattle.audit_report.specs.Values.{members_of, object_of}
+use Rattle.audit_report.proofs.Writing.{behind}
 
 members-append : (xs ys : List (List ℕ × Json))
     → members_tokens (members_of (xs ++ ys)) ≡ listed_tokens xs ++ members_tokens (members_of ys)
@@ -43,3 +44,18 @@ pub adds_member_if : (stands : Bool) (k : List ℕ) (j : Json) (a b : Written) �
 adds_member_if stands k j a b e h =
     let P : Bool → Type 0 = λ s. Adds a b (listed_tokens (member_if s k j)) in
     subst P (sym e) (adds_member k j a b h)
+
+-- the members of an object, in front of others
+pub members_behind : (ms ns : List (List ℕ × Json)) {a b c : Written}
+    → Adds b c (members_tokens (members_of ns)) → Adds a b (listed_tokens ms)
+    → Adds a c (members_tokens (members_of (ms ++ ns)))
+members_behind ms ns {a = a} {c = c} h k =
+    let P : List Token → Type 0 = λ ts. Adds a c ts in
+    subst P (sym (members-append ms ns)) (behind h k)
+
+-- the last members of an object, and its end
+pub members_last : (ms : List (List ℕ × Json)) {a b c : Written}
+    → Adds b c (end_object ∷ []) → Adds a b (listed_tokens ms) → Adds a c (members_tokens (members_of ms))
+members_last ms {a = a} {c = c} h k =
+    let P : List Token → Type 0 = λ ts. Adds a c ts in
+    subst P (sym (members-listed ms)) (behind h k)

@@ -1,8 +1,11 @@
 pub mod Depths
+pub mod FirstUses
 pub mod Joining
 pub mod Newline
 pub mod Once
 pub mod Placed
 pub mod Reading
+pub mod SarifDepths
 pub mod Showing
+pub mod Telling
 pub mod Writing

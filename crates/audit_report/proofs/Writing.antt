@@ -1,8 +1,8 @@
 -- Pieces written one behind the other.
-use Rattle.std.proofs.Common.{◌≡◌, ◌+◌, ◌<◌, ℕ, List, [], ◌∷◌, ◌++◌, length, take, get_or, refl, sym, subst, ap, ◌∙◌, append-nil, append_assoc}
+use Rattle.std.proofs.Common.{◌≡◌, ◌+◌, ◌<◌, ℕ, List, [], ◌∷◌, ◌++◌, length, take, get_or, map, refl, sym, subst, ap, ◌∙◌, append-nil, append_assoc}
 use Rattle.std.specs.List.{flat_map}
 use Rattle.std.proofs.lemmas.Grind.{flat_map-append}
-use Rattle.std.proofs.lemmas.List.{take_more}
+use Rattle.std.proofs.lemmas.List.{map-append, take_more}
 use Rattle.json.specs.Json.{Json}
 use Rattle.json.specs.Token.{Token, begin_array, end_array}
 use Rattle.json.specs.Tree.{items_tokens, json_tokens}
@@ -55,3 +55,17 @@ pub adds_array : (js : List Json) (a b : Written)
 adds_array js a b h =
     let P : List Token → Type 0 = λ ts. Adds a b (begin_array ∷ ts) in
     subst P (sym (items_tokens-items_of js)) h
+
+-- the values of the first items, and then that of one more
+pub adds_next_item : {X : Type 0} (f : X → Json) (xs : List X) (i : ℕ) (x : X) → i < length xs → x ≡ get_or xs i x
+    → {a b c : Written} → Adds a b (values_tokens (map f (take i xs))) → Adds b c (json_tokens (f x))
+    → Adds a c (values_tokens (map f (take (i + 1) xs)))
+adds_next_item f xs i x l e {a = a} {c = c} h k =
+    let P : List Token → Type 0 = λ ts. Adds a c ts in
+    let more : values_tokens (map f (take (i + 1) xs)) ≡ values_tokens (map f (take i xs)) ++ json_tokens (f x) =
+    ap (λ ys. values_tokens (map f ys)) (take_more xs i x l)
+    ∙ ap (λ y. values_tokens (map f (take i xs ++ y ∷ []))) (sym e)
+    ∙ ap values_tokens (map-append f (take i xs) (x ∷ []))
+    ∙ flat_map-append json_tokens (map f (take i xs)) (f x ∷ [])
+    ∙ ap (λ ts. values_tokens (map f (take i xs)) ++ ts) (append-nil (json_tokens (f x))) in
+    subst P (sym more) (behind k h)

@@ -2,10 +2,16 @@ pub mod Adds
 pub mod Attributes
 pub mod Blocks
 pub mod Documents
+pub mod Firsts
 pub mod Objects
 pub mod Outputs
 pub mod Placing
 pub mod Printed
+pub mod Rules
+pub mod Sarif
+pub mod SarifObjects
+pub mod SarifRuns
+pub mod SarifTexts
 pub mod SelfReports
 pub mod Shown
 pub mod StatusLines

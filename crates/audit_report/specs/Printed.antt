@@ -8,6 +8,8 @@ use Rattle.audit_advisory.specs.declared.outputs.OutputFormat.TheVariants as for
 use Rattle.audit_advisory.specs.declared.reports.Report.{Report}
 use Rattle.audit_report.specs.Blocks.{blocks_of}
 use Rattle.audit_report.specs.Documents.{report_line}
+use Rattle.audit_report.specs.Sarif.{sarif_log, uri_of}
+use Rattle.audit_report.specs.SarifObjects.{sarif_line}
 use Rattle.audit_report.specs.Shown.{blocks_text, shown_after}
 use Rattle.audit_report.specs.Summaries.{summary}
 use Rattle.audit_report.specs.declared.presenters.Presenter.{Presenter}
@@ -33,16 +35,22 @@ abbrev pub json_form : Presenter → List Advisory → List Package → Report �
 json_form p advisories packages report =
     record { out = report_line advisories packages report; err = []; trees = p.trees }
 
--- nothing: SARIF isn't printed yet
-abbrev pub sarif_form : Presenter → Printed
-sarif_form p = record { out = []; err = []; trees = p.trees }
+-- one line on out
+abbrev pub sarif_form : Presenter → Option (List ℕ) → List Advisory → List Package → Report
+    → Printed
+sarif_form p path advisories packages report = record {
+  out = sarif_line (sarif_log (uri_of path) advisories packages report);
+  err = [];
+  trees = p.trees;
+}
 
 abbrev pub printed_as : OutputFormat → Presenter → Option (List ℕ) → List Advisory → List Package
     → Report → Printed
 printed_as format.Terminal p path advisories packages report =
     terminal_form p path advisories packages report
 printed_as format.Json p path advisories packages report = json_form p advisories packages report
-printed_as format.Sarif p path advisories packages report = sarif_form p
+printed_as format.Sarif p path advisories packages report =
+    sarif_form p path advisories packages report
 
 -- what a presenter prints, by its format; the path is that of a binary, if there is one
 abbrev pub printed : Presenter → Option (List ℕ) → List Advisory → List Package → Report → Printed

@@ -132,7 +132,7 @@ fn push_number(alloc: Global, out: &mut String, number: u8) -> Result<(), AllocE
 
 /// Tenths with one decimal.
 #[tactic(auto, unfolding(crate::specs::Attributes::one_decimal))]
-fn one_decimal(alloc: Global, tenths: u8) -> Result<String, AllocError>
+pub fn one_decimal(alloc: Global, tenths: u8) -> Result<String, AllocError>
     ensures { IfOk result (λ text. string_bytes text ≡ one_decimal tenths) }
 {
     let mut out = String::new(alloc);

@@ -1,5 +1,5 @@
-//! What a user reads of an audit: its report for a terminal or as JSON, the lines that sum it up,
-//! and status lines.
+//! What a user reads of an audit: its report for a terminal, as JSON or as SARIF, the lines that
+//! sum it up, and status lines.
 #![tactic(auto)]
 
 mod attributes;
@@ -8,12 +8,21 @@ mod documents;
 mod findings;
 mod laws;
 mod listed;
+mod made_texts;
 mod members;
 mod objects;
 mod pages;
 mod placing;
 mod presenters;
 mod putting;
+mod sarif_logs;
+mod sarif_objects;
+mod sarif_results;
+mod sarif_rule_objects;
+mod sarif_rules;
+mod sarif_runs;
+mod sarif_texts;
+mod sarif_words;
 mod self_reports;
 mod settings;
 mod shown_trees;
@@ -25,4 +34,7 @@ pub use documents::{report_line, report_text};
 pub use laws::each_tree_stands_once;
 pub use presenters::{Found, Presenter};
 pub use putting::PrintError;
+pub use sarif_logs::{
+    Level, MultiformatMessageString, Precision, Rule, Run, SarifLog, SarifResult,
+};
 pub use status_lines::{push_loaded, push_unchecked, push_updating, scanning_line_in};

@@ -5,16 +5,18 @@ ghost use Rattle.audit_lock.specs.Parents.{tree_of};
 ghost use Rattle.audit_advisory.specs.Reports.{IsPlaced};
 ghost use Rattle.audit_advisory.specs.Exits.{report_fails, self_fails};
 ghost use Rattle.audit_report.specs.Blocks.{blocks_of};
-ghost use Rattle.audit_report.specs.Documents.{ReadsBack, report_line};
+ghost use Rattle.audit_report.specs.Documents.{ReadsBack};
 ghost use Rattle.audit_report.specs.Outputs.{IsPut};
 ghost use Rattle.audit_report.specs.Placing.{are_placed, is_placed};
 ghost use Rattle.audit_report.specs.Printed.{printed, terminal_form};
+ghost use Rattle.audit_report.specs.Sarif.{sarif_log, uri_of};
+ghost use Rattle.audit_report.specs.SarifObjects.{LogReadsBack};
 ghost use Rattle.audit_report.specs.SelfReports.{self_summary, self_text};
 ghost use Rattle.audit_report.specs.Shown.{Shows};
 ghost use Rattle.audit_report.specs.StatusLines.{scanning_line_in};
 
-use crate::documents::report_line;
 use crate::findings::{Findings, Sheet, push_report};
+use crate::made_texts::{Made, made_json, made_sarif};
 use crate::pages::Page;
 use crate::placing::{are_placed, is_placed};
 use crate::putting::{PrintError, put_text, put_texts};
@@ -35,14 +37,6 @@ pub enum Found {
     /// Some of them.
     Incomplete,
     Nothing,
-}
-
-/// The texts of a report, with the trees that they show.
-#[derive(Drop)]
-struct Made {
-    out: Page,
-    err: String,
-    added: Trees,
 }
 
 /// Prints reports. Over its life it shows each package's tree once.
@@ -81,40 +75,6 @@ fn sheet_of(alloc: Global, findings: &Findings<'_>, report: &Report) -> Result<S
     };
     push_report(alloc, &mut sheet, findings, report)?;
     Ok(sheet)
-}
-
-/// The line of a report as JSON.
-fn made_json(
-    alloc: Global,
-    database: &Database,
-    lockfile: &Lockfile,
-    report: &Report,
-) -> Result<Made, NoMemory>
-    ensures out { IfOk result (λ made. made.out.bytes.items
-        ≡ report_line database.now lockfile.now report.now) }
-    ensures err { IfOk result (λ made. string_bytes made.err ≡ []) }
-    ensures added { IfOk result (λ made. made.added ≡ []) }
-    ensures reads_back { OnOk result (ReadsBack database.now lockfile.now report.now) }
-{
-    let line = report_line(alloc, report, database.advisories(), lockfile.packages())?;
-    Ok(Made {
-        out: Page::of(line),
-        err: String::new(alloc),
-        added: Trees::new(alloc),
-    })
-}
-
-/// Nothing.
-fn made_nothing(alloc: Global) -> Made
-    ensures out { result.out.bytes.items ≡ [] }
-    ensures err { string_bytes result.err ≡ [] }
-    ensures added { result.added ≡ [] }
-{
-    Made {
-        out: Page::new(alloc),
-        err: String::new(alloc),
-        added: Trees::new(alloc),
-    }
 }
 
 impl Presenter {
@@ -207,11 +167,15 @@ impl Presenter {
             database.now lockfile.now report.now).trees) }
         ensures reads_back { self.now.config.format ≡ OutputFormat.Json
             → OnOk result (ReadsBack database.now lockfile.now report.now) }
+        ensures sarif_reads_back { self.now.config.format ≡ OutputFormat.Sarif
+            → OnOk result (LogReadsBack
+            (sarif_log (uri_of (option_map (λ p. p.now) path.entry))
+            database.now lockfile.now report.now)) }
     {
         match self.config.format {
             OutputFormat::Terminal => self.made_terminal(alloc, report, database, lockfile, path),
             OutputFormat::Json => made_json(alloc, database, lockfile, report),
-            OutputFormat::Sarif => Ok(made_nothing(alloc)),
+            OutputFormat::Sarif => made_sarif(alloc, database, lockfile, report, path),
         }
     }
 
@@ -253,8 +217,9 @@ impl Presenter {
 
     /// Prints a report in the presenter's form: on `out` its text, on `err` the lines that sum it
     /// up; `path` is that of a binary, if there is one. `Tree` comes before anything is put. After
-    /// any refusal the trees count as shown that did before. SARIF isn't printed yet: its texts
-    /// are empty.
+    /// any refusal the trees count as shown that did before. As JSON and as SARIF it is one line
+    /// on `out` alone, and the trees stay as they were; results are located at `path`, or at
+    /// `Cargo.lock`.
     pub fn print_report<O: Sink, E: Sink>(
         &mut self,
         alloc: Global,
@@ -292,9 +257,11 @@ impl Presenter {
         // the line of JSON is read as the object that is meant
         ensures reads_back { self.old.config.format ≡ OutputFormat.Json
             → OnOk result (ReadsBack database.now lockfile.now report.now) }
-        // nothing in a form that isn't printed yet
-        ensures unprinted { self.old.config.format ≡ OutputFormat.Sarif
-            → (out.new ≡ out.old) × (err.new ≡ err.old) }
+        // and that of SARIF
+        ensures sarif_reads_back { self.old.config.format ≡ OutputFormat.Sarif
+            → OnOk result (LogReadsBack
+            (sarif_log (uri_of (option_map (λ p. p.now) path.entry))
+            database.now lockfile.now report.now)) }
     {
         let advisories = database.advisories().len();
         if !is_placed(advisories, lockfile.packages().len(), report) {

@@ -10,6 +10,7 @@
 //! - `presenter FORMAT TREES STATUS DENY`: a new presenter; TREES is `tree` or `bare`, STATUS
 //!   `loud` or `quiet`;
 //! - `print PATH OUT ERR`: prints the report; the puts on out and on err with these numbers fail;
+//! - `log PATH OUT`: makes the SARIF log of the report at a path and writes it;
 //! - `self PLACES OUT ERR`: prints the advisories at these places as those on the auditor itself;
 //! - `scanning PATH ERR`: the status line of the lockfile;
 //! - `exits PLACES`: whether the report and the advisories at these places make an audit fail;
@@ -40,6 +41,7 @@ fn answer(alloc: Global, stage: &mut Stage, row: Row<'_>) -> Result<String, RowF
         "warn" => stage.add_warning(alloc, words),
         "presenter" => stage.make_presenter(alloc, words),
         "print" => printing::print(alloc, stage, words),
+        "log" => printing::log(alloc, stage, words),
         "self" => printing::print_self(alloc, stage, words),
         "scanning" => printing::scanning(alloc, stage, words),
         "exits" => printing::exits(alloc, stage, words),

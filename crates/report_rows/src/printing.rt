@@ -1,7 +1,7 @@
 //! What is printed.
-use crate::stage::Stage;
+use crate::stage::{Laid, Stage};
 use crate::words::{place, places};
-use audit_report::{PrintError, push_loaded, push_unchecked, push_updating};
+use audit_report::{PrintError, SarifLog, push_loaded, push_unchecked, push_updating};
 use row_fixtures::{Row, RowFault};
 use std::alloc::{AllocError, Global};
 use tame_names::{Items, MemSink, utf8_text};
@@ -47,6 +47,25 @@ pub fn print(alloc: Global, stage: &mut Stage, mut row: Row<'_>) -> Result<Strin
         alloc, &mut out, &mut err, report, database, lockfile, path,
     );
     gained(alloc, answer, &out, &err)
+}
+
+/// The log of a report, put into an output.
+fn put_log(alloc: Global, laid: &Laid, path: &str, out: &mut MemSink) -> Result<(), PrintError> {
+    let log = SarifLog::from_report(alloc, &laid.report, &laid.database, &laid.lockfile, path)?;
+    log.write(alloc, out)
+}
+
+/// `log PATH OUT`
+pub fn log(alloc: Global, stage: &mut Stage, mut row: Row<'_>) -> Result<String, RowFault> {
+    let path = row.text(alloc)?;
+    let mut out = sink_of(alloc, &mut row)?;
+    let Some(laid) = &stage.laid else {
+        return Err(RowFault::Unread);
+    };
+    let answer = put_log(alloc, laid, path.as_str(), &mut out);
+    let mut text = format!(in alloc; "{answer:?}")?;
+    push_gained(&mut text, "out", &out)?;
+    Ok(text)
 }
 
 /// `self PLACES OUT ERR`

@@ -77,6 +77,17 @@ fn runner_of(alloc: Global, statuses: &[u64]) -> Result<MemRunner, RowFault> {
     Ok(MemRunner::new(alloc, ends))
 }
 
+/// The files of the stage.
+fn files_of(alloc: Global, stage: &Stage, calls: Vec<u64>) -> Result<MemFiles, RowFault> {
+    let files = host_with(
+        alloc,
+        stage.laid.as_slice(),
+        stage.variables.as_slice(),
+        calls,
+    )?;
+    Ok(files.with_input(Items::copied(alloc, stage.input.as_slice())?))
+}
+
 /// The command over the stage; its answers and the numbers of calls that fail are used up.
 pub fn ran_over(alloc: Global, stage: &mut Stage, words: &[String]) -> Result<Ran, RowFault> {
     let script = mem::replace(&mut stage.script, Items::new(alloc));
@@ -85,12 +96,7 @@ pub fn ran_over(alloc: Global, stage: &mut Stage, words: &[String]) -> Result<Ra
     let errors = mem::replace(&mut stage.errors, Vec::new(alloc));
     let statuses = mem::replace(&mut stage.statuses, Vec::new(alloc));
     let outside = Outside {
-        files: host_with(
-            alloc,
-            stage.laid.as_slice(),
-            stage.variables.as_slice(),
-            calls,
-        )?,
+        files: files_of(alloc, stage, calls)?,
         runner: runner_of(alloc, statuses.as_slice())?,
         wire: MemWire::new(alloc, script),
         out: MemSink::new(alloc, Items::of(puts)),
@@ -191,6 +197,43 @@ pub fn run_words(alloc: Global, stage: &mut Stage, words: Row<'_>) -> Result<Str
     let words = words_of(alloc, words.rest())?;
     let ran = ran_over(alloc, stage, words.as_slice())?;
     told(alloc, &ran, &stage.disk)
+}
+
+/// Adds the n-th call on the host's files of a run of these words, which fails, and the run's
+/// fault; or that no such call was made.
+fn push_failing(
+    alloc: Global,
+    out: &mut String,
+    stage: &mut Stage,
+    words: &[String],
+    n: u64,
+) -> Result<bool, RowFault> {
+    let mut calls = Vec::new(alloc);
+    calls.push(n)?;
+    stage.calls = calls;
+    let ran = ran_over(alloc, stage, words)?;
+    let fault = &ran.outcome.fault;
+    match ran.files.failed() {
+        [call] => write!(out, "{n} {call:?} {fault:?}; ")?,
+        _ => {
+            write!(out, "{n} {fault:?}")?;
+            return Ok(false);
+        }
+    }
+    Ok(true)
+}
+
+/// `failing WORD ..`: runs of these words, of which each call on the host's files fails in turn,
+/// until a run makes no such call.
+pub fn run_failing(alloc: Global, stage: &mut Stage, words: Row<'_>) -> Result<String, RowFault> {
+    let words = words_of(alloc, words.rest())?;
+    let mut out = String::new(alloc);
+    for n in 1..65 {
+        if !push_failing(alloc, &mut out, stage, words.as_slice(), n)? {
+            return Ok(out);
+        }
+    }
+    Ok(out)
 }
 
 /// An audit of `Cargo.lock`.

@@ -17,6 +17,8 @@ pub struct Stage {
     pub index: SparseIndex,
     /// What stands; of paths that are equal the first counts.
     pub laid: Vec<Laid>,
+    /// The standard input.
+    pub input: Vec<u8>,
     /// The variables of the environment.
     pub variables: Vec<(String, String)>,
     /// The statuses of the starts of the next run.
@@ -42,6 +44,7 @@ impl Stage {
         Ok(Stage {
             index: crates_io_index(alloc, "")?,
             laid: Vec::new(alloc),
+            input: Vec::new(alloc),
             variables: Vec::new(alloc),
             statuses: Vec::new(alloc),
             script: Items::new(alloc),
@@ -160,6 +163,12 @@ impl Stage {
             bytes.extend_from_slice(line.as_slice())?;
             bytes.push(b'\n')?;
         }
+        done(alloc)
+    }
+
+    /// `input BYTES`: the standard input.
+    pub fn lay_input(&mut self, alloc: Global, mut words: Row<'_>) -> Result<String, RowFault> {
+        self.input = words.bytes(alloc)?;
         done(alloc)
     }
 

@@ -5,12 +5,20 @@ use Rattle.audit_asked.specs.Asked.{asked}
 use Rattle.audit_asked.specs.declared.faults.RunFault.TheVariants as fault
 use Rattle.audit_core.proofs.Exchanged.{keeps_nothing, part_none}
 use Rattle.audit_program.proofs.Commands.{audit_failed, ended_by, if_none, plain_put}
+use Rattle.audit_program.proofs.Completing.{complete_by}
 use Rattle.audit_program.proofs.Puts as puts
 use Rattle.audit_program.proofs.running.run.Goals as goal
 
 pub returns-in-Ok-Audit-clause-failed : goal.returns-in-Ok-Audit-clause-failed
 returns-in-Ok-Audit-clause-failed g c told =
     audit_failed _ _ c.in-Ok-Audit.command _ _ c.run_audit.result.fault (rw c.in-Ok-Audit.field-0-is at (c.in-Ok-Audit.ensures.ok)) (c.run_audit.ensures.failed told)
+
+pub returns-in-Ok-Audit-clause-complete : goal.returns-in-Ok-Audit-clause-complete
+returns-in-Ok-Audit-clause-complete g c told ready quiet =
+    let mine = rw c.in-Ok-Audit.field-0-is at (c.in-Ok-Audit.ensures.ok) in
+    let same : ready.command ≡ c.in-Ok-Audit.command = cc (ready.is_audit, mine) in
+    complete_by _ _ _ c.in-Ok-Audit.command _ _ c.run_audit.result.fault ready same told c.run_audit.ensures.cause
+    (record { print = c.run_audit.ensures.rose; file = c.run_audit.ensures.file_rose; start = c.run_audit.ensures.start_rose }) quiet
 
 pub returns-in-Ok-Audit-clause-others : goal.returns-in-Ok-Audit-clause-others
 returns-in-Ok-Audit-clause-others g c told_files told given packages accepts q other =

@@ -9,12 +9,6 @@ use Rattle.audit_program.proofs.Faults.{ends_with, late_memory, late_print, prin
 use Rattle.audit_program.proofs.Puts.{ended_from}
 use Rattle.audit_program.proofs.running.run_asked.Goals as goal
 
-pub returns-then-is_later-clause-kept : goal.returns-then-is_later-clause-kept
-returns-then-is_later-clause-kept g c told_wire told = keeps_nothing (g.W.Wire.exchanges c.args.wire.now) (g.W.Wire.exchanges c.args.wire.now) (g.D.CacheDisk.past c.args.disk.now)
-
-pub returns-then-is_later-clause-part : goal.returns-then-is_later-clause-part
-returns-then-is_later-clause-part g c told packages is = part_none _ _ _ refl
-
 pub returns-in_default-clause-kept : goal.returns-in_default-clause-kept
 returns-in_default-clause-kept g c told_wire told = keeps_nothing (g.W.Wire.exchanges c.args.wire.now) (g.W.Wire.exchanges c.args.wire.now) (g.D.CacheDisk.past c.args.disk.now)
 
@@ -38,7 +32,7 @@ returns-in-Ok-print-clause-unchanged g c other told q =
 
 pub returns-clause-fault : goal.returns-clause-fault
 returns-clause-fault g c =
-    let P : RunFault → Type 0 = λ f. IsAskedFault c.args.given c.args.verdicts f in
+    let P : RunFault → Type 0 = λ f. IsAskedFault c.args.given f in
     ends_with P c.failed-in-Err-print.result.fault c.in-Err-print.fault c.failed-in-Err-print.ensures.fault (print_case P c.in-Err-print.fault c.in-Err-print.ensures.only tt tt) tt
 
 pub returns-clause-no_audit : goal.returns-clause-no_audit

@@ -9,7 +9,7 @@ use Rattle.audit_program.proofs.running.run_audit.Goals as goal
 
 pub returns-in-Ok-clause-started : goal.returns-in-Ok-clause-started
 returns-in-Ok-clause-started g c told_files told =
-    asked_starts c.in-Ok.given c.args.command.now.verdicts _ _ _ c.run_asked.result.fault c.run_asked.ensures.fault (c.in-Ok.ensures.started told_files told)
+    asked_starts c.in-Ok.given _ _ _ c.run_asked.result.fault c.run_asked.ensures.fault (c.in-Ok.ensures.started told_files told)
 
 pub returns-in-Ok-clause-others : goal.returns-in-Ok-clause-others
 returns-in-Ok-clause-others g c told_files told given packages is lock q other =

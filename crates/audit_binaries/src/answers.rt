@@ -1,0 +1,56 @@
+//! What is answered of binaries.
+use audit_core::Audited;
+use audit_lock::LockfileFault;
+use tame_names::Items;
+
+/// How much a binary says of the packages that it was built from.
+#[derive(Clone, Copy, Debug, PartialEq, Eq)]
+pub enum Found2 {
+    Complete,
+    Incomplete,
+}
+
+/// Why there is no audit of a binary.
+#[derive(Clone, Copy, Debug, PartialEq, Eq)]
+pub enum BinaryFault {
+    /// Nothing is there.
+    Missing,
+    /// It couldn't be read.
+    File,
+    /// It has this number of bytes, which is above the limit.
+    TooLarge(u64),
+    /// It couldn't be decoded.
+    Decode,
+    /// What it says has this number of bytes, which is above the limit.
+    PayloadOver(u64),
+    /// It says nothing of the packages that it was built from.
+    NoInformation,
+    /// What it says is no lockfile, for this reason, which is never want of memory.
+    Lockfile(LockfileFault),
+}
+
+/// The answer for a binary.
+#[derive(Drop)]
+pub enum BinaryAnswer {
+    /// The audit of what it says.
+    Audited(Found2, Audited),
+    /// Why there is none.
+    Refused(BinaryFault),
+}
+
+/// What the answers for binaries come to.
+#[derive(Clone, Copy, Debug, PartialEq, Eq)]
+pub struct MultiFileReportSummary {
+    /// A binary that was audited has a vulnerability, or a warning that is denied.
+    pub vulnerabilities_found: bool,
+    /// A binary was refused, or an advisory on the auditor itself is denied.
+    pub errors_encountered: bool,
+}
+
+/// The audits of binaries.
+#[derive(Drop)]
+pub struct BinariesAudit {
+    /// One answer for each path, in their order.
+    pub answers: Items<BinaryAnswer>,
+    pub summary: MultiFileReportSummary,
+}

@@ -1,0 +1,212 @@
+//! Audits of binaries, one after the other.
+ghost use Rattle.std.specs.Prelude.{◌≡◌, ◌≢◌, ℕ, List, IfOk, IfErr, Ok, Err};
+ghost use Rattle.audit_core.specs.Auditors.{self_advisories};
+ghost use Rattle.audit_core.specs.Audits.{AreTurns, KeepsOthers, MakesAskedFolders};
+ghost use Rattle.audit_core.specs.Turns.{KeepsHonest};
+ghost use Rattle.audit_core.specs.declared.checking.Checks.TheVariants as Checks;
+ghost use Rattle.audit_binaries.specs.Binaries.{AreBinaries, ArePartly, IsBinary, IsCutOff};
+ghost use Rattle.audit_binaries.specs.Summaries.{AddsAsked, AllHeld, AreRefused, RoseBy, asked_in, decodes_failed, files_failed, summary_of, turns_in};
+
+use crate::answers::{BinariesAudit, BinaryAnswer, BinaryFault};
+use crate::decoders::Decoder;
+use crate::limits::BinaryLimits;
+use crate::opening::{Unopened, open_binary};
+use crate::summaries::summary_of;
+use audit_advisory::DenyOption;
+use audit_core::{AuditError, Auditor};
+use std::alloc::Global;
+use tame_cache::CacheDisk;
+use tame_names::{FileLock, Files, Items, NoMemory, Text};
+use tame_sparse::Wire;
+
+/// Audits what the binary at a path of the host says: reads it, decodes it, and audits its text as
+/// `Auditor::audit_text`. `Missing` where nothing is there, `TooLarge` and `PayloadOver` above the
+/// limits, `NoInformation` where it says nothing, `Lockfile` where that is none, `File` and
+/// `Decode` where it can't be read or decoded.
+pub fn audit_binary<F: Files, P: Decoder, W: Wire, D: CacheDisk>(
+    alloc: Global,
+    auditor: &Auditor,
+    limits: &BinaryLimits,
+    path: &str,
+    files: &mut F,
+    decoder: &mut P,
+    lock: &FileLock,
+    wire: &mut W,
+    disk: &mut D,
+) -> Result<BinaryAnswer, NoMemory>
+    // the audit of what stands there and is decoded, or the reason why there is none
+    ensures answered { IfOk result (IsBinary
+        (record { files = F.tells; decoder = P.tells; wire = W.tells; disk = D.tells })
+        (record { auditor = auditor.now; limits = limits.now; host = F.host files.old; answers = P.answers decoder.old })
+        (record { moment = record { exchanges = W.exchanges wire.old; files = D.past disk.old; wire_faults = W.faults wire.old; disk_faults = D.faults disk.old }; folders = D.folders disk.old; failed = F.failed files.old; file_faults = F.faults files.old; decode_faults = P.faults decoder.old })
+        (record { moment = record { exchanges = W.exchanges wire.new; files = D.past disk.new; wire_faults = W.faults wire.new; disk_faults = D.faults disk.new }; folders = D.folders disk.new; failed = F.failed files.new; file_faults = F.faults files.new; decode_faults = P.faults decoder.new })
+        path.now) }
+
+    // where memory ran out, what was done of it
+    ensures cut { IfErr result (λ _. IsCutOff
+        (record { files = F.tells; decoder = P.tells; wire = W.tells; disk = D.tells })
+        (record { auditor = auditor.now; limits = limits.now; host = F.host files.old; answers = P.answers decoder.old })
+        (record { moment = record { exchanges = W.exchanges wire.old; files = D.past disk.old; wire_faults = W.faults wire.old; disk_faults = D.faults disk.old }; folders = D.folders disk.old; failed = F.failed files.old; file_faults = F.faults files.old; decode_faults = P.faults decoder.old })
+        (record { moment = record { exchanges = W.exchanges wire.new; files = D.past disk.new; wire_faults = W.faults wire.new; disk_faults = D.faults disk.new }; folders = D.folders disk.new; failed = F.failed files.new; file_faults = F.faults files.new; decode_faults = P.faults decoder.new })
+        path.now) }
+
+    // whatever the answer: what stays, and what is kept
+    ensures files_same { F.tells → F.host files.new ≡ F.host files.old }
+    ensures decoder_same { P.tells → (other : List ℕ) (bound : ℕ)
+        → P.answers decoder.new other bound ≡ P.answers decoder.old other bound }
+    ensures kept { W.tells → D.tells → KeepsHonest (W.exchanges wire.old) (W.exchanges wire.new) (D.past disk.old) (D.past disk.new) }
+    ensures refused { (f : BinaryFault) → result ≡ Ok (BinaryAnswer.Refused f)
+        → (wire.new ≡ wire.old) × (disk.new ≡ disk.old) }
+    ensures unasked { auditor.now.checks ≢ Checks.Online → wire.new ≡ wire.old }
+    ensures unchanged { auditor.now.checks ≢ Checks.Online → D.tells
+        → (q : List ℕ) → D.past disk.new q ≡ D.past disk.old q }
+    ensures off { auditor.now.checks ≡ Checks.Off → disk.new ≡ disk.old }
+{
+    let said = match open_binary(alloc, limits, path, files, decoder) {
+        Ok(said) => said,
+        Err(Unopened::Refused(fault)) => return Ok(BinaryAnswer::Refused(fault)),
+        Err(Unopened::NoMemory) => return Err(NoMemory),
+    };
+    match auditor.audit_text(alloc, said.text.as_str(), lock, wire, disk) {
+        Ok(audited) => Ok(BinaryAnswer::Audited(said.found, audited)),
+        Err(AuditError::Lockfile(fault)) => {
+            Ok(BinaryAnswer::Refused(BinaryFault::Lockfile(fault)))
+        }
+        Err(AuditError::Advisory { n: _, fault: _ }) => Err(NoMemory),
+        Err(AuditError::NoMemory) => Err(NoMemory),
+    }
+}
+
+/// One answer for each path, in their order.
+fn audit_each<F: Files, P: Decoder, W: Wire, D: CacheDisk>(
+    alloc: Global,
+    auditor: &Auditor,
+    limits: &BinaryLimits,
+    paths: &[Text],
+    files: &mut F,
+    decoder: &mut P,
+    lock: &FileLock,
+    wire: &mut W,
+    disk: &mut D,
+) -> Result<Items<BinaryAnswer>, NoMemory>
+    ensures answered { IfOk result (AreBinaries
+        (record { files = F.tells; decoder = P.tells; wire = W.tells; disk = D.tells })
+        (record { auditor = auditor.now; limits = limits.now; host = F.host files.old; answers = P.answers decoder.old })
+        (record { moment = record { exchanges = W.exchanges wire.old; files = D.past disk.old; wire_faults = W.faults wire.old; disk_faults = D.faults disk.old }; folders = D.folders disk.old; failed = F.failed files.old; file_faults = F.faults files.old; decode_faults = P.faults decoder.old })
+        (record { moment = record { exchanges = W.exchanges wire.new; files = D.past disk.new; wire_faults = W.faults wire.new; disk_faults = D.faults disk.new }; folders = D.folders disk.new; failed = F.failed files.new; file_faults = F.faults files.new; decode_faults = P.faults decoder.new })
+        paths.now) }
+    ensures cut { IfErr result (λ _. ArePartly
+        (record { files = F.tells; decoder = P.tells; wire = W.tells; disk = D.tells })
+        (record { auditor = auditor.now; limits = limits.now; host = F.host files.old; answers = P.answers decoder.old })
+        (record { moment = record { exchanges = W.exchanges wire.old; files = D.past disk.old; wire_faults = W.faults wire.old; disk_faults = D.faults disk.old }; folders = D.folders disk.old; failed = F.failed files.old; file_faults = F.faults files.old; decode_faults = P.faults decoder.old })
+        (record { moment = record { exchanges = W.exchanges wire.new; files = D.past disk.new; wire_faults = W.faults wire.new; disk_faults = D.faults disk.new }; folders = D.folders disk.new; failed = F.failed files.new; file_faults = F.faults files.new; decode_faults = P.faults decoder.new })
+        paths.now) }
+    ensures files_same { F.tells → F.host files.new ≡ F.host files.old }
+    ensures decoder_same { P.tells → (other : List ℕ) (bound : ℕ)
+        → P.answers decoder.new other bound ≡ P.answers decoder.old other bound }
+    ensures kept { W.tells → D.tells → KeepsHonest (W.exchanges wire.old) (W.exchanges wire.new) (D.past disk.old) (D.past disk.new) }
+    ensures refused { IfOk result (λ answers. AreRefused answers
+        → (wire.new ≡ wire.old) × (disk.new ≡ disk.old)) }
+    ensures unasked { auditor.now.checks ≢ Checks.Online → wire.new ≡ wire.old }
+    ensures unchanged { auditor.now.checks ≢ Checks.Online → D.tells
+        → (q : List ℕ) → D.past disk.new q ≡ D.past disk.old q }
+    ensures off { auditor.now.checks ≡ Checks.Off → disk.new ≡ disk.old }
+{
+    let mut answers = Items::new(alloc);
+    for path in paths {
+        let answer = audit_binary(
+            alloc,
+            auditor,
+            limits,
+            path.as_str(),
+            files,
+            decoder,
+            lock,
+            wire,
+            disk,
+        )?;
+        answers.add(answer)?;
+    }
+    Ok(answers)
+}
+
+/// Audits what the binaries at these paths say, one after the other, each as `audit_binary`; a
+/// refused one stops nothing. `deny` is what the auditor's settings deny; the summary is by it and
+/// by the advisories on the auditor itself.
+pub fn audit_binaries<F: Files, P: Decoder, W: Wire, D: CacheDisk>(
+    alloc: Global,
+    auditor: &Auditor,
+    limits: &BinaryLimits,
+    deny: &[DenyOption],
+    paths: &Items<Text>,
+    files: &mut F,
+    decoder: &mut P,
+    lock: &FileLock,
+    wire: &mut W,
+    disk: &mut D,
+) -> Result<BinariesAudit, NoMemory>
+    // one answer for each path, in their order, each from the moment where the one before ended
+    ensures answered { IfOk result (λ b. AreBinaries
+        (record { files = F.tells; decoder = P.tells; wire = W.tells; disk = D.tells })
+        (record { auditor = auditor.now; limits = limits.now; host = F.host files.old; answers = P.answers decoder.old })
+        (record { moment = record { exchanges = W.exchanges wire.old; files = D.past disk.old; wire_faults = W.faults wire.old; disk_faults = D.faults disk.old }; folders = D.folders disk.old; failed = F.failed files.old; file_faults = F.faults files.old; decode_faults = P.faults decoder.old })
+        (record { moment = record { exchanges = W.exchanges wire.new; files = D.past disk.new; wire_faults = W.faults wire.new; disk_faults = D.faults disk.new }; folders = D.folders disk.new; failed = F.failed files.new; file_faults = F.faults files.new; decode_faults = P.faults decoder.new })
+        paths.now b.answers) }
+    ensures summary { IfOk result (λ b. b.summary
+        ≡ summary_of deny.now (self_advisories auditor.now.database) b.answers) }
+
+    // online, over an honest server and a disk that is kept for what it held, the verdicts of each audit are the table's over
+    // what the server held when asked
+    ensures headline { auditor.now.checks ≡ Checks.Online → W.tells → D.tells → IfOk result (λ b.
+        AllHeld auditor.now.checks (W.exchanges wire.old) (W.exchanges wire.new) (D.past disk.old) b.answers) }
+
+    // all together: the turns go on from the entry to the exit, and the wire's list grows by their exchanges alone, in that order;
+    // no file changes but those of the paths that are asked for; one fault licenses one refusal
+    ensures turns { IfOk result (λ b. AreTurns (asked_in auditor.now.checks b.answers)
+        (W.faults wire.old) (D.faults disk.old) (W.faults wire.new) (D.faults disk.new) (turns_in b.answers)) }
+    ensures asked { auditor.now.checks ≡ Checks.Online → W.tells → IfOk result (λ b.
+        AddsAsked (asked_in auditor.now.checks b.answers) (W.exchanges wire.old) (W.exchanges wire.new)) }
+    ensures others { D.tells → IfOk result (λ b.
+        KeepsOthers (asked_in auditor.now.checks b.answers) (D.past disk.old) (D.past disk.new)) }
+    ensures folders { D.tells → IfOk result (λ b.
+        MakesAskedFolders (asked_in auditor.now.checks b.answers) (D.folders disk.old) (D.folders disk.new)) }
+    ensures files_failed { IfOk result (λ b.
+        RoseBy (files_failed b.answers) (F.faults files.old) (F.faults files.new)) }
+    ensures decodes_failed { IfOk result (λ b.
+        RoseBy (decodes_failed b.answers) (P.faults decoder.old) (P.faults decoder.new)) }
+    ensures refused { IfOk result (λ b. AreRefused b.answers
+        → (wire.new ≡ wire.old) × (disk.new ≡ disk.old)) }
+
+    // where memory ran out, what was done
+    ensures cut { IfErr result (λ _. ArePartly
+        (record { files = F.tells; decoder = P.tells; wire = W.tells; disk = D.tells })
+        (record { auditor = auditor.now; limits = limits.now; host = F.host files.old; answers = P.answers decoder.old })
+        (record { moment = record { exchanges = W.exchanges wire.old; files = D.past disk.old; wire_faults = W.faults wire.old; disk_faults = D.faults disk.old }; folders = D.folders disk.old; failed = F.failed files.old; file_faults = F.faults files.old; decode_faults = P.faults decoder.old })
+        (record { moment = record { exchanges = W.exchanges wire.new; files = D.past disk.new; wire_faults = W.faults wire.new; disk_faults = D.faults disk.new }; folders = D.folders disk.new; failed = F.failed files.new; file_faults = F.faults files.new; decode_faults = P.faults decoder.new })
+        paths.now) }
+
+    // whatever the answer: what stays, and what is kept
+    ensures files_same { F.tells → F.host files.new ≡ F.host files.old }
+    ensures decoder_same { P.tells → (other : List ℕ) (bound : ℕ)
+        → P.answers decoder.new other bound ≡ P.answers decoder.old other bound }
+    ensures kept { W.tells → D.tells → KeepsHonest (W.exchanges wire.old) (W.exchanges wire.new) (D.past disk.old) (D.past disk.new) }
+    ensures unasked { auditor.now.checks ≢ Checks.Online → wire.new ≡ wire.old }
+    ensures unchanged { auditor.now.checks ≢ Checks.Online → D.tells
+        → (q : List ℕ) → D.past disk.new q ≡ D.past disk.old q }
+    ensures off { auditor.now.checks ≡ Checks.Off → disk.new ≡ disk.old }
+{
+    let own = auditor.self_advisories(alloc)?;
+    let answers = audit_each(
+        alloc,
+        auditor,
+        limits,
+        paths.as_slice(),
+        files,
+        decoder,
+        lock,
+        wire,
+        disk,
+    )?;
+    let summary = summary_of(deny, own.as_slice(), answers.as_slice());
+    Ok(BinariesAudit { answers, summary })
+}

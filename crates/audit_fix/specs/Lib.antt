@@ -1,0 +1,5 @@
+pub mod Endings
+pub mod Errors
+pub mod Lines
+pub mod Plans
+pub mod Steps

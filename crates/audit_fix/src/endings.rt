@@ -1,0 +1,24 @@
+//! The status that `fix` ends with.
+ghost use Rattle.std.specs.Prelude.{◌≡◌};
+ghost use Rattle.audit_fix.specs.Endings.{fix_status};
+
+use crate::plans::FixPlan;
+use audit_core::Audited;
+
+/// The status that `fix` ends with, where so many of its steps couldn't be started: 0 without
+/// vulnerabilities; 2 where a start failed; 1 in a dry run where an advisory has no patched
+/// version; else 0.
+pub fn fix_status(audited: &Audited, plan: &FixPlan, dry_run: bool, failed: u64) -> u8
+    ensures { result
+        ≡ fix_status dry_run audited.now.report.vulnerabilities plan.now.unpatchable failed }
+{
+    if audited.report.vulnerabilities.as_slice().is_empty() {
+        0
+    } else if failed != 0 {
+        2
+    } else if dry_run && !plan.unpatchable.as_slice().is_empty() {
+        1
+    } else {
+        0
+    }
+}
