@@ -37,24 +37,79 @@ pub fn audit_binary<F: Files, P: Decoder, W: Wire, D: CacheDisk>(
     // the audit of what stands there and is decoded, or the reason why there is none
     ensures answered { IfOk result (IsBinary
         (record { files = F.tells; decoder = P.tells; wire = W.tells; disk = D.tells })
-        (record { auditor = auditor.now; limits = limits.now; host = F.host files.old; answers = P.answers decoder.old })
-        (record { moment = record { exchanges = W.exchanges wire.old; files = D.past disk.old; wire_faults = W.faults wire.old; disk_faults = D.faults disk.old }; folders = D.folders disk.old; failed = F.failed files.old; file_faults = F.faults files.old; decode_faults = P.faults decoder.old })
-        (record { moment = record { exchanges = W.exchanges wire.new; files = D.past disk.new; wire_faults = W.faults wire.new; disk_faults = D.faults disk.new }; folders = D.folders disk.new; failed = F.failed files.new; file_faults = F.faults files.new; decode_faults = P.faults decoder.new })
+        (record {
+          auditor = auditor.now;
+          limits = limits.now;
+          host = F.host files.old;
+          answers = P.answers decoder.old;
+        })
+        (record {
+          moment = record {
+            exchanges = W.exchanges wire.old;
+            files = D.past disk.old;
+            wire_faults = W.faults wire.old;
+            disk_faults = D.faults disk.old;
+          };
+          folders = D.folders disk.old;
+          failed = F.failed files.old;
+          file_faults = F.faults files.old;
+          decode_faults = P.faults decoder.old;
+        })
+        (record {
+          moment = record {
+            exchanges = W.exchanges wire.new;
+            files = D.past disk.new;
+            wire_faults = W.faults wire.new;
+            disk_faults = D.faults disk.new;
+          };
+          folders = D.folders disk.new;
+          failed = F.failed files.new;
+          file_faults = F.faults files.new;
+          decode_faults = P.faults decoder.new;
+        })
         path.now) }
 
     // where memory ran out, what was done of it
     ensures cut { IfErr result (λ _. IsCutOff
         (record { files = F.tells; decoder = P.tells; wire = W.tells; disk = D.tells })
-        (record { auditor = auditor.now; limits = limits.now; host = F.host files.old; answers = P.answers decoder.old })
-        (record { moment = record { exchanges = W.exchanges wire.old; files = D.past disk.old; wire_faults = W.faults wire.old; disk_faults = D.faults disk.old }; folders = D.folders disk.old; failed = F.failed files.old; file_faults = F.faults files.old; decode_faults = P.faults decoder.old })
-        (record { moment = record { exchanges = W.exchanges wire.new; files = D.past disk.new; wire_faults = W.faults wire.new; disk_faults = D.faults disk.new }; folders = D.folders disk.new; failed = F.failed files.new; file_faults = F.faults files.new; decode_faults = P.faults decoder.new })
+        (record {
+          auditor = auditor.now;
+          limits = limits.now;
+          host = F.host files.old;
+          answers = P.answers decoder.old;
+        })
+        (record {
+          moment = record {
+            exchanges = W.exchanges wire.old;
+            files = D.past disk.old;
+            wire_faults = W.faults wire.old;
+            disk_faults = D.faults disk.old;
+          };
+          folders = D.folders disk.old;
+          failed = F.failed files.old;
+          file_faults = F.faults files.old;
+          decode_faults = P.faults decoder.old;
+        })
+        (record {
+          moment = record {
+            exchanges = W.exchanges wire.new;
+            files = D.past disk.new;
+            wire_faults = W.faults wire.new;
+            disk_faults = D.faults disk.new;
+          };
+          folders = D.folders disk.new;
+          failed = F.failed files.new;
+          file_faults = F.faults files.new;
+          decode_faults = P.faults decoder.new;
+        })
         path.now) }
 
     // whatever the answer: what stays, and what is kept
     ensures files_same { F.tells → F.host files.new ≡ F.host files.old }
     ensures decoder_same { P.tells → (other : List ℕ) (bound : ℕ)
         → P.answers decoder.new other bound ≡ P.answers decoder.old other bound }
-    ensures kept { W.tells → D.tells → KeepsHonest (W.exchanges wire.old) (W.exchanges wire.new) (D.past disk.old) (D.past disk.new) }
+    ensures kept { W.tells → D.tells → KeepsHonest (W.exchanges wire.old) (W.exchanges wire.new)
+        (D.past disk.old) (D.past disk.new) }
     ensures refused { (f : BinaryFault) → result ≡ Ok (BinaryAnswer.Refused f)
         → (wire.new ≡ wire.old) × (disk.new ≡ disk.old) }
     ensures unasked { auditor.now.checks ≢ Checks.Online → wire.new ≡ wire.old }
@@ -72,7 +127,8 @@ pub fn audit_binary<F: Files, P: Decoder, W: Wire, D: CacheDisk>(
         Err(AuditError::Lockfile(fault)) => {
             Ok(BinaryAnswer::Refused(BinaryFault::Lockfile(fault)))
         }
-        Err(AuditError::Advisory { n: _, fault: _ }) => Err(NoMemory),
+        // an auditor's advisories are read before it audits
+        Err(AuditError::Advisory { n: _, fault: _ }) => unreachable!(),
         Err(AuditError::NoMemory) => Err(NoMemory),
     }
 }
@@ -91,20 +147,75 @@ fn audit_each<F: Files, P: Decoder, W: Wire, D: CacheDisk>(
 ) -> Result<Items<BinaryAnswer>, NoMemory>
     ensures answered { IfOk result (AreBinaries
         (record { files = F.tells; decoder = P.tells; wire = W.tells; disk = D.tells })
-        (record { auditor = auditor.now; limits = limits.now; host = F.host files.old; answers = P.answers decoder.old })
-        (record { moment = record { exchanges = W.exchanges wire.old; files = D.past disk.old; wire_faults = W.faults wire.old; disk_faults = D.faults disk.old }; folders = D.folders disk.old; failed = F.failed files.old; file_faults = F.faults files.old; decode_faults = P.faults decoder.old })
-        (record { moment = record { exchanges = W.exchanges wire.new; files = D.past disk.new; wire_faults = W.faults wire.new; disk_faults = D.faults disk.new }; folders = D.folders disk.new; failed = F.failed files.new; file_faults = F.faults files.new; decode_faults = P.faults decoder.new })
+        (record {
+          auditor = auditor.now;
+          limits = limits.now;
+          host = F.host files.old;
+          answers = P.answers decoder.old;
+        })
+        (record {
+          moment = record {
+            exchanges = W.exchanges wire.old;
+            files = D.past disk.old;
+            wire_faults = W.faults wire.old;
+            disk_faults = D.faults disk.old;
+          };
+          folders = D.folders disk.old;
+          failed = F.failed files.old;
+          file_faults = F.faults files.old;
+          decode_faults = P.faults decoder.old;
+        })
+        (record {
+          moment = record {
+            exchanges = W.exchanges wire.new;
+            files = D.past disk.new;
+            wire_faults = W.faults wire.new;
+            disk_faults = D.faults disk.new;
+          };
+          folders = D.folders disk.new;
+          failed = F.failed files.new;
+          file_faults = F.faults files.new;
+          decode_faults = P.faults decoder.new;
+        })
         paths.now) }
     ensures cut { IfErr result (λ _. ArePartly
         (record { files = F.tells; decoder = P.tells; wire = W.tells; disk = D.tells })
-        (record { auditor = auditor.now; limits = limits.now; host = F.host files.old; answers = P.answers decoder.old })
-        (record { moment = record { exchanges = W.exchanges wire.old; files = D.past disk.old; wire_faults = W.faults wire.old; disk_faults = D.faults disk.old }; folders = D.folders disk.old; failed = F.failed files.old; file_faults = F.faults files.old; decode_faults = P.faults decoder.old })
-        (record { moment = record { exchanges = W.exchanges wire.new; files = D.past disk.new; wire_faults = W.faults wire.new; disk_faults = D.faults disk.new }; folders = D.folders disk.new; failed = F.failed files.new; file_faults = F.faults files.new; decode_faults = P.faults decoder.new })
+        (record {
+          auditor = auditor.now;
+          limits = limits.now;
+          host = F.host files.old;
+          answers = P.answers decoder.old;
+        })
+        (record {
+          moment = record {
+            exchanges = W.exchanges wire.old;
+            files = D.past disk.old;
+            wire_faults = W.faults wire.old;
+            disk_faults = D.faults disk.old;
+          };
+          folders = D.folders disk.old;
+          failed = F.failed files.old;
+          file_faults = F.faults files.old;
+          decode_faults = P.faults decoder.old;
+        })
+        (record {
+          moment = record {
+            exchanges = W.exchanges wire.new;
+            files = D.past disk.new;
+            wire_faults = W.faults wire.new;
+            disk_faults = D.faults disk.new;
+          };
+          folders = D.folders disk.new;
+          failed = F.failed files.new;
+          file_faults = F.faults files.new;
+          decode_faults = P.faults decoder.new;
+        })
         paths.now) }
     ensures files_same { F.tells → F.host files.new ≡ F.host files.old }
     ensures decoder_same { P.tells → (other : List ℕ) (bound : ℕ)
         → P.answers decoder.new other bound ≡ P.answers decoder.old other bound }
-    ensures kept { W.tells → D.tells → KeepsHonest (W.exchanges wire.old) (W.exchanges wire.new) (D.past disk.old) (D.past disk.new) }
+    ensures kept { W.tells → D.tells → KeepsHonest (W.exchanges wire.old) (W.exchanges wire.new)
+        (D.past disk.old) (D.past disk.new) }
     ensures refused { IfOk result (λ answers. AreRefused answers
         → (wire.new ≡ wire.old) × (disk.new ≡ disk.old)) }
     ensures unasked { auditor.now.checks ≢ Checks.Online → wire.new ≡ wire.old }
@@ -148,28 +259,60 @@ pub fn audit_binaries<F: Files, P: Decoder, W: Wire, D: CacheDisk>(
     // one answer for each path, in their order, each from the moment where the one before ended
     ensures answered { IfOk result (λ b. AreBinaries
         (record { files = F.tells; decoder = P.tells; wire = W.tells; disk = D.tells })
-        (record { auditor = auditor.now; limits = limits.now; host = F.host files.old; answers = P.answers decoder.old })
-        (record { moment = record { exchanges = W.exchanges wire.old; files = D.past disk.old; wire_faults = W.faults wire.old; disk_faults = D.faults disk.old }; folders = D.folders disk.old; failed = F.failed files.old; file_faults = F.faults files.old; decode_faults = P.faults decoder.old })
-        (record { moment = record { exchanges = W.exchanges wire.new; files = D.past disk.new; wire_faults = W.faults wire.new; disk_faults = D.faults disk.new }; folders = D.folders disk.new; failed = F.failed files.new; file_faults = F.faults files.new; decode_faults = P.faults decoder.new })
+        (record {
+          auditor = auditor.now;
+          limits = limits.now;
+          host = F.host files.old;
+          answers = P.answers decoder.old;
+        })
+        (record {
+          moment = record {
+            exchanges = W.exchanges wire.old;
+            files = D.past disk.old;
+            wire_faults = W.faults wire.old;
+            disk_faults = D.faults disk.old;
+          };
+          folders = D.folders disk.old;
+          failed = F.failed files.old;
+          file_faults = F.faults files.old;
+          decode_faults = P.faults decoder.old;
+        })
+        (record {
+          moment = record {
+            exchanges = W.exchanges wire.new;
+            files = D.past disk.new;
+            wire_faults = W.faults wire.new;
+            disk_faults = D.faults disk.new;
+          };
+          folders = D.folders disk.new;
+          failed = F.failed files.new;
+          file_faults = F.faults files.new;
+          decode_faults = P.faults decoder.new;
+        })
         paths.now b.answers) }
     ensures summary { IfOk result (λ b. b.summary
         ≡ summary_of deny.now (self_advisories auditor.now.database) b.answers) }
 
-    // online, over an honest server and a disk that is kept for what it held, the verdicts of each audit are the table's over
-    // what the server held when asked
+    // online, over an honest server and a disk that is kept for what it held, the verdicts of each
+    // audit are the table's over what the server held when asked
     ensures headline { auditor.now.checks ≡ Checks.Online → W.tells → D.tells → IfOk result (λ b.
-        AllHeld auditor.now.checks (W.exchanges wire.old) (W.exchanges wire.new) (D.past disk.old) b.answers) }
+        AllHeld auditor.now.checks (W.exchanges wire.old) (W.exchanges wire.new)
+        (D.past disk.old) b.answers) }
 
-    // all together: the turns go on from the entry to the exit, and the wire's list grows by their exchanges alone, in that order;
-    // no file changes but those of the paths that are asked for; one fault licenses one refusal
+    // all together: the turns go on from the entry to the exit, and the wire's list grows by their
+    // exchanges alone, in that order; no file changes but those of the paths that are asked for;
+    // one fault licenses one refusal
     ensures turns { IfOk result (λ b. AreTurns (asked_in auditor.now.checks b.answers)
-        (W.faults wire.old) (D.faults disk.old) (W.faults wire.new) (D.faults disk.new) (turns_in b.answers)) }
+        (W.faults wire.old) (D.faults disk.old) (W.faults wire.new) (D.faults disk.new)
+        (turns_in b.answers)) }
     ensures asked { auditor.now.checks ≡ Checks.Online → W.tells → IfOk result (λ b.
-        AddsAsked (asked_in auditor.now.checks b.answers) (W.exchanges wire.old) (W.exchanges wire.new)) }
+        AddsAsked (asked_in auditor.now.checks b.answers)
+        (W.exchanges wire.old) (W.exchanges wire.new)) }
     ensures others { D.tells → IfOk result (λ b.
         KeepsOthers (asked_in auditor.now.checks b.answers) (D.past disk.old) (D.past disk.new)) }
     ensures folders { D.tells → IfOk result (λ b.
-        MakesAskedFolders (asked_in auditor.now.checks b.answers) (D.folders disk.old) (D.folders disk.new)) }
+        MakesAskedFolders (asked_in auditor.now.checks b.answers)
+        (D.folders disk.old) (D.folders disk.new)) }
     ensures files_failed { IfOk result (λ b.
         RoseBy (files_failed b.answers) (F.faults files.old) (F.faults files.new)) }
     ensures decodes_failed { IfOk result (λ b.
@@ -180,16 +323,44 @@ pub fn audit_binaries<F: Files, P: Decoder, W: Wire, D: CacheDisk>(
     // where memory ran out, what was done
     ensures cut { IfErr result (λ _. ArePartly
         (record { files = F.tells; decoder = P.tells; wire = W.tells; disk = D.tells })
-        (record { auditor = auditor.now; limits = limits.now; host = F.host files.old; answers = P.answers decoder.old })
-        (record { moment = record { exchanges = W.exchanges wire.old; files = D.past disk.old; wire_faults = W.faults wire.old; disk_faults = D.faults disk.old }; folders = D.folders disk.old; failed = F.failed files.old; file_faults = F.faults files.old; decode_faults = P.faults decoder.old })
-        (record { moment = record { exchanges = W.exchanges wire.new; files = D.past disk.new; wire_faults = W.faults wire.new; disk_faults = D.faults disk.new }; folders = D.folders disk.new; failed = F.failed files.new; file_faults = F.faults files.new; decode_faults = P.faults decoder.new })
+        (record {
+          auditor = auditor.now;
+          limits = limits.now;
+          host = F.host files.old;
+          answers = P.answers decoder.old;
+        })
+        (record {
+          moment = record {
+            exchanges = W.exchanges wire.old;
+            files = D.past disk.old;
+            wire_faults = W.faults wire.old;
+            disk_faults = D.faults disk.old;
+          };
+          folders = D.folders disk.old;
+          failed = F.failed files.old;
+          file_faults = F.faults files.old;
+          decode_faults = P.faults decoder.old;
+        })
+        (record {
+          moment = record {
+            exchanges = W.exchanges wire.new;
+            files = D.past disk.new;
+            wire_faults = W.faults wire.new;
+            disk_faults = D.faults disk.new;
+          };
+          folders = D.folders disk.new;
+          failed = F.failed files.new;
+          file_faults = F.faults files.new;
+          decode_faults = P.faults decoder.new;
+        })
         paths.now) }
 
     // whatever the answer: what stays, and what is kept
     ensures files_same { F.tells → F.host files.new ≡ F.host files.old }
     ensures decoder_same { P.tells → (other : List ℕ) (bound : ℕ)
         → P.answers decoder.new other bound ≡ P.answers decoder.old other bound }
-    ensures kept { W.tells → D.tells → KeepsHonest (W.exchanges wire.old) (W.exchanges wire.new) (D.past disk.old) (D.past disk.new) }
+    ensures kept { W.tells → D.tells → KeepsHonest (W.exchanges wire.old) (W.exchanges wire.new)
+        (D.past disk.old) (D.past disk.new) }
     ensures unasked { auditor.now.checks ≢ Checks.Online → wire.new ≡ wire.old }
     ensures unchanged { auditor.now.checks ≢ Checks.Online → D.tells
         → (q : List ℕ) → D.past disk.new q ≡ D.past disk.old q }
