@@ -20,7 +20,6 @@ early_by T true xs (fault.Advisory n reason) k f = let h : true ≡ false = f re
 early_by T true xs fault.Print k f = absurd k
 early_by T true xs (fault.Generate status) k f = absurd k
 early_by T true xs (fault.Start failed) k f = absurd k
-early_by T true xs fault.Later k f = absurd k
 early_by T true xs fault.NoMemory k f = inl refl
 
 pub early : {T : Type 0} (b : Bool) (xs : List Started) (r : Result T RunFault) (e : RunFault) → r ≡ Err e → IsReadFault e
@@ -43,7 +42,6 @@ late true before now s (Err (fault.Advisory n reason)) k h = h
 late true before now s (Err fault.Print) k h = absurd k
 late true before now s (Err (fault.Generate status)) k h = absurd k
 late true before now s (Err (fault.Start failed)) k h = absurd k
-late true before now s (Err fault.Later) k h = absurd k
 late true before now s (Err fault.NoMemory) k h = inr h
 
 -- it is no failed start
@@ -59,7 +57,6 @@ unstarted (fault.Advisory n reason) failed k is = cc
 unstarted fault.Print failed k is = absurd k
 unstarted (fault.Generate status) failed k is = absurd k
 unstarted (fault.Start one) failed k is = absurd k
-unstarted fault.Later failed k is = absurd k
 unstarted fault.NoMemory failed k is = cc
 
 pub quiet_cause : {T : Type 0} (before now : ℕ) (r : Result T RunFault) → before ≤ now → IfErr r IsReadFault → HasRunStartCause before now r

@@ -19,7 +19,6 @@ widen_by one wider before now (fault.Advisory n reason) w h = h
 widen_by one wider before now fault.Print w h = h
 widen_by one wider before now (fault.Generate status) w h = h
 widen_by one wider before now (fault.Start failed) w h = h
-widen_by one wider before now fault.Later w h = h
 widen_by one wider before now fault.NoMemory w h = h
 
 pub widen : {T : Type 0} (one wider : List ℕ → FailedCall → Type 0) (before now : List FailedCall) (r : Result T RunFault)

@@ -1,4 +1,5 @@
--- The advisories of a database, in the byte order of their folders and files (this project, after the RustSec advisory database).
+-- The advisories of a database, in the byte order of their folders and files (this project, after
+-- the RustSec advisory database).
 use Rattle.std.specs.Prelude.{ℕ, suc, codes, nat_eq, List, [], ◌∷◌, ◌++◌, map, Bool, Option, Some, None, if◌then◌else◌, Result, Ok, Err}
 use Rattle.std.specs.BTreeSet.{insert_key}
 use Rattle.std.specs.Cmp.Lexicographic.{slice_cmp}
@@ -24,7 +25,8 @@ abbrev pub advisory_name : Option (List ℕ) → Option (List ℕ)
 advisory_name None = None
 advisory_name (Some name) = if is_advisory_name name then Some name else None
 
--- the name of an entry that is wanted: what is no file, or a file ending with `.md`; a name that isn't UTF-8 is passed over
+-- the name of an entry that is wanted: what is no file, or a file ending with `.md`; a name that
+-- isn't UTF-8 is passed over
 abbrev pub wanted_name : Wanted → Listed → Option (List ℕ)
 wanted_name wanted.Folders entry = if entry.file then None else entry.name
 wanted_name wanted.Advisories entry = if entry.file then advisory_name entry.name else None
@@ -36,7 +38,8 @@ with_name names (Some name) = insert_key (slice_cmp nat_cmp) names name
 
 abbrev pub names_with : Wanted → List (List ℕ) → List Listed → List (List ℕ)
 names_with kind names [] = names
-names_with kind names (entry ∷ entries) = names_with kind (with_name names (wanted_name kind entry)) entries
+names_with kind names (entry ∷ entries) =
+    names_with kind (with_name names (wanted_name kind entry)) entries
 
 -- the wanted names in a folder, in byte order; none where there is no folder
 abbrev pub names_in : Wanted → Option (List Listed) → List (List ℕ)
@@ -59,7 +62,8 @@ paths_below host folder = map (join folder) (names_at wanted.Advisories host fol
 -- the advisories of the folders of these names, folder by folder
 abbrev pub paths_in : Host → List ℕ → List (List ℕ) → List (List ℕ)
 paths_in host folder [] = []
-paths_in host folder (name ∷ names) = paths_below host (join folder name) ++ paths_in host folder names
+paths_in host folder (name ∷ names) =
+    paths_below host (join folder name) ++ paths_in host folder names
 
 -- the advisories in the folders directly in `crates` of a database
 abbrev pub database_paths : Host → List ℕ → List (List ℕ)
@@ -78,7 +82,8 @@ numbered n (Err reason) = Err (advisory n reason)
 
 -- the advisory at a path, the n-th
 abbrev pub advisory_at : Host → ℕ → List ℕ → Result Advisory Refused
-advisory_at host n path = go_on (text_at path (host.stands path)) (λ text. numbered n (advisory_of text))
+advisory_at host n path =
+    go_on (text_at path (host.stands path)) (λ text. numbered n (advisory_of text))
 
 -- the advisories at these paths, the first of them the n-th, each read whole before the next
 abbrev pub advisories_from : Host → ℕ → List (List ℕ) → Result (List Advisory) Refused

@@ -16,15 +16,23 @@ use Rattle.audit_asked.specs.declared.asking.Asked.{Asked}
 use Rattle.audit_asked.specs.declared.faults.RunFault.{RunFault}
 use Rattle.audit_asked.specs.declared.faults.RunFault.TheVariants as fault
 
--- under these settings, with the lockfile at this place: the database, the advisories, and the lockfile's text, or the first refusal
+-- under these settings, with the lockfile at this place: the database, the advisories, and the
+-- lockfile's text, or the first refusal
 abbrev pub texts_asked : Host → AuditConfig → List ℕ → Result Asked Refused
 texts_asked host config place =
     go_on (database_asked config.database.path host) (λ database.
     go_on (advisories_asked host database) (λ advisories.
     go_on (input_or_text host place) (λ text.
-    Ok (record { config = config; place = place; database = database_path database; advisories = advisories; text = text }))))
+    Ok (record {
+      config = config;
+      place = place;
+      database = database_path database;
+      advisories = advisories;
+      text = text;
+    }))))
 
--- the settings, the lockfile's place, the database, the advisories, and the lockfile's text, or the first refusal; a lockfile that has to
+-- the settings, the lockfile's place, the database, the advisories, and the lockfile's text, or the
+-- first refusal; a lockfile that has to
 -- be generated is generated with this status
 abbrev pub asked : AuditCommand → Host → ℤ → Result Asked Refused
 asked command host status =
@@ -58,7 +66,8 @@ IsAdvisoriesCall host (Some database) told call =
 abbrev pub IsKnownCall : Host → Option (List ℕ) → List ℕ → List ℕ → FailedCall → Type 0
 IsKnownCall host database place told call =
     IsAdvisoriesCall host database told call
-    ⊎ ((advisories : List Advisory) × (advisories_asked host database ≡ Ok advisories) × IsLockfileCall place told call)
+    ⊎ ((advisories : List Advisory) × (advisories_asked host database ≡ Ok advisories)
+    × IsLockfileCall place told call)
 
 -- a call once the settings and the lockfile's place are known
 abbrev pub IsTextsCall : Host → AuditConfig → List ℕ → List ℕ → FailedCall → Type 0
@@ -75,4 +84,5 @@ IsLaterCall command host config told call =
 abbrev pub IsAskedCall : AuditCommand → Host → List ℕ → FailedCall → Type 0
 IsAskedCall command host told call =
     IsSettingsCall host told call
-    ⊎ ((config : AuditConfig) × (settled command host ≡ Ok config) × IsLaterCall command host config told call)
+    ⊎ ((config : AuditConfig) × (settled command host ≡ Ok config)
+    × IsLaterCall command host config told call)

@@ -18,13 +18,16 @@ use Rattle.audit_asked.specs.declared.places.LocateError.TheVariants as locate
 
 -- ---- what a failed call does
 
--- a fault of the files added one call to the failed ones, which may end a run with its path; any other fault none
-abbrev pub AddsBy : (List ℕ → FailedCall → Type 0) → List FailedCall → List FailedCall → RunFault → Type 0
+-- a fault of the files added one call to the failed ones, which may end a run with its path; any
+-- other fault none
+abbrev pub AddsBy : (List ℕ → FailedCall → Type 0) → List FailedCall → List FailedCall → RunFault
+    → Type 0
 AddsBy may before now (fault.File path) =
     (call : FailedCall) × (now ≡ before ++ call ∷ []) × may path call
 AddsBy may before now _ = now ≡ before
 
-abbrev pub AddsFailed : {T : Type 0} → (List ℕ → FailedCall → Type 0) → List FailedCall → List FailedCall → Result T RunFault → Type 0
+abbrev pub AddsFailed : {T : Type 0} → (List ℕ → FailedCall → Type 0) → List FailedCall
+    → List FailedCall → Result T RunFault → Type 0
 AddsFailed may before now (Ok a) = now ≡ before
 AddsFailed may before now (Err e) = AddsBy may before now e
 
@@ -34,7 +37,8 @@ pub record HasFileCause {T : Type 0} (before now : ℕ) (result : Result T RunFa
   pub rose : (path : List ℕ) → result ≡ Err (fault.File path) → Rose before now
 
 -- a failed look at one of two files by name added it to the failed ones
-abbrev pub AddsLook : {T : Type 0} → List FailedCall → List FailedCall → Result T LocateError → Type 0
+abbrev pub AddsLook : {T : Type 0} → List FailedCall → List FailedCall → Result T LocateError
+    → Type 0
 AddsLook before now (Err (locate.File path)) =
     now ≡ before ++ record { call = file_call.Kind; path = Some path.now } ∷ []
 AddsLook before now _ = now ≡ before
@@ -56,7 +60,8 @@ IsCallOn name path told call = (told ≡ path) × (call ≡ record { call = name
 
 -- the reading of standard input, which is told as this path
 abbrev pub IsInputCall : List ℕ → List ℕ → FailedCall → Type 0
-IsInputCall path told call = (told ≡ path) × (call ≡ record { call = file_call.ReadStdin; path = None })
+IsInputCall path told call =
+    (told ≡ path) × (call ≡ record { call = file_call.ReadStdin; path = None })
 
 -- the call that reads what is at a path, where `-` is standard input
 abbrev pub reading_call : List ℕ → FailedCall
@@ -72,11 +77,13 @@ AsksHome told call = (told ≡ codes "cargo home") × IsHomeCall call
 abbrev pub IsHomeConfigCall : Host → List ℕ → FailedCall → Type 0
 IsHomeConfigCall host told call =
     AsksHome told call
-    ⊎ ((home : List ℕ) × (known_home host ≡ Some home) × IsCallOn file_call.Read (home_file home) told call)
+    ⊎ ((home : List ℕ) × (known_home host ≡ Some home)
+    × IsCallOn file_call.Read (home_file home) told call)
 
 -- the reading of settings: a file's, or those in cargo's home
 abbrev pub IsSettingsFrom : Host → List ℕ → List ℕ → FailedCall → Type 0
-IsSettingsFrom host path told call = IsCallOn file_call.Read path told call ⊎ IsHomeConfigCall host told call
+IsSettingsFrom host path told call =
+    IsCallOn file_call.Read path told call ⊎ IsHomeConfigCall host told call
 
 abbrev pub IsSettingsCall : Host → List ℕ → FailedCall → Type 0
 IsSettingsCall host told call = IsSettingsFrom host folder_file told call
@@ -84,7 +91,8 @@ IsSettingsCall host told call = IsSettingsFrom host folder_file told call
 -- a look at `Cargo.lock` or at `Cargo.toml`
 abbrev pub IsPlaceCall : List ℕ → FailedCall → Type 0
 IsPlaceCall told call =
-    IsCallOn file_call.Kind lockfile_name told call ⊎ IsCallOn file_call.Kind manifest_name told call
+    IsCallOn file_call.Kind lockfile_name told call
+    ⊎ IsCallOn file_call.Kind manifest_name told call
 
 -- a look at the database that was named, or cargo's home was asked for
 abbrev pub IsDatabaseCall : Option (List ℕ) → List ℕ → FailedCall → Type 0
@@ -93,12 +101,14 @@ IsDatabaseCall None told call = AsksHome told call
 
 -- a listing of a folder in this one
 abbrev pub IsListingBelow : List ℕ → List ℕ → FailedCall → Type 0
-IsListingBelow folder told call = (name : List ℕ) × IsCallOn file_call.List (join folder name) told call
+IsListingBelow folder told call =
+    (name : List ℕ) × IsCallOn file_call.List (join folder name) told call
 
 -- a listing of the folder `crates` of a database, or of a folder in it
 abbrev pub IsListingCall : List ℕ → List ℕ → FailedCall → Type 0
 IsListingCall database told call =
-    IsCallOn file_call.List (crates_folder database) told call ⊎ IsListingBelow (crates_folder database) told call
+    IsCallOn file_call.List (crates_folder database) told call
+    ⊎ IsListingBelow (crates_folder database) told call
 
 -- the reading of one of these paths
 abbrev pub IsReadingCall : List (List ℕ) → List ℕ → FailedCall → Type 0

@@ -11,7 +11,8 @@ abbrev pub default_database : Option (List ℕ) → Option (List ℕ)
 default_database None = None
 default_database (Some home) = Some (join home (codes "advisory-db"))
 
--- the database: the one that was named, which has to be there, else the one in cargo's home; none where that can't be told
+-- the database: the one that was named, which has to be there, else the one in cargo's home; none
+-- where that can't be told
 abbrev pub database_asked : Option (List ℕ) → Host → Result (Option (List ℕ)) Refused
 database_asked (Some path) host =
     if is_there (host.stands path) then Ok (Some path) else Err (missing path)

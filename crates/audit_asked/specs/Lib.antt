@@ -2,6 +2,7 @@ pub mod Advisories
 pub mod Asked
 pub mod Calls
 pub mod Databases
+pub mod ForBinaries
 pub mod Places
 pub mod Refusals
 pub mod Settings

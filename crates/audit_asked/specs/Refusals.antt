@@ -11,7 +11,8 @@ use Rattle.audit_asked.specs.declared.faults.RunFault.TheVariants as fault
 abbrev pub limit : ℕ
 limit = 67108864
 
--- the settings are refused; nothing is at a path; what is there isn't UTF-8, has too many bytes, or is no file; the n-th
+-- the settings are refused; nothing is at a path; what is there isn't UTF-8, has too many bytes, or
+-- is no file; the n-th
 -- advisory is refused; cargo ended with another status than 0; the last one is told by no host
 pub data Refused : Type 0 where
   settings : (reason : Refusal) → Refused
@@ -40,7 +41,8 @@ is_told (fault.Start failed) = false
 is_told fault.NoMemory = false
 is_told _ = true
 
--- the faults that reading may end with: a text is too large only above the limit, and want of memory is a fault of its own
+-- the faults that reading may end with: a text is too large only above the limit, and want of
+-- memory is a fault of its own
 abbrev pub IsReadFault : RunFault → Type 0
 IsReadFault (fault.Settings reason) = reason ≢ settings_fault.NoMemory
 IsReadFault (fault.Missing path) = Unit {0}
@@ -63,7 +65,8 @@ IsCallFault (fault.File path) = Unit {0}
 IsCallFault fault.NoMemory = Unit {0}
 IsCallFault _ = ⊥
 
--- what the parts give, and what was answered: an answer is theirs, and so is a refusal that the host tells
+-- what the parts give, and what was answered: an answer is theirs, and so is a refusal that the
+-- host tells
 pub record Gives {A : Type 0} (part : Result A Refused) (result : Result A RunFault) : Type 0 where
   pub ok : IfOk result (λ a. part ≡ Ok a)
   pub refused : IfErr result (λ e. IsTrue (is_told e) → part ≡ Err (refused e))

@@ -15,7 +15,8 @@ use Rattle.audit_asked.specs.declared.runners.Started.{Started}
 -- a start more, of these words, a failed one too; none for want of memory
 abbrev pub with_start : List Started → List (List ℕ) → Result ℤ StartFault → List Started
 with_start before words (Ok status) = before ++ record { words = words; status = Some status } ∷ []
-with_start before words (Err start_fault.Failed) = before ++ record { words = words; status = None } ∷ []
+with_start before words (Err start_fault.Failed) =
+    before ++ record { words = words; status = None } ∷ []
 with_start before words (Err start_fault.NoMemory) = before
 
 -- ---- the start that generates a lockfile
@@ -30,7 +31,8 @@ generating status = record { words = generating_words; status = status }
 abbrev pub AddsStart : Option ℤ → List Started → List Started → Type 0
 AddsStart status before now = now ≡ before ++ generating status ∷ []
 
--- a start that ended with 0 where the call succeeded, with the status that it tells, or failed; none where memory ran out or a
+-- a start that ended with 0 where the call succeeded, with the status that it tells, or failed;
+-- none where memory ran out or a
 -- look at the files failed
 abbrev pub Generates : {T : Type 0} → List Started → List Started → Result T LocateError → Type 0
 Generates before now (Ok done) = AddsStart (Some (pos 0)) before now
@@ -40,7 +42,8 @@ Generates before now (Err (locate.File path)) = now ≡ before
 Generates before now (Err locate.NoMemory) = now ≡ before
 
 -- the same where a lockfile has to be generated, and no start otherwise
-abbrev pub GeneratesWhere : {T : Type 0} → Bool → List Started → List Started → Result T LocateError → Type 0
+abbrev pub GeneratesWhere : {T : Type 0} → Bool → List Started → List Started → Result T LocateError
+    → Type 0
 GeneratesWhere true before now result = Generates before now result
 GeneratesWhere false before now result = now ≡ before
 
@@ -49,7 +52,8 @@ abbrev pub StartsAtMost : List Started → List Started → Type 0
 StartsAtMost before now = (now ≡ before) ⊎ ((status : Option ℤ) × AddsStart status before now)
 
 -- the count never falls, and a failed start raised it
-pub record HasStartCause {T : Type 0} (before now : ℕ) (result : Result T LocateError) : Type 0 where
+pub record HasStartCause {T : Type 0} (before now : ℕ)
+    (result : Result T LocateError) : Type 0 where
   pub later : before ≤ now
   pub rose : result ≡ Err locate.Start → Rose before now
 
@@ -67,7 +71,8 @@ IsLocateError _ = Unit {0}
 
 -- ---- the starts of a run
 
--- by a fault: the start as it ended; where a call on the files failed or memory ran out, it may have been made or not
+-- by a fault: the start as it ended; where a call on the files failed or memory ran out, it may
+-- have been made or not
 abbrev pub StartsBy : List Started → List Started → RunFault → Type 0
 StartsBy before now (fault.Generate status) = AddsStart (Some status) before now
 StartsBy before now (fault.Start failed) = AddsStart None before now
@@ -80,11 +85,13 @@ abbrev pub RunStarts : {T : Type 0} → List Started → List Started → Result
 RunStarts before now (Ok a) = AddsStart (Some (pos 0)) before now
 RunStarts before now (Err e) = StartsBy before now e
 
-abbrev pub RunStartsWhere : {T : Type 0} → Bool → List Started → List Started → Result T RunFault → Type 0
+abbrev pub RunStartsWhere : {T : Type 0} → Bool → List Started → List Started → Result T RunFault
+    → Type 0
 RunStartsWhere true before now result = RunStarts before now result
 RunStartsWhere false before now result = now ≡ before
 
 -- the count never falls, and a failed start raised it
-pub record HasRunStartCause {T : Type 0} (before now : ℕ) (result : Result T RunFault) : Type 0 where
+pub record HasRunStartCause {T : Type 0} (before now : ℕ)
+    (result : Result T RunFault) : Type 0 where
   pub later : before ≤ now
   pub rose : (failed : ℕ) → result ≡ Err (fault.Start failed) → Rose before now

@@ -31,8 +31,6 @@ pub enum RunFault {
     Generate { status: i32 },
     /// This number of programs couldn't be started.
     Start { failed: u64 },
-    /// The words ask for what can't be done yet.
-    Later,
     NoMemory,
 }
 

@@ -1,42 +1,79 @@
 -- What is said by the words, once it is known what they ask for.
-use Rattle.std.proofs.Common.{◌≡◌, ◌⊎◌, inl, inr, ℕ, List, Option, Some, None, Result, Ok, sym, subst}
-use Rattle.std.specs.Prelude.{IfNone}
-use Rattle.tame_names.specs.Output.{AddsPrefix}
+use Rattle.std.proofs.Common.{◌≡◌, ◌⊎◌, inl, inr, ℕ, List, [], Option, Some, None, Result, Ok, Err, refl, sym, subst}
+use Rattle.std.specs.Prelude.{IfSome, IfNone, pos}
 use Rattle.tame_names.specs.Standing.{Host}
 use Rattle.tame_names.specs.declared.host.FailedCall.{FailedCall}
-use Rattle.audit_settings.specs.declared.commands.AuditCommand.{AuditCommand}
+use Rattle.audit_words.specs.Reading.{command_of}
 use Rattle.audit_words.specs.declared.commands.Command.{Command}
 use Rattle.audit_words.specs.declared.commands.Command.TheVariants as command
 use Rattle.audit_words.specs.declared.commands.WordsFault.{WordsFault}
-use Rattle.audit_asked.specs.Asked.{IsAskedCall}
+use Rattle.audit_asked.specs.Asked.{asked}
+use Rattle.audit_asked.specs.declared.asking.Asked.{Asked}
 use Rattle.audit_asked.specs.declared.faults.RunFault.{RunFault}
 use Rattle.audit_asked.specs.declared.faults.RunFault.TheVariants as fault
-use Rattle.audit_program.specs.Causes.{AddsRunCall, MayFail}
-use Rattle.audit_program.specs.FaultLines.{fault_line}
-use Rattle.audit_program.specs.Outputs.{IsEnded, IsLinePut, IsPutBy, plain_text}
+use Rattle.audit_lock.specs.declared.resolving.Package.{Package}
+use Rattle.audit_program.specs.Calls.{AddsCalls}
+use Rattle.audit_program.specs.Causes.{Accepts, CauseOf, CommandCause}
+use Rattle.audit_program.specs.Outputs.{IsPutBy, plain_text}
+use Rattle.audit_program.specs.Tasks.{task_of}
+use Rattle.audit_program.specs.declared.tasks.Task.{Task}
+use Rattle.audit_program.proofs.Putting.{put_nothing}
+use Rattle.audit_program.proofs.Readings.{none_added}
 
 pub if_none : {T : Type 0} (o : Option T) (P : Type 0) → P → IfNone o P
 if_none None P h = h
 if_none (Some x) P h = tt
 
-pub audit_failed : (r : Result Command WordsFault) (host : Host) (c : AuditCommand) (before now : List FailedCall) (o : Option RunFault) → r ≡ Ok (command.Audit c)
-    → AddsRunCall (IsAskedCall c host) before now o → AddsRunCall (MayFail r host) before now o
-audit_failed r host c before now o is h =
-    let P : Result Command WordsFault → Type 0 = λ x. AddsRunCall (MayFail x host) before now o in subst P (sym is) h
+pub if_none_then : {T : Type 0} (o : Option T) (P Q : Type 0) → (P → Q) → IfNone o P → IfNone o Q
+if_none_then None P Q f h = f h
+if_none_then (Some x) P Q f h = tt
 
 pub plain_put : (r s : Result Command WordsFault) (before now : List ℕ) (o : Option RunFault) → r ≡ s → IsPutBy before (plain_text s) o now → IsPutBy before (plain_text r) o now
 plain_put r s before now o is h =
     let P : Result Command WordsFault → Type 0 = λ x. IsPutBy before (plain_text x) o now in subst P (sym is) h
 
--- the line of a fault that doesn't tell the lockfile's place is the same for any place
-pub ended_by : (a b before text now : List ℕ) (f : RunFault) (o : Option RunFault) (m n : ℕ) → fault_line a f ≡ fault_line b f → (o ≡ Some f) ⊎ (o ≡ Some fault.NoMemory)
-    → IsEnded a before text o now m n → IsEnded b before text o now m n
-ended_by a b before text now f o m n line (inl is) h =
-    let P : Option RunFault → Type 0 = λ x. IsEnded a before text x now m n in
-    let Q : Option RunFault → Type 0 = λ x. IsEnded b before text x now m n in
-    let L : List ℕ → Type 0 = λ l. (put : List ℕ) × AddsPrefix before text put × IsLinePut put l now m n in
-    subst Q (sym is) (subst L line (subst P is h))
-ended_by a b before text now f o m n line (inr is) h =
-    let P : Option RunFault → Type 0 = λ x. IsEnded a before text x now m n in
-    let Q : Option RunFault → Type 0 = λ x. IsEnded b before text x now m n in
-    subst Q (sym is) (subst P is h)
+-- words that print nothing without an audit
+pub plain_none : (r s : Result Command WordsFault) (before now : List ℕ) (o : Option RunFault) → r ≡ s → plain_text s ≡ [] → now ≡ before → IsPutBy before (plain_text r) o now
+plain_none r s before now o is none same =
+    let P : List ℕ → Type 0 = λ x. IsPutBy before x o now in
+    let Q : List ℕ → Type 0 = λ x. IsPutBy before [] o x in
+    plain_put r s before now o is (subst P (sym none) (subst Q (sym same) (put_nothing before o)))
+
+-- no call failed
+pub none_called : (r : Result Command WordsFault) (host : Host) (before : List FailedCall) → AddsCalls r host before before (Some fault.NoMemory)
+none_called (Ok (command.Audit audit)) host before = inl refl
+none_called (Ok (command.Fix audit more)) host before = inl refl
+none_called (Ok (command.Bin audit more)) host before = inr (none_added more.binary_paths before)
+none_called (Ok command.Help) host before = refl
+none_called (Ok command.Version) host before = refl
+none_called (Err reason) host before = refl
+
+pub no_memory_called : (r : Result Command WordsFault) (host : Host) (before : List FailedCall) (o : Option RunFault) → (o ≡ Some fault.NoMemory) ⊎ (o ≡ Some fault.NoMemory) → AddsCalls r host before before o
+no_memory_called r host before o (inl is) = let P : Option RunFault → Type 0 = λ x. AddsCalls r host before before x in subst P (sym is) (none_called r host before)
+no_memory_called r host before o (inr is) = let P : Option RunFault → Type 0 = λ x. AddsCalls r host before before x in subst P (sym is) (none_called r host before)
+
+-- the cause of an audit of a lockfile
+pub task_cause : (told : Type 0) (words : List (List ℕ)) (host : Host) (task : Task) (o : Option RunFault) → task_of (command_of words) ≡ Some task → IfSome o (CommandCause told task.command host)
+    → IfSome o (CauseOf told words host)
+task_cause told words host task None is h = tt
+task_cause told words host task (Some fault.Print) is h = tt
+task_cause told words host task (Some fault.NoMemory) is h = tt
+task_cause told words host task (Some (fault.Usage place)) is h = absurd h.only
+task_cause told words host task (Some (fault.Settings reason)) is h = inl (task, is, h)
+task_cause told words host task (Some (fault.Missing path)) is h = inl (task, is, h)
+task_cause told words host task (Some (fault.NotUtf8 path)) is h = inl (task, is, h)
+task_cause told words host task (Some (fault.TooLarge path len)) is h = inl (task, is, h)
+task_cause told words host task (Some (fault.File path)) is h = inl (task, is, h)
+task_cause told words host task (Some (fault.Lockfile reason)) is h = inl (task, is, h)
+task_cause told words host task (Some (fault.Advisory n reason)) is h = inl (task, is, h)
+task_cause told words host task (Some (fault.Generate status)) is h = inl (task, is, h)
+task_cause told words host task (Some (fault.Start failed)) is h = inl (task, is, h)
+
+-- what was accepted is what this audit asked for
+pub accepted_by : (words : List (List ℕ)) (host : Host) (task : Task) (given : Asked) (packages : List Package) → task_of (command_of words) ≡ Some task → Accepts words host given packages
+    → asked task.command host (pos 0) ≡ Ok given
+accepted_by words host task given packages mine accepts =
+    let other = accepts.is_task in
+    let same : accepts.task ≡ task = cc (mine, other) in
+    let P : Task → Type 0 = λ t. asked t.command host (pos 0) ≡ Ok given in
+    subst P same accepts.gives

@@ -1,34 +1,50 @@
 -- A run over a host that has all that is asked for, and of which no call fails, has no fault but want of memory.
-use Rattle.std.proofs.Common.{◌≡◌, ◌⊎◌, inl, inr, ℕ, List, Option, Some, None, Ok, Err, IsTrue, refl, sym, subst, arith}
+use Rattle.std.proofs.Common.{◌≡◌, ◌⊎◌, ◌<◌, inl, inr, ℕ, List, Option, Some, None, Ok, Err, IsTrue, refl, sym, ap, subst, arith}
 use Rattle.std.specs.Prelude.{IfSome, pos}
 use Rattle.tame_names.specs.Counts.{IsQuiet, Rose}
 use Rattle.tame_names.specs.Standing.{Host}
 use Rattle.audit_lock.specs.declared.lockfiles.LockfileFault.{LockfileFault}
 use Rattle.audit_settings.specs.declared.commands.AuditCommand.{AuditCommand}
 use Rattle.audit_asked.specs.Asked.{status_told}
+use Rattle.audit_asked.specs.ForBinaries.{asked_for_binaries}
 use Rattle.audit_asked.specs.Refusals.{is_told}
+use Rattle.audit_asked.specs.declared.binaries.AskedForBinaries.{AskedForBinaries}
 use Rattle.audit_asked.specs.declared.faults.RunFault.{RunFault}
 use Rattle.audit_asked.specs.declared.faults.RunFault.TheVariants as fault
-use Rattle.audit_program.specs.Causes.{CommandCause, HasNoLockfile, Refuses}
-use Rattle.audit_program.specs.Completes.{AreQuiet, FaultCounts, IsReady}
-
-not_both : (before now : ℕ) → IsQuiet before now → Rose before now → ⊥
-not_both before now quiet rose = let same = quiet.0 in let low = quiet.1 in omega (arith, same, low, rose)
+use Rattle.audit_fix.specs.Steps.{RoseBy}
+use Rattle.audit_program.specs.Causes.{BinariesCause, CommandCause, HasNoLockfile, Refuses, RefusesBinaries}
+use Rattle.audit_words.specs.Reading.{command_of}
+use Rattle.audit_program.specs.Completes.{AreQuiet, FaultCounts, IsReady, IsTaskReady}
+use Rattle.audit_program.specs.Tasks.{task_of}
+use Rattle.audit_program.specs.declared.tasks.Task.{Task}
+use Rattle.audit_program.proofs.Ended.{not_both}
 
 neither : (a b c d : ℕ) → IsQuiet a b → IsQuiet c d → Rose a b ⊎ Rose c d → ⊥
 neither a b c d out err (inl rose) = not_both a b out rose
 neither a b c d out err (inr rose) = not_both c d err rose
 
--- ---- no cause stands: the host decides no refusal, and the text is a lockfile
+none_failed : (failed before now : ℕ) → 0 < failed → IsQuiet before now → RoseBy failed before now → ⊥
+none_failed failed before now some quiet rose = let same = quiet.0 in let low = quiet.1 in omega (arith, some, same, low, rose)
 
-unrefused : (told : Type 0) (words : List (List ℕ)) (host : Host) (reason : RunFault) (ready : IsReady words host) → told → IsTrue (is_told reason)
-    → Refuses told ready.command host reason → ⊥
+-- what a fault tells of a count that rose
+pub record HasRose (before now : FaultCounts) (o : Option RunFault) : Type 0 where
+  pub print : o ≡ Some fault.Print → Rose before.out now.out ⊎ Rose before.err now.err
+  pub file : (path : List ℕ) → o ≡ Some (fault.File path) → Rose before.files now.files
+  pub start : (failed : ℕ) → o ≡ Some (fault.Start failed) → RoseBy failed before.starts now.starts
+
+abbrev IsComplete : Option RunFault → Type 0
+IsComplete o = (o ≡ None) ⊎ (o ≡ Some fault.NoMemory)
+
+-- ---- of a lockfile: the host decides no refusal, and the text is a lockfile
+
+unrefused : (told : Type 0) (words : List (List ℕ)) (host : Host) (reason : RunFault) (ready : IsTaskReady words host) → told → IsTrue (is_told reason)
+    → Refuses told ready.task.command host reason → ⊥
 unrefused told words host reason ready here by cause =
     let mine = ready.gives (status_told {T = Unit {0}} (Err reason)) in
     let other = cause.gives here by in
     cc (mine, other)
 
-readable : (told : Type 0) (words : List (List ℕ)) (host : Host) (reason : LockfileFault) (ready : IsReady words host) → told → HasNoLockfile told ready.command host reason → ⊥
+readable : (told : Type 0) (words : List (List ℕ)) (host : Host) (reason : LockfileFault) (ready : IsTaskReady words host) → told → HasNoLockfile told ready.task.command host reason → ⊥
 readable told words host reason ready here cause =
     let mine = ready.gives (pos 0) in
     let other = cause.gives here in
@@ -36,19 +52,8 @@ readable told words host reason ready here cause =
     let none = cause.lockfile in
     cc (mine, other, lock, none)
 
--- ---- each fault
-
--- what a fault tells of a count that rose
-pub record HasRose (before now : FaultCounts) (o : Option RunFault) : Type 0 where
-  pub print : o ≡ Some fault.Print → Rose before.out now.out ⊎ Rose before.err now.err
-  pub file : (path : List ℕ) → o ≡ Some (fault.File path) → Rose before.files now.files
-  pub start : (failed : ℕ) → o ≡ Some (fault.Start failed) → Rose before.starts now.starts
-
-abbrev IsComplete : Option RunFault → Type 0
-IsComplete o = (o ≡ None) ⊎ (o ≡ Some fault.NoMemory)
-
-by_fault : (told : Type 0) (words : List (List ℕ)) (host : Host) (before now : FaultCounts) (o : Option RunFault) (ready : IsReady words host) → told
-    → IfSome o (CommandCause told ready.command host) → HasRose before now o → AreQuiet before now → IsComplete o
+by_fault : (told : Type 0) (words : List (List ℕ)) (host : Host) (before now : FaultCounts) (o : Option RunFault) (ready : IsTaskReady words host) → told
+    → IfSome o (CommandCause told ready.task.command host) → HasRose before now o → AreQuiet before now → IsComplete o
 by_fault told words host before now None ready here cause rose quiet = inl refl
 by_fault told words host before now (Some fault.NoMemory) ready here cause rose quiet = inr refl
 by_fault told words host before now (Some (fault.Usage place)) ready here cause rose quiet = absurd cause.only
@@ -59,15 +64,49 @@ by_fault told words host before now (Some (fault.TooLarge path len)) ready here 
 by_fault told words host before now (Some (fault.Advisory n reason)) ready here cause rose quiet = absurd (unrefused told words host (fault.Advisory n reason) ready here refl cause)
 by_fault told words host before now (Some (fault.Generate status)) ready here cause rose quiet = absurd (unrefused told words host (fault.Generate status) ready here refl cause)
 by_fault told words host before now (Some (fault.Lockfile reason)) ready here cause rose quiet = absurd (readable told words host reason ready here cause)
-by_fault told words host before now (Some fault.Later) ready here cause rose quiet = absurd cause.only
 by_fault told words host before now (Some fault.Print) ready here cause rose quiet =
     absurd (neither before.out now.out before.err now.err quiet.out quiet.err (rose.print refl))
 by_fault told words host before now (Some (fault.File path)) ready here cause rose quiet = absurd (not_both before.files now.files quiet.files (rose.file path refl))
-by_fault told words host before now (Some (fault.Start failed)) ready here cause rose quiet = absurd (not_both before.starts now.starts quiet.starts (rose.start failed refl))
+by_fault told words host before now (Some (fault.Start failed)) ready here cause rose quiet =
+    absurd (none_failed failed before.starts now.starts cause quiet.starts (rose.start failed refl))
 
 -- the words are those of the command that was run
-pub complete_by : (told : Type 0) (words : List (List ℕ)) (host : Host) (command : AuditCommand) (before now : FaultCounts) (o : Option RunFault) (ready : IsReady words host)
-    → ready.command ≡ command → told → IfSome o (CommandCause told command host) → HasRose before now o → AreQuiet before now → IsComplete o
+pub complete_by : (told : Type 0) (words : List (List ℕ)) (host : Host) (command : AuditCommand) (before now : FaultCounts) (o : Option RunFault) (ready : IsTaskReady words host)
+    → ready.task.command ≡ command → told → IfSome o (CommandCause told command host) → HasRose before now o → AreQuiet before now → IsComplete o
 complete_by told words host command before now o ready same here cause rose quiet =
     let P : AuditCommand → Type 0 = λ c. IfSome o (CommandCause told c host) in
     by_fault told words host before now o ready here (subst P (sym same) cause) rose quiet
+
+-- ---- of binaries: the host decides no refusal
+
+accepted : (told : Type 0) (command : AuditCommand) (host : Host) (given : AskedForBinaries) (reason : RunFault) → asked_for_binaries command host ≡ Ok given → told → IsTrue (is_told reason)
+    → RefusesBinaries told command host reason → ⊥
+accepted told command host given reason mine here by cause = let other = cause.gives here by in cc (mine, other)
+
+pub binaries_complete : (told : Type 0) (command : AuditCommand) (host : Host) (given : AskedForBinaries) (before now : FaultCounts) (o : Option RunFault) → asked_for_binaries command host ≡ Ok given → told
+    → IfSome o (BinariesCause told command host) → HasRose before now o → AreQuiet before now → IsComplete o
+binaries_complete told command host given before now None gives here cause rose quiet = inl refl
+binaries_complete told command host given before now (Some fault.NoMemory) gives here cause rose quiet = inr refl
+binaries_complete told command host given before now (Some (fault.Usage place)) gives here cause rose quiet = absurd cause.only
+binaries_complete told command host given before now (Some (fault.Settings reason)) gives here cause rose quiet = absurd (accepted told command host given (fault.Settings reason) gives here refl cause)
+binaries_complete told command host given before now (Some (fault.Missing path)) gives here cause rose quiet = absurd (accepted told command host given (fault.Missing path) gives here refl cause)
+binaries_complete told command host given before now (Some (fault.NotUtf8 path)) gives here cause rose quiet = absurd (accepted told command host given (fault.NotUtf8 path) gives here refl cause)
+binaries_complete told command host given before now (Some (fault.TooLarge path len)) gives here cause rose quiet = absurd (accepted told command host given (fault.TooLarge path len) gives here refl cause)
+binaries_complete told command host given before now (Some (fault.Advisory n reason)) gives here cause rose quiet = absurd (accepted told command host given (fault.Advisory n reason) gives here refl cause)
+binaries_complete told command host given before now (Some (fault.Generate status)) gives here cause rose quiet = absurd cause.only
+binaries_complete told command host given before now (Some (fault.Lockfile reason)) gives here cause rose quiet = absurd cause.only
+binaries_complete told command host given before now (Some fault.Print) gives here cause rose quiet =
+    absurd (neither before.out now.out before.err now.err quiet.out quiet.err (rose.print refl))
+binaries_complete told command host given before now (Some (fault.File path)) gives here cause rose quiet = absurd (not_both before.files now.files quiet.files (rose.file path refl))
+binaries_complete told command host given before now (Some (fault.Start failed)) gives here cause rose quiet = absurd cause.only
+
+-- the words ask for an audit of a lockfile
+pub task_complete : (told : Type 0) (words : List (List ℕ)) (host : Host) (task : Task) (before now : FaultCounts) (o : Option RunFault) → task_of (command_of words) ≡ Some task
+    → IsReady words host → told → IfSome o (CommandCause told task.command host) → HasRose before now o → AreQuiet before now → IsComplete o
+task_complete told words host task before now o mine (inl ready) here cause rose quiet =
+    let other = ready.is_task in
+    let same : ready.task ≡ task = cc (mine, other) in
+    complete_by told words host task.command before now o ready (ap (λ (t : Task). t.command) same) here cause rose quiet
+task_complete told words host task before now o mine (inr ready) here cause rose quiet =
+    let none : task_of (command_of words) ≡ None = ap task_of ready.is_bin in
+    absurd (cc (mine, none))

@@ -1,6 +1,10 @@
+pub mod Asking
 pub mod Commands
 pub mod Completing
+pub mod Ended
 pub mod Faults
-pub mod Puts
+pub mod Finishing
+pub mod Putting
+pub mod Readings
+pub mod Reported
 pub mod Starting
-pub mod Placing

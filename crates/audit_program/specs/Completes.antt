@@ -1,26 +1,42 @@
 -- When a run has no fault but want of memory (this project).
-use Rattle.std.specs.Prelude.{◌≡◌, ℕ, ℤ, List, Ok}
+use Rattle.std.specs.Prelude.{◌≡◌, ◌⊎◌, ℕ, ℤ, List, Some, Ok}
 use Rattle.tame_names.specs.Counts.{IsQuiet}
 use Rattle.tame_names.specs.Standing.{Host}
 use Rattle.audit_lock.specs.Locked.{locked}
 use Rattle.audit_lock.specs.declared.resolving.Package.{Package}
 use Rattle.audit_settings.specs.declared.commands.AuditCommand.{AuditCommand}
 use Rattle.audit_words.specs.Reading.{command_of}
-use Rattle.audit_words.specs.declared.commands.Command.TheVariants.{Audit}
+use Rattle.audit_words.specs.declared.commands.BinCommand.{BinCommand}
+use Rattle.audit_words.specs.declared.commands.Command.TheVariants.{Bin}
 use Rattle.audit_asked.specs.Asked.{asked}
+use Rattle.audit_asked.specs.ForBinaries.{asked_for_binaries}
 use Rattle.audit_asked.specs.declared.asking.Asked.{Asked}
+use Rattle.audit_asked.specs.declared.binaries.AskedForBinaries.{AskedForBinaries}
+use Rattle.audit_program.specs.Tasks.{task_of}
+use Rattle.audit_program.specs.declared.tasks.Task.{Task}
 
--- the words are those of an audit; what the host has gives all that it asks for, whatever a start
--- that generates a lockfile would end with; and the text is a lockfile
-pub record IsReady (words : List (List ℕ)) (host : Host) : Type 0 where
-  pub command : AuditCommand
-  pub is_audit : command_of words ≡ Ok (Audit command)
+-- the words are those of an audit of a lockfile; what the host has gives all that it asks for,
+-- whatever a start that generates a lockfile would end with; and the text is a lockfile
+pub record IsTaskReady (words : List (List ℕ)) (host : Host) : Type 0 where
+  pub task : Task
+  pub is_task : task_of (command_of words) ≡ Some task
   pub given : Asked
-  pub gives : (status : ℤ) → asked command host status ≡ Ok given
+  pub gives : (status : ℤ) → asked task.command host status ≡ Ok given
   pub packages : List Package
   pub lockfile : locked given.text ≡ Ok packages
 
--- how often the host's files, its starts of programs, and the two sinks have failed
+-- the words are those of audits of binaries, and what the host has gives all that they ask for
+pub record AreBinariesReady (words : List (List ℕ)) (host : Host) : Type 0 where
+  pub command : AuditCommand
+  pub more : BinCommand
+  pub is_bin : command_of words ≡ Ok (Bin command more)
+  pub given : AskedForBinaries
+  pub gives : asked_for_binaries command host ≡ Ok given
+
+abbrev pub IsReady : List (List ℕ) → Host → Type 0
+IsReady words host = IsTaskReady words host ⊎ AreBinariesReady words host
+
+-- how often the host's files, its starts of programs, and the two outputs have failed
 pub record FaultCounts : Type 0 where
   pub files : ℕ
   pub starts : ℕ

@@ -1,6 +1,10 @@
+pub mod BinaryRuns
+pub mod Calls
 pub mod Causes
 pub mod Completes
-pub mod FaultLines
+pub mod Finishes
 pub mod Outputs
-pub mod Printed
 pub mod Runs
+pub mod Statuses
+pub mod Steps
+pub mod Tasks

@@ -8,7 +8,7 @@ ghost use Rattle.audit_core.specs.Checks.{asked_of};
 ghost use Rattle.audit_core.specs.Turns.{AddsPart, KeepsHonest};
 ghost use Rattle.audit_core.specs.declared.checking.Checks.TheVariants as Checks;
 ghost use Rattle.audit_program.specs.Causes.{IsAuditFault};
-ghost use Rattle.audit_program.specs.Outputs.{IsReportOf};
+ghost use Rattle.audit_output.specs.Outputs.{IsReportOf};
 
 use audit_asked::RunFault;
 use audit_core::{AuditError, Audited, Auditor};
@@ -27,22 +27,38 @@ pub fn audit<W: Wire, D: CacheDisk>(
     disk: &mut D,
 ) -> Result<Audited, RunFault>
     ensures audited { IfOk result (IsAuditOf auditor.now W.tells D.tells
-        (record { exchanges = W.exchanges wire.old; files = D.past disk.old; wire_faults = W.faults wire.old; disk_faults = D.faults disk.old })
-        (record { exchanges = W.exchanges wire.new; files = D.past disk.new; wire_faults = W.faults wire.new; disk_faults = D.faults disk.new })
+        (record {
+          exchanges = W.exchanges wire.old;
+          files = D.past disk.old;
+          wire_faults = W.faults wire.old;
+          disk_faults = D.faults disk.old;
+        })
+        (record {
+          exchanges = W.exchanges wire.new;
+          files = D.past disk.new;
+          wire_faults = W.faults wire.new;
+          disk_faults = D.faults disk.new;
+        })
         text.now) }
     ensures report { IfOk result (IsReportOf auditor.now.database) }
-    ensures refused { (f : LockfileFault) → result ≡ Err (RunFault.Lockfile f) → locked text.now ≡ Err f }
+    ensures refused { (f : LockfileFault) → result ≡ Err (RunFault.Lockfile f)
+        → locked text.now ≡ Err f }
     ensures only { IfErr result IsAuditFault }
-    ensures uncalled { (f : LockfileFault) → locked text.now ≡ Err f → (wire.new ≡ wire.old) × (disk.new ≡ disk.old) }
-    ensures kept { W.tells → D.tells → KeepsHonest (W.exchanges wire.old) (W.exchanges wire.new) (D.past disk.old) (D.past disk.new) }
+    ensures uncalled { (f : LockfileFault) → locked text.now ≡ Err f → (wire.new ≡ wire.old)
+        × (disk.new ≡ disk.old) }
+    ensures kept { W.tells → D.tells → KeepsHonest (W.exchanges wire.old) (W.exchanges wire.new)
+        (D.past disk.old) (D.past disk.new) }
     ensures part { W.tells → (packages : List Package) → locked text.now ≡ Ok packages
-        → AddsPart (asked_of auditor.now.checks packages) (W.exchanges wire.old) (W.exchanges wire.new) }
+        → AddsPart (asked_of auditor.now.checks packages) (W.exchanges wire.old)
+        (W.exchanges wire.new) }
     ensures others { D.tells → (packages : List Package) → locked text.now ≡ Ok packages
         → KeepsOthers (asked_of auditor.now.checks packages) (D.past disk.old) (D.past disk.new) }
     ensures folders { D.tells → (packages : List Package) → locked text.now ≡ Ok packages
-        → MakesAskedFolders (asked_of auditor.now.checks packages) (D.folders disk.old) (D.folders disk.new) }
+        → MakesAskedFolders (asked_of auditor.now.checks packages) (D.folders disk.old)
+        (D.folders disk.new) }
     ensures unasked { auditor.now.checks ≢ Checks.Online → wire.new ≡ wire.old }
-    ensures unchanged { auditor.now.checks ≢ Checks.Online → D.tells → (q : List ℕ) → D.past disk.new q ≡ D.past disk.old q }
+    ensures unchanged { auditor.now.checks ≢ Checks.Online → D.tells → (q : List ℕ)
+        → D.past disk.new q ≡ D.past disk.old q }
     ensures off { auditor.now.checks ≡ Checks.Off → disk.new ≡ disk.old }
 {
     match auditor.audit_text(alloc, text, lock, wire, disk) {

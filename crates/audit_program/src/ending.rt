@@ -1,24 +1,27 @@
 //! How a run ends.
 ghost use Rattle.std.specs.Prelude.{◌≡◌, ◌≤◌, ◌⊎◌, ℕ, List, Some};
-ghost use Rattle.tame_names.specs.Output.{AddsPrefix};
-ghost use Rattle.audit_program.specs.Causes.{fault_status, status_of};
-ghost use Rattle.audit_program.specs.FaultLines.{fault_line};
+ghost use Rattle.audit_output.specs.FaultLines.{fault_line};
 ghost use Rattle.audit_program.specs.Outputs.{IsEnded, IsLinePut, IsPutBy};
+ghost use Rattle.audit_program.specs.Statuses.{fault_status};
 
-use crate::fault_lines::fault_line;
 use audit_asked::RunFault;
+use audit_binaries::BinariesAudit;
 use audit_core::Audited;
+use audit_output::fault_line;
 use std::alloc::Global;
 use tame_names::{Sink, put_counted};
 
 /// How a run ended.
 #[derive(Drop)]
 pub struct Outcome {
-    /// The status that the process should end with: that of the audit, 0 where words ask for a text
-    /// alone, 2 for a fault, or 3 for want of memory.
+    /// The status that the process should end with: 2 for a fault, or 3 for want of memory; else
+    /// that of the audit, of `fix` or of the audits of binaries, and 0 where words ask for a text
+    /// alone.
     pub status: u8,
-    /// The audit, where one was made.
+    /// The audit of a lockfile, where one was made.
     pub audited: Option<Audited>,
+    /// The audits of binaries, where they were made.
+    pub binaries: Option<BinariesAudit>,
     pub fault: Option<RunFault>,
 }
 
@@ -32,7 +35,7 @@ fn fault_status(fault: &RunFault) -> u8
 }
 
 /// Puts a line, whatever becomes of it.
-fn put_text<E: Sink>(err: &mut E, line: &[u8])
+fn try_put<E: Sink>(err: &mut E, line: &[u8])
     ensures line { E.tells → IsLinePut (E.holds err.old) line.now (E.holds err.new)
         (E.faults err.old) (E.faults err.new) }
     ensures later { E.faults err.old ≤ E.faults err.new }
@@ -50,11 +53,11 @@ fn put_line<E: Sink>(alloc: Global, err: &mut E, place: &str, fault: RunFault) -
 {
     match fault_line(alloc, place, &fault) {
         Ok(line) => {
-            put_text(err, line.as_bytes());
+            try_put(err, line.as_bytes());
             fault
         }
         Err(_) => {
-            put_text(err, "error: out of memory\n".as_bytes());
+            try_put(err, "error: out of memory\n".as_bytes());
             RunFault::NoMemory
         }
     }
@@ -68,15 +71,18 @@ pub fn failed<E: Sink>(
     place: &str,
     fault: RunFault,
     audited: Option<Audited>,
+    binaries: Option<BinariesAudit>,
 ) -> Outcome
     ensures fault { (result.fault ≡ Some fault) ⊎ (result.fault ≡ Some RunFault.NoMemory) }
     ensures audited { result.audited ≡ audited }
-    ensures status { result.status ≡ status_of result.fault result.audited }
-    // the line stands behind a part of a text that was put before
-    ensures ended { E.tells → (before text : List ℕ) → AddsPrefix before text (E.holds err.old)
+    ensures binaries { result.binaries ≡ binaries }
+    ensures status { (f : RunFault) → result.fault ≡ Some f → result.status ≡ fault_status f }
+    // the line stands behind what was put before
+    ensures ended { E.tells → (before text : List ℕ)
+        → IsPutBy before text (Some fault) (E.holds err.old)
         → IsEnded place.now before text result.fault (E.holds err.new) (E.faults err.old)
         (E.faults err.new) }
-    ensures put { (before text now : List ℕ) → AddsPrefix before text now
+    ensures put { (before text now : List ℕ) → IsPutBy before text (Some fault) now
         → IsPutBy before text result.fault now }
     ensures later { E.faults err.old ≤ E.faults err.new }
 {
@@ -84,6 +90,7 @@ pub fn failed<E: Sink>(
     Outcome {
         status: fault_status(&fault),
         audited,
+        binaries,
         fault: Some(fault),
     }
 }

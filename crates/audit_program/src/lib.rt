@@ -3,12 +3,12 @@
 #![tactic(auto)]
 
 mod auditing;
+mod binary_runs;
 mod ending;
-mod fault_lines;
-mod judged_lines;
-mod outputs;
-mod printing;
+mod fixing;
 mod running;
+mod task_runs;
+mod tasks;
 
 pub use audit_asked::RunFault;
 pub use ending::Outcome;

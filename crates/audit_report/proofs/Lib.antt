@@ -1,6 +1,7 @@
 pub mod Depths
 pub mod FirstUses
 pub mod Joining
+pub mod Kept
 pub mod Newline
 pub mod Once
 pub mod Placed

@@ -19,7 +19,7 @@ or-false false = refl
 
 -- ---- where a package has the name, version and source of another, its tree was shown where that one's was
 
-bytes_same : (xs ys : List ℕ) → bytes_eq xs ys ≡ true → xs ≡ ys
+pub bytes_same : (xs ys : List ℕ) → bytes_eq xs ys ≡ true → xs ≡ ys
 bytes_same xs ys h = search (rules, bytes_eq-Decides)
 
 option_same : (a b : Option (List ℕ)) → option_eq bytes_eq a b ≡ true → a ≡ b
@@ -28,11 +28,11 @@ option_same None (Some b) h = absurd (false≢true h)
 option_same (Some a) None h = absurd (false≢true h)
 option_same (Some a) (Some b) h = ap Some (bytes_same a b h)
 
-left : (a b : Bool) → (a && b) ≡ true → a ≡ true
+pub left : (a b : Bool) → (a && b) ≡ true → a ≡ true
 left true b h = refl
 left false b h = h
 
-right : (a b : Bool) → (a && b) ≡ true → b ≡ true
+pub right : (a b : Bool) → (a && b) ≡ true → b ≡ true
 right true b h = h
 right false b h = absurd (false≢true h)
 

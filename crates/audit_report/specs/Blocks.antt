@@ -11,7 +11,9 @@ use Rattle.audit_advisory.specs.declared.outputs.WarningKind.{WarningKind}
 use Rattle.audit_advisory.specs.declared.reports.Report.{Report}
 use Rattle.audit_advisory.specs.declared.reports.Vulnerability.{Vulnerability}
 use Rattle.audit_advisory.specs.declared.reports.Warning.{Warning}
+use Rattle.audit_report.specs.Affected.{affected_line}
 use Rattle.audit_report.specs.Attributes.{attribute, attribute_if, score, url_of}
+use Rattle.audit_report.specs.Symbols.{Segments}
 use Rattle.audit_report.specs.Words.{kind_word}
 
 -- ---- lines
@@ -35,17 +37,23 @@ unfoldable pub solution : List (List ℕ) → List ℕ
 solution [] = codes "No fixed upgrade is available!"
 solution (t ∷ ts) = codes "Upgrade to " ++ t ++ or_texts ts
 
-unfoldable pub vulnerability_lines : Package → Advisory → List ℕ
-vulnerability_lines p a =
+unfoldable pub vulnerability_lines : Option (List Segments) → Package → Advisory → List ℕ
+vulnerability_lines symbols p a =
     crate_lines p
     ++ metadata_lines a.metadata
     ++ attribute (codes "Solution:") (solution a.versions.patched)
+    ++ affected_line symbols p a
 
-unfoldable pub warning_lines : WarningKind → Package → Option Advisory → List ℕ
-warning_lines kind p advisory =
+-- what an advisory says of a package that is warned of
+unfoldable pub told_lines : Option (List Segments) → Package → Advisory → List ℕ
+told_lines symbols p a = metadata_lines a.metadata ++ affected_line symbols p a
+
+unfoldable pub warning_lines : Option (List Segments) → WarningKind → Package → Option Advisory
+    → List ℕ
+warning_lines symbols kind p advisory =
     crate_lines p
     ++ attribute (codes "Warning:") (kind_word kind)
-    ++ option_map_or (λ a. metadata_lines a.metadata) advisory []
+    ++ option_map_or (told_lines symbols p) advisory []
 
 -- ---- blocks
 
@@ -62,28 +70,34 @@ abbrev pub advisory_at : List Advisory → Option ℕ → Option Advisory
 advisory_at advisories place = option_and_then (slice_get advisories) place
 
 -- the block of a vulnerability; a place that nothing has gives none
-abbrev pub vulnerability_block : List ℕ → Option Package → Option Advisory → List Block
-vulnerability_block tree (Some p) (Some a) =
-    record { lines = vulnerability_lines p a; locked = p; tree = tree } ∷ []
-vulnerability_block tree (Some p) None = []
-vulnerability_block tree None advisory = []
+abbrev pub vulnerability_block : Option (List Segments) → List ℕ → Option Package
+    → Option Advisory → List Block
+vulnerability_block symbols tree (Some p) (Some a) =
+    record { lines = vulnerability_lines symbols p a; locked = p; tree = tree } ∷ []
+vulnerability_block symbols tree (Some p) None = []
+vulnerability_block symbols tree None advisory = []
 
-abbrev pub warning_block : List ℕ → WarningKind → Option Package → Option Advisory → List Block
-warning_block tree kind (Some p) advisory =
-    record { lines = warning_lines kind p advisory; locked = p; tree = tree } ∷ []
-warning_block tree kind None advisory = []
+abbrev pub warning_block : Option (List Segments) → List ℕ → WarningKind → Option Package
+    → Option Advisory → List Block
+warning_block symbols tree kind (Some p) advisory =
+    record { lines = warning_lines symbols kind p advisory; locked = p; tree = tree } ∷ []
+warning_block symbols tree kind None advisory = []
 
-abbrev pub vulnerability_at : List Advisory → List Package → Vulnerability → List Block
-vulnerability_at advisories packages v =
-    vulnerability_block (tree_at packages v.«package»)
+abbrev pub vulnerability_at : Option (List Segments) → List Advisory → List Package
+    → Vulnerability → List Block
+vulnerability_at symbols advisories packages v =
+    vulnerability_block symbols (tree_at packages v.«package»)
     (slice_get packages v.«package») (slice_get advisories v.advisory)
 
-abbrev pub warning_at : List Advisory → List Package → Warning → List Block
-warning_at advisories packages w =
-    warning_block (tree_at packages w.«package») w.kind
+abbrev pub warning_at : Option (List Segments) → List Advisory → List Package → Warning
+    → List Block
+warning_at symbols advisories packages w =
+    warning_block symbols (tree_at packages w.«package») w.kind
     (slice_get packages w.«package») (advisory_at advisories w.advisory)
 
-abbrev pub blocks_of : List Advisory → List Package → Report → List Block
-blocks_of advisories packages report =
-    flat_map (vulnerability_at advisories packages) report.vulnerabilities
-    ++ flat_map (warning_at advisories packages) report.warnings
+-- the symbols are those of a binary, where they are set
+abbrev pub blocks_of : Option (List Segments) → List Advisory → List Package → Report
+    → List Block
+blocks_of symbols advisories packages report =
+    flat_map (vulnerability_at symbols advisories packages) report.vulnerabilities
+    ++ flat_map (warning_at symbols advisories packages) report.warnings

@@ -1,4 +1,5 @@
 pub mod Adds
+pub mod Affected
 pub mod Attributes
 pub mod Blocks
 pub mod Documents
@@ -16,5 +17,6 @@ pub mod SelfReports
 pub mod Shown
 pub mod StatusLines
 pub mod Summaries
+pub mod Symbols
 pub mod Values
 pub mod Words

@@ -1,5 +1,6 @@
 -- What a presenter prints of a report: a function of how it shows reports, of the trees that it has
--- shown, of the report, and of the advisories and packages that the report speaks of.
+-- shown, of the symbols that are set, of the report, and of the advisories and packages that the
+-- report speaks of.
 use Rattle.std.specs.Prelude.{ℕ, List, [], Option}
 use Rattle.audit_lock.specs.declared.resolving.Package.{Package}
 use Rattle.audit_advisory.specs.declared.advisories.Advisory.{Advisory}
@@ -25,9 +26,11 @@ pub record Printed : Type 0 where
 abbrev pub terminal_form : Presenter → Option (List ℕ) → List Advisory → List Package → Report
     → Printed
 terminal_form p path advisories packages report = record {
-  out = blocks_text p.config.show_tree p.trees (blocks_of advisories packages report);
+  out =
+      blocks_text p.config.show_tree p.trees (blocks_of p.symbols advisories packages report);
   err = summary p.config.deny path report;
-  trees = shown_after p.config.show_tree p.trees (blocks_of advisories packages report);
+  trees =
+      shown_after p.config.show_tree p.trees (blocks_of p.symbols advisories packages report);
 }
 
 -- one line on out

@@ -1,12 +1,15 @@
 //! The lines of a vulnerability and of a warning.
 ghost use Rattle.std.specs.Prelude.{◌≡◌, ◌++◌, IfOk, OnOk, option_map, string_bytes};
-ghost use Rattle.audit_report.specs.Blocks.{crate_lines, metadata_lines, or_texts, solution, vulnerability_lines, warning_lines};
+ghost use Rattle.audit_report.specs.Blocks.{crate_lines, metadata_lines, or_texts, solution, told_lines, vulnerability_lines, warning_lines};
 
+use crate::affected::push_affected;
 use crate::attributes::{push_attribute, push_severity, push_url};
+use crate::symbols::SymbolSet;
 use crate::words::kind_word;
 use audit_advisory::{Advisory, Metadata, Requirement, WarningKind};
 use audit_lock::Package;
 use std::alloc::{AllocError, Global};
+use tame_names::NoMemory;
 
 #[tactic(auto, unfolding(crate::specs::Blocks::crate_lines))]
 fn push_crate(out: &mut String, locked: &Package) -> Result<(), AllocError>
@@ -64,36 +67,55 @@ fn solution(alloc: Global, patched: &[Requirement]) -> Result<String, AllocError
 #[tactic(auto, unfolding(crate::specs::Blocks::vulnerability_lines))]
 pub fn vulnerability_lines(
     alloc: Global,
+    symbols: &Option<SymbolSet>,
     locked: &Package,
     advisory: &Advisory,
-) -> Result<String, AllocError>
+) -> Result<String, NoMemory>
     ensures { IfOk result (λ text. string_bytes text
-        ≡ vulnerability_lines locked.now advisory.now) }
+        ≡ vulnerability_lines symbols.now locked.now advisory.now) }
 {
     let mut out = String::new(alloc);
     push_crate(&mut out, locked)?;
     push_metadata(alloc, &mut out, &advisory.metadata)?;
     let solution = solution(alloc, advisory.versions.patched())?;
     push_attribute(&mut out, "Solution:", solution.as_str())?;
+    push_affected(alloc, &mut out, symbols, locked, advisory)?;
     Ok(out)
+}
+
+/// Appends what an advisory says of a package that is warned of.
+#[tactic(auto, unfolding(crate::specs::Blocks::told_lines))]
+fn push_told(
+    alloc: Global,
+    out: &mut String,
+    symbols: &Option<SymbolSet>,
+    locked: &Package,
+    advisory: &Advisory,
+) -> Result<(), NoMemory>
+    ensures { OnOk result (string_bytes out.new
+        ≡ string_bytes out.old ++ told_lines symbols.now locked.now advisory.now) }
+{
+    push_metadata(alloc, out, &advisory.metadata)?;
+    push_affected(alloc, out, symbols, locked, advisory)
 }
 
 /// The lines of a package that is warned of.
 #[tactic(auto, unfolding(crate::specs::Blocks::warning_lines))]
 pub fn warning_lines(
     alloc: Global,
+    symbols: &Option<SymbolSet>,
     kind: WarningKind,
     locked: &Package,
     advisory: Option<&Advisory>,
-) -> Result<String, AllocError>
-    ensures { IfOk result (λ text. string_bytes text
-        ≡ warning_lines kind locked.now (option_map (λ a. a.now) advisory.entry)) }
+) -> Result<String, NoMemory>
+    ensures { IfOk result (λ text. string_bytes text ≡ warning_lines symbols.now kind locked.now
+        (option_map (λ a. a.now) advisory.entry)) }
 {
     let mut out = String::new(alloc);
     push_crate(&mut out, locked)?;
     push_attribute(&mut out, "Warning:", kind_word(kind))?;
     if let Some(advisory) = advisory {
-        push_metadata(alloc, &mut out, &advisory.metadata)?;
+        push_told(alloc, &mut out, symbols, locked, advisory)?;
     }
     Ok(out)
 }

@@ -9,6 +9,7 @@ use crate::blocks::{vulnerability_lines, warning_lines};
 use crate::pages::Page;
 use crate::placing::{advisory_at, listed_at, package_at};
 use crate::shown_trees::{ShownTree, Trees, add_due, is_due};
+use crate::symbols::SymbolSet;
 use audit_advisory::{Advisory, Report, Vulnerability, Warning};
 use audit_lock::{Lockfile, Package, Tree};
 use std::alloc::Global;
@@ -20,6 +21,8 @@ pub struct Findings<'a> {
     pub advisories: &'a [Advisory],
     pub lockfile: &'a Lockfile,
     pub tree: &'a Tree,
+    /// The symbols of a binary, where they are set.
+    pub symbols: &'a Option<SymbolSet>,
     /// Whether trees are wanted.
     pub wanted: bool,
     /// The trees that were shown before.
@@ -138,7 +141,7 @@ fn push_vulnerability_block(
     requires made { findings.now.tree.now ≡ tree_of findings.now.lockfile.now }
     requires place { IfSome locked (λ _. place < length findings.now.lockfile.now) }
     ensures { OnOk result (Shows findings.now.wanted
-        (vulnerability_block (tree_at findings.now.lockfile.now place)
+        (vulnerability_block findings.now.symbols.now (tree_at findings.now.lockfile.now place)
         (option_copied locked.entry) (option_copied advisory.entry))
         sheet.old.page.bytes.items (findings.now.known.now ++ sheet.old.added)
         sheet.new.page.bytes.items (findings.now.known.now ++ sheet.new.added)) }
@@ -146,7 +149,7 @@ fn push_vulnerability_block(
     let (Some(locked), Some(advisory)) = (locked, advisory) else {
         return Ok(());
     };
-    let lines = vulnerability_lines(alloc, locked, advisory)?;
+    let lines = vulnerability_lines(alloc, findings.symbols, locked, advisory)?;
     sheet.page.push(lines.as_str())?;
     push_tree(alloc, sheet, findings, place, locked)
 }
@@ -164,7 +167,8 @@ fn push_warning_block(
     requires place { IfSome locked
         (λ _. warning.«package» < length findings.now.lockfile.now) }
     ensures { OnOk result (Shows findings.now.wanted
-        (warning_block (tree_at findings.now.lockfile.now warning.«package») warning.kind
+        (warning_block findings.now.symbols.now
+        (tree_at findings.now.lockfile.now warning.«package») warning.kind
         (option_copied locked.entry) (option_copied advisory.entry))
         sheet.old.page.bytes.items (findings.now.known.now ++ sheet.old.added)
         sheet.new.page.bytes.items (findings.now.known.now ++ sheet.new.added)) }
@@ -172,7 +176,8 @@ fn push_warning_block(
     let Some(locked) = locked else {
         return Ok(());
     };
-    let lines = warning_lines(alloc, warning.kind, locked, advisory)?;
+    let (symbols, kind) = (findings.symbols, warning.kind);
+    let lines = warning_lines(alloc, symbols, kind, locked, advisory)?;
     sheet.page.push(lines.as_str())?;
     push_tree(alloc, sheet, findings, warning.package, locked)
 }
@@ -186,7 +191,8 @@ fn push_vulnerability_at(
 ) -> Result<(), NoMemory>
     requires made { findings.now.tree.now ≡ tree_of findings.now.lockfile.now }
     ensures { OnOk result (Shows findings.now.wanted
-        (vulnerability_at findings.now.advisories.now findings.now.lockfile.now hit)
+        (vulnerability_at findings.now.symbols.now findings.now.advisories.now
+        findings.now.lockfile.now hit)
         sheet.old.page.bytes.items (findings.now.known.now ++ sheet.old.added)
         sheet.new.page.bytes.items (findings.now.known.now ++ sheet.new.added)) }
 {
@@ -204,7 +210,8 @@ fn push_warning_at(
 ) -> Result<(), NoMemory>
     requires made { findings.now.tree.now ≡ tree_of findings.now.lockfile.now }
     ensures { OnOk result (Shows findings.now.wanted
-        (warning_at findings.now.advisories.now findings.now.lockfile.now warning)
+        (warning_at findings.now.symbols.now findings.now.advisories.now
+        findings.now.lockfile.now warning)
         sheet.old.page.bytes.items (findings.now.known.now ++ sheet.old.added)
         sheet.new.page.bytes.items (findings.now.known.now ++ sheet.new.added)) }
 {
@@ -222,8 +229,8 @@ fn push_vulnerabilities(
 ) -> Result<(), NoMemory>
     requires made { findings.now.tree.now ≡ tree_of findings.now.lockfile.now }
     ensures { OnOk result (Shows findings.now.wanted
-        (flat_map (vulnerability_at findings.now.advisories.now findings.now.lockfile.now)
-        found.now)
+        (flat_map (vulnerability_at findings.now.symbols.now findings.now.advisories.now
+        findings.now.lockfile.now) found.now)
         sheet.old.page.bytes.items (findings.now.known.now ++ sheet.old.added)
         sheet.new.page.bytes.items (findings.now.known.now ++ sheet.new.added)) }
 {
@@ -242,8 +249,8 @@ fn push_warnings(
 ) -> Result<(), NoMemory>
     requires made { findings.now.tree.now ≡ tree_of findings.now.lockfile.now }
     ensures { OnOk result (Shows findings.now.wanted
-        (flat_map (warning_at findings.now.advisories.now findings.now.lockfile.now)
-        warnings.now)
+        (flat_map (warning_at findings.now.symbols.now findings.now.advisories.now
+        findings.now.lockfile.now) warnings.now)
         sheet.old.page.bytes.items (findings.now.known.now ++ sheet.old.added)
         sheet.new.page.bytes.items (findings.now.known.now ++ sheet.new.added)) }
 {
@@ -262,7 +269,8 @@ pub fn push_report(
 ) -> Result<(), NoMemory>
     requires made { findings.now.tree.now ≡ tree_of findings.now.lockfile.now }
     ensures { OnOk result (Shows findings.now.wanted
-        (blocks_of findings.now.advisories.now findings.now.lockfile.now report.now)
+        (blocks_of findings.now.symbols.now findings.now.advisories.now
+        findings.now.lockfile.now report.now)
         sheet.old.page.bytes.items (findings.now.known.now ++ sheet.old.added)
         sheet.new.page.bytes.items (findings.now.known.now ++ sheet.new.added)) }
 {

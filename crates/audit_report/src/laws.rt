@@ -1,8 +1,10 @@
 //! What holds of everything that a presenter prints for a terminal.
-ghost use Rattle.std.specs.Prelude.{◌≡◌, ℕ, List, [], ◌∷◌, ◌++◌, Bool, true, not, ◌&&◌, ◌||◌};
+ghost use Rattle.std.specs.Prelude.{◌≡◌, ◌↔◌, ℕ, List, [], ◌∷◌, ◌++◌, map, Bool, IsTrue, true, not, ◌&&◌, ◌||◌};
+ghost use Rattle.std.specs.List.{Any};
 ghost use Rattle.audit_lock.specs.declared.resolving.Package.{Package};
 ghost use Rattle.audit_report.specs.Blocks.{Block};
 ghost use Rattle.audit_report.specs.Shown.{blocks_text, is_among, shown_after, tree_lines, was_shown};
+ghost use Rattle.audit_report.specs.Symbols.{Names, Segments, is_kept, plain};
 ghost use Rattle.audit_report.specs.declared.shown_trees.ShownTree.{ShownTree};
 
 /// Where trees are wanted, the trees that count as shown after some blocks are those from before
@@ -16,4 +18,12 @@ pub fn each_tree_stands_once()
         → blocks_text true shown (blocks ++ b ∷ []) ≡ blocks_text true shown blocks
         ++ (b.lines ++ tree_lines
         (not (was_shown shown b.locked || is_among blocks b.locked)) b.tree) }
+{}
+
+/// Symbols keep exactly the paths that are one of them, or what is left of one where segments
+/// between its first and its last are left out; of a path's segment only what stands in front of
+/// its first `<` counts.
+pub fn kept_paths_are_symbols_with_gaps()
+    ensures { (symbols : List Segments) (path : Segments)
+        → IsTrue (is_kept symbols path) ↔ Any (Names (map plain path)) symbols }
 {}

@@ -2,7 +2,9 @@
 //! sum it up, and status lines.
 #![tactic(auto)]
 
+mod affected;
 mod attributes;
+mod binaries;
 mod blocks;
 mod documents;
 mod findings;
@@ -28,13 +30,18 @@ mod settings;
 mod shown_trees;
 mod status_lines;
 mod summaries;
+mod symbols;
 mod words;
 
+pub use binaries::Found;
 pub use documents::{report_line, report_text};
-pub use laws::each_tree_stands_once;
-pub use presenters::{Found, Presenter};
+pub use laws::{each_tree_stands_once, kept_paths_are_symbols_with_gaps};
+pub use presenters::Presenter;
 pub use putting::PrintError;
 pub use sarif_logs::{
     Level, MultiformatMessageString, Precision, Rule, Run, SarifLog, SarifResult,
 };
-pub use status_lines::{push_loaded, push_unchecked, push_updating, scanning_line_in};
+pub use status_lines::{
+    binary_line_in, push_loaded, push_unchecked, push_updating, scanning_line_in,
+};
+pub use symbols::{Filtered, SymbolSet};

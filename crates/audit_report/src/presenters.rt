@@ -1,5 +1,5 @@
 //! Prints reports, and each tree once in its life.
-ghost use Rattle.std.specs.Prelude.{◌≡◌, ◌≢◌, ◌<◌, ◌≤◌, ◌++◌, ◌↔◌, ◌⊎◌, [], length, option_map, string_bytes, All, IfOk, IfErr, IsErrOf, IsFalse, OnOk, OnErr};
+ghost use Rattle.std.specs.Prelude.{◌≡◌, ◌≢◌, ◌<◌, ◌≤◌, ◌++◌, ◌↔◌, ◌⊎◌, [], None, Some, length, option_map, string_bytes, All, IfOk, IfErr, IsErrOf, IsFalse, OnOk, OnErr};
 ghost use Rattle.tame_names.specs.Counts.{Rose};
 ghost use Rattle.audit_lock.specs.Parents.{tree_of};
 ghost use Rattle.audit_advisory.specs.Reports.{IsPlaced};
@@ -13,8 +13,9 @@ ghost use Rattle.audit_report.specs.Sarif.{sarif_log, uri_of};
 ghost use Rattle.audit_report.specs.SarifObjects.{LogReadsBack};
 ghost use Rattle.audit_report.specs.SelfReports.{self_summary, self_text};
 ghost use Rattle.audit_report.specs.Shown.{Shows};
-ghost use Rattle.audit_report.specs.StatusLines.{scanning_line_in};
+ghost use Rattle.audit_report.specs.StatusLines.{binary_line_in, scanning_line_in};
 
+use crate::binaries::Found;
 use crate::findings::{Findings, Sheet, push_report};
 use crate::made_texts::{Made, made_json, made_sarif};
 use crate::pages::Page;
@@ -22,22 +23,13 @@ use crate::placing::{are_placed, is_placed};
 use crate::putting::{PrintError, put_text, put_texts};
 use crate::self_reports::{self_summary, self_text};
 use crate::shown_trees::Trees;
-use crate::status_lines::scanning_line_in;
+use crate::status_lines::{binary_line_in, scanning_line_in};
 use crate::summaries::summary;
+use crate::symbols::SymbolSet;
 use audit_advisory::{Database, OutputConfig, OutputFormat, Report, report_fails, self_fails};
 use audit_lock::{Lockfile, Tree};
 use std::alloc::Global;
 use tame_names::{Items, NoMemory, Sink};
-
-/// What a binary tells of the packages that it was built from.
-#[derive(Clone, Copy, Debug, PartialEq, Eq)]
-pub enum Found {
-    /// All of them.
-    Complete,
-    /// Some of them.
-    Incomplete,
-    Nothing,
-}
 
 /// Prints reports. Over its life it shows each package's tree once.
 #[derive(Drop)]
@@ -45,6 +37,8 @@ pub struct Presenter {
     config: OutputConfig,
     /// The trees that it has shown.
     trees: Trees,
+    /// The symbols of a binary, where they are set.
+    symbols: Option<SymbolSet>,
 }
 
 /// A copy of a configuration.
@@ -65,7 +59,8 @@ fn config_copied(alloc: Global, config: &OutputConfig) -> Result<OutputConfig, N
 fn sheet_of(alloc: Global, findings: &Findings<'_>, report: &Report) -> Result<Sheet, NoMemory>
     requires made { findings.now.tree.now ≡ tree_of findings.now.lockfile.now }
     ensures { IfOk result (λ sheet. Shows findings.now.wanted
-        (blocks_of findings.now.advisories.now findings.now.lockfile.now report.now)
+        (blocks_of findings.now.symbols.now findings.now.advisories.now
+        findings.now.lockfile.now report.now)
         [] findings.now.known.now
         sheet.page.bytes.items (findings.now.known.now ++ sheet.added)) }
 {
@@ -78,15 +73,28 @@ fn sheet_of(alloc: Global, findings: &Findings<'_>, report: &Report) -> Result<S
 }
 
 impl Presenter {
-    /// A presenter that has shown no tree.
+    /// A presenter that has shown no tree, without symbols.
     pub fn new(alloc: Global, config: &OutputConfig) -> Result<Presenter, NoMemory>
         ensures config { IfOk result (λ presenter. presenter.config ≡ config.now) }
         ensures trees { IfOk result (λ presenter. presenter.trees ≡ []) }
+        ensures symbols { IfOk result (λ presenter. presenter.symbols ≡ None) }
     {
         Ok(Presenter {
             config: config_copied(alloc, config)?,
             trees: Trees::new(alloc),
+            symbols: None,
         })
+    }
+
+    /// Sets the symbols of a binary. From then on the terminal form names, of the functions that
+    /// an advisory names, those that are affected in the package's version and that the symbols
+    /// keep.
+    pub fn set_symbols(&mut self, symbols: SymbolSet)
+        ensures symbols { self.new.symbols ≡ Some symbols }
+        ensures config { self.new.config ≡ self.old.config }
+        ensures trees { self.new.trees ≡ self.old.trees }
+    {
+        self.symbols = Some(symbols);
     }
 
     /// Puts the status line of a lockfile, unless status lines are left out.
@@ -108,6 +116,30 @@ impl Presenter {
         ensures same { self.new ≡ self.old }
     {
         let line = scanning_line_in(alloc, &self.config, path, lockfile.packages().len())?;
+        put_text(err, line.as_bytes())
+    }
+
+    /// Puts the status line of a binary, by what it tells of its packages, unless status lines are
+    /// left out.
+    pub fn binary_scan_report<E: Sink>(
+        &mut self,
+        alloc: Global,
+        err: &mut E,
+        found: Found,
+        dependencies: usize,
+        path: &str,
+    ) -> Result<(), PrintError>
+        ensures err { E.tells → IsPut (E.holds err.old)
+            (binary_line_in self.old.config found dependencies path.now)
+            (E.holds err.new) result }
+        ensures later { E.faults err.old ≤ E.faults err.new }
+        ensures failed { IsErrOf result PrintError.Io
+            → Rose (E.faults err.old) (E.faults err.new) }
+        ensures placed { IfErr result (λ e. e ≢ PrintError.Tree) }
+        ensures unput { IsErrOf result PrintError.NoMemory → err.new ≡ err.old }
+        ensures same { self.new ≡ self.old }
+    {
+        let line = binary_line_in(alloc, &self.config, found, dependencies, path)?;
         put_text(err, line.as_bytes())
     }
 
@@ -135,6 +167,7 @@ impl Presenter {
             advisories: database.advisories(),
             lockfile,
             tree: &tree,
+            symbols: &self.symbols,
             wanted: self.config.show_tree,
             known: self.trees.as_slice(),
         };
@@ -201,6 +234,7 @@ impl Presenter {
         ensures unput { IfErr result (λ e. e ≢ PrintError.Io
             → (out.new ≡ out.old) × (err.new ≡ err.old)) }
         ensures config { self.new.config ≡ self.old.config }
+        ensures symbols { self.new.symbols ≡ self.old.symbols }
         ensures trees { OnOk result (self.new.trees ≡ self.old.trees ++ made.old.added) }
         ensures same { OnErr result (self.new ≡ self.old) }
     {
@@ -250,6 +284,7 @@ impl Presenter {
         ensures unput { IfErr result (λ e. e ≢ PrintError.Io
             → (out.new ≡ out.old) × (err.new ≡ err.old)) }
         ensures config { self.new.config ≡ self.old.config }
+        ensures symbols { self.new.symbols ≡ self.old.symbols }
         ensures trees { OnOk result (self.new.trees
             ≡ (printed self.old (option_map (λ p. p.now) path.entry)
             database.now lockfile.now report.now).trees) }

@@ -1,8 +1,9 @@
 //! Status lines.
 ghost use Rattle.std.specs.Prelude.{◌≡◌, ◌++◌, decimal, IfOk, OnOk, string_bytes};
 ghost use Rattle.json.specs.Print.{quoted};
-ghost use Rattle.audit_report.specs.StatusLines.{loaded_line, scanning_line, scanning_line_in, unchecked_line, unchecked_title, updating_line};
+ghost use Rattle.audit_report.specs.StatusLines.{binary_line, binary_line_in, complete_line, incomplete_line, loaded_line, nothing_line, scanning_line, scanning_line_in, unchecked_line, unchecked_title, updating_line};
 
+use crate::binaries::Found;
 use audit_advisory::OutputConfig;
 use serde_json::Value;
 use std::alloc::{AllocError, Global};
@@ -75,6 +76,69 @@ pub fn scanning_line_in(
     } else {
         scanning_line(alloc, path, count)
     }
+}
+
+#[tactic(auto, unfolding(crate::specs::StatusLines::complete_line))]
+fn complete_line(alloc: Global, count: usize, path: &str) -> Result<String, AllocError>
+    ensures { IfOk result (λ text. string_bytes text ≡ complete_line count path.now) }
+{
+    let mut out = String::from_str(alloc, "Found 'cargo auditable' data in ")?;
+    out.push_str(path)?;
+    out.push_str(" (")?;
+    push_number(alloc, &mut out, count)?;
+    out.push_str(" dependencies)\n")?;
+    Ok(out)
+}
+
+#[tactic(auto, unfolding(crate::specs::StatusLines::incomplete_line))]
+fn incomplete_line(alloc: Global, count: usize, path: &str) -> Result<String, AllocError>
+    ensures { IfOk result (λ text. string_bytes text ≡ incomplete_line count path.now) }
+{
+    let mut out = String::from_str(alloc, "warning: ")?;
+    out.push_str(path)?;
+    out.push_str(" was not built with 'cargo auditable', the report will be incomplete (")?;
+    push_number(alloc, &mut out, count)?;
+    out.push_str(" dependencies recovered)\n")?;
+    Ok(out)
+}
+
+#[tactic(auto, unfolding(crate::specs::StatusLines::nothing_line))]
+fn nothing_line(alloc: Global, path: &str) -> Result<String, AllocError>
+    ensures { IfOk result (λ text. string_bytes text ≡ nothing_line path.now) }
+{
+    let mut out = String::from_str(alloc, "error: No dependency information found in ")?;
+    out.push_str(path)?;
+    out.push_str("! Is it a Rust program built with cargo?\n")?;
+    Ok(out)
+}
+
+/// The line that tells what the binary at a path tells of its packages, and how many of them it
+/// names.
+fn binary_line(alloc: Global, found: Found, count: usize, path: &str) -> Result<String, AllocError>
+    ensures { IfOk result (λ text. string_bytes text ≡ binary_line found count path.now) }
+{
+    match found {
+        Found::Complete => complete_line(alloc, count, path),
+        Found::Incomplete => incomplete_line(alloc, count, path),
+        Found::Nothing => nothing_line(alloc, path),
+    }
+}
+
+/// That line, unless status lines are left out.
+pub fn binary_line_in(
+    alloc: Global,
+    config: &OutputConfig,
+    found: Found,
+    count: usize,
+    path: &str,
+) -> Result<String, AllocError>
+    ensures { IfOk result (λ text. string_bytes text
+        ≡ binary_line_in config.now found count path.now) }
+{
+    if !config.is_quiet() {
+        return binary_line(alloc, found, count, path);
+    }
+    Ok(String::new(alloc))
 }
 
 #[tactic(auto, unfolding(crate::specs::StatusLines::unchecked_title))]

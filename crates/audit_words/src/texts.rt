@@ -65,8 +65,8 @@ Exit status:
   0   nothing was found that makes the audit fail
   1   a vulnerability, or a warning that is denied
   2   a fault: a bad word, bad settings, a file that can't be read or is refused;
-      under bin also, where nothing is vulnerable, denied warnings and an advisory on
-      cargo-audit itself
+      under bin, where nothing makes an audit fail, also an advisory on cargo-audit
+      itself with -D warnings
   3   out of memory
   Under fix: 2 also where cargo couldn't be started, 1 in a dry run where something has
   no patched version, and otherwise 0. This program starts no cargo, so fix ends with 2

@@ -5,6 +5,7 @@ mod starting;
 
 use crate::starting::{StartFault, folder, words};
 use audit_asked::NoRunner;
+use audit_binaries::PlainDecoder;
 use audit_edges::{FileCacheDisk, MirrorWire, StdFiles, StdSink};
 use audit_program::run;
 use std::io;
@@ -23,6 +24,7 @@ fn audit(rt: &HostRuntime) -> Result<u8, StartFault> {
     let cache = folder(rt, "CARGO_AUDIT_INDEX", DEFAULT_CACHE)?;
     let lock = FileLock::unlocked();
     let mut files = StdFiles::new(rt);
+    let mut decoder = PlainDecoder;
     let mut runner = NoRunner::new();
     let mut wire = MirrorWire::new(rt, mirror.as_str());
     let mut disk = FileCacheDisk::new(rt, cache.as_str());
@@ -32,6 +34,7 @@ fn audit(rt: &HostRuntime) -> Result<u8, StartFault> {
         rt.alloc(),
         words.as_slice(),
         &mut files,
+        &mut decoder,
         &mut runner,
         &lock,
         &mut wire,

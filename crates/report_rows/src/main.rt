@@ -13,10 +13,16 @@
 //! - `log PATH OUT`: makes the SARIF log of the report at a path and writes it;
 //! - `self PLACES OUT ERR`: prints the advisories at these places as those on the auditor itself;
 //! - `scanning PATH ERR`: the status line of the lockfile;
+//! - `binary FOUND N PATH ERR`: the status line of a binary that tells of N packages; FOUND is
+//!   `complete`, `incomplete` or `nothing`;
+//! - `symbols SYMBOLS`: sets these symbols, each with `::` between its segments;
+//! - `filter SYMBOLS PATH..`: which of the paths these symbols keep; `.` is the path without
+//!   segments;
 //! - `exits PLACES`: whether the report and the advisories at these places make an audit fail;
 //! - `loaded N PATH`, `updating`, `unchecked NAME VERSION CAUSE`: these status lines.
 #![tactic(auto)]
 
+mod filtering;
 mod printing;
 mod stage;
 mod words;
@@ -44,6 +50,9 @@ fn answer(alloc: Global, stage: &mut Stage, row: Row<'_>) -> Result<String, RowF
         "log" => printing::log(alloc, stage, words),
         "self" => printing::print_self(alloc, stage, words),
         "scanning" => printing::scanning(alloc, stage, words),
+        "binary" => printing::binary(alloc, stage, words),
+        "symbols" => stage.set_symbols(alloc, words),
+        "filter" => filtering::filter(alloc, words),
         "exits" => printing::exits(alloc, stage, words),
         "loaded" => printing::loaded(alloc, words),
         "updating" => printing::updating(alloc),

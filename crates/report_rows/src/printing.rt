@@ -1,6 +1,6 @@
 //! What is printed.
 use crate::stage::{Laid, Stage};
-use crate::words::{place, places};
+use crate::words::{found, place, places};
 use audit_report::{PrintError, SarifLog, push_loaded, push_unchecked, push_updating};
 use row_fixtures::{Row, RowFault};
 use std::alloc::{AllocError, Global};
@@ -88,6 +88,21 @@ pub fn scanning(alloc: Global, stage: &mut Stage, mut row: Row<'_>) -> Result<St
         return Err(RowFault::Unread);
     };
     let answer = presenter.before_report(alloc, &mut err, path.as_str(), &laid.lockfile);
+    let mut text = format!(in alloc; "{answer:?}")?;
+    push_gained(&mut text, "err", &err)?;
+    Ok(text)
+}
+
+/// `binary FOUND N PATH ERR`
+pub fn binary(alloc: Global, stage: &mut Stage, mut row: Row<'_>) -> Result<String, RowFault> {
+    let found = found(&mut row)?;
+    let count = place(&mut row)?;
+    let path = row.text(alloc)?;
+    let mut err = sink_of(alloc, &mut row)?;
+    let Some(presenter) = &mut stage.presenter else {
+        return Err(RowFault::Unread);
+    };
+    let answer = presenter.binary_scan_report(alloc, &mut err, found, count, path.as_str());
     let mut text = format!(in alloc; "{answer:?}")?;
     push_gained(&mut text, "err", &err)?;
     Ok(text)

@@ -1,4 +1,5 @@
 //! What the rows work on.
+use crate::filtering::symbols;
 use crate::words::{denied, format, informational, kind, listed, place, place_or_none, severity};
 use audit_advisory::{
     Advisory, AdvisoryFault, Comparisons, Database, OutputConfig, Report, Settings, Vulnerability,
@@ -211,6 +212,16 @@ impl Stage {
             deny: denied(alloc, &mut row)?,
         };
         self.presenter = Some(Presenter::new(alloc, &config)?);
+        Ok(String::new(alloc))
+    }
+
+    /// `symbols SYMBOLS`
+    pub fn set_symbols(&mut self, alloc: Global, mut row: Row<'_>) -> Result<String, RowFault> {
+        let symbols = symbols(alloc, &mut row)?;
+        match &mut self.presenter {
+            Some(presenter) => presenter.set_symbols(symbols),
+            None => return Err(RowFault::Unread),
+        }
         Ok(String::new(alloc))
     }
 }

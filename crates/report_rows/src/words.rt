@@ -1,5 +1,6 @@
 //! What the words of a row stand for.
 use audit_advisory::{DenyOption, Informational, OutputFormat, Severity, WarningKind};
+use audit_report::Found;
 use row_fixtures::{Row, RowFault};
 use std::alloc::Global;
 use tame_names::{Items, Text};
@@ -89,5 +90,15 @@ pub fn format(row: &mut Row<'_>) -> Result<OutputFormat, RowFault> {
     match OutputFormat::from_str(row.word()) {
         Some(format) => Ok(format),
         None => Err(RowFault::Unread),
+    }
+}
+
+/// What a binary tells of its packages.
+pub fn found(row: &mut Row<'_>) -> Result<Found, RowFault> {
+    match row.word() {
+        "complete" => Ok(Found::Complete),
+        "incomplete" => Ok(Found::Incomplete),
+        "nothing" => Ok(Found::Nothing),
+        _ => Err(RowFault::Unread),
     }
 }

@@ -7,6 +7,7 @@ mod kept_files;
 mod runs;
 mod scripts;
 mod stage;
+mod telling;
 
 use row_fixtures::{Row, RowFault, answered};
 use stage::Stage;
@@ -27,11 +28,13 @@ fn answer(alloc: Global, stage: &mut Stage, row: Row<'_>) -> Result<String, RowF
         "|" => stage.add_line(alloc, words),
         "serve" => stage.serve(alloc, words),
         "also" => stage.lay_more(alloc, words),
+        "binary" => stage.lay_binary(alloc, words),
         "folder" => stage.lay_folder(alloc, words),
         "input" => stage.lay_input(alloc, words),
         "env" => stage.set(alloc, words),
         "statuses" => stage.end_with(alloc, words),
         "calls" => stage.fail_calls(alloc, words),
+        "decodes" => stage.fail_decodes(alloc, words),
         "errors" => stage.fail_errors(alloc, words),
         "puts" => stage.fail_puts(alloc, words),
         "run" => runs::run_audit(alloc, stage),

@@ -21,17 +21,29 @@ pub struct Stage {
     pub input: Vec<u8>,
     /// The variables of the environment.
     pub variables: Vec<(String, String)>,
-    /// The statuses of the starts of the next run.
-    pub statuses: Vec<u64>,
+    /// What the starts of the next run end with; nothing where one fails.
+    pub statuses: Items<Option<i32>>,
     /// The server's answers to the next run.
     pub script: Items<Scripted>,
-    /// The calls on the host's files, and the puts on out and on err of the next run that fail,
-    /// counted from 1.
+    /// The calls on the host's files, the decodings, and the puts on out and on err of the next run
+    /// that fail, counted from 1.
     pub calls: Vec<u64>,
+    pub decodes: Vec<u64>,
     pub puts: Vec<u64>,
     pub errors: Vec<u64>,
     /// The disk of the cache.
     pub disk: MemCacheDisk,
+}
+
+/// What a start ends with, as a word; nothing of `-`, where it fails.
+fn end_of(word: &str) -> Result<Option<i32>, RowFault> {
+    match word {
+        "-" => Ok(None),
+        word => match word.parse::<i32>() {
+            Ok(status) => Ok(Some(status)),
+            Err(_) => Err(RowFault::Unread),
+        },
+    }
 }
 
 fn done(alloc: Global) -> Result<String, RowFault> {
@@ -46,9 +58,10 @@ impl Stage {
             laid: Vec::new(alloc),
             input: Vec::new(alloc),
             variables: Vec::new(alloc),
-            statuses: Vec::new(alloc),
+            statuses: Items::new(alloc),
             script: Items::new(alloc),
             calls: Vec::new(alloc),
+            decodes: Vec::new(alloc),
             puts: Vec::new(alloc),
             errors: Vec::new(alloc),
             disk: disk_failing(alloc, Vec::new(alloc)),
@@ -138,6 +151,17 @@ impl Stage {
         done(alloc)
     }
 
+    /// `binary PATH NAME@VERSION ..`: a file that stands too, with a lockfile of packages of
+    /// the default registry between its two lines.
+    pub fn lay_binary(&mut self, alloc: Global, mut words: Row<'_>) -> Result<String, RowFault> {
+        let path = words.text(alloc)?;
+        let lockfile = lockfile_of(alloc, words.rest())?;
+        let text = format!(in alloc; "#cargo-lock begin\n{lockfile}#cargo-lock end\n")?;
+        let node = LaidNode::File(text.into_bytes());
+        self.laid.push(Laid { path, node })?;
+        done(alloc)
+    }
+
     /// `folder PATH NAME ..`: a folder with these entries; a name that ends with `/` is a folder's.
     pub fn lay_folder(&mut self, alloc: Global, mut words: Row<'_>) -> Result<String, RowFault> {
         let path = words.text(alloc)?;
@@ -180,9 +204,14 @@ impl Stage {
         done(alloc)
     }
 
-    /// `statuses NUMBERS`: what the starts of the next run end with.
+    /// `statuses STATUS,..`: what the starts of the next run end with; one of `-` fails, and
+    /// so does each behind the last.
     pub fn end_with(&mut self, alloc: Global, mut words: Row<'_>) -> Result<String, RowFault> {
-        self.statuses = words.numbers(alloc)?;
+        let mut statuses = Items::new(alloc);
+        for word in words.word().split(',') {
+            statuses.add(end_of(word)?)?;
+        }
+        self.statuses = statuses;
         done(alloc)
     }
 
@@ -196,6 +225,12 @@ impl Stage {
     /// `calls NUMBERS`: the calls on the host's files of the next run that fail.
     pub fn fail_calls(&mut self, alloc: Global, mut words: Row<'_>) -> Result<String, RowFault> {
         self.calls = words.numbers(alloc)?;
+        done(alloc)
+    }
+
+    /// `decodes NUMBERS`: the decodings of the next run that fail.
+    pub fn fail_decodes(&mut self, alloc: Global, mut words: Row<'_>) -> Result<String, RowFault> {
+        self.decodes = words.numbers(alloc)?;
         done(alloc)
     }
 

@@ -8,7 +8,7 @@ use Rattle.audit_report.proofs.findings.push_vulnerabilities.Given as goal
 abbrev pub invariant-loop-hit : goal.invariant-loop-hit
 invariant-loop-hit l =
     Shows l.findings.wanted
-    (flat_map (vulnerability_at l.findings.advisories.now l.findings.lockfile.now)
+    (flat_map (vulnerability_at l.findings.symbols.now l.findings.advisories.now l.findings.lockfile.now)
     (take l.hit-index l.found))
     l.initial.sheet.page.bytes.items (l.findings.known.now ++ l.initial.sheet.added)
     l.sheet.page.bytes.items (l.findings.known.now ++ l.sheet.added)

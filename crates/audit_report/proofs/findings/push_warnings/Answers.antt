@@ -7,5 +7,5 @@ loop-warning-init c = shows_none _ _ _
 
 pub loop-warning-preserved : goal.loop-warning-preserved
 loop-warning-preserved c =
-    shows_next (warning_at c.args.findings.now.advisories.now c.args.findings.now.lockfile.now) _ _ _ _
+    shows_next (warning_at c.args.findings.now.symbols.now c.args.findings.now.advisories.now c.args.findings.now.lockfile.now) _ _ _ _
     c.loop-warning-test.true _ _ _ _ _ _ c.loop-warning.invariant c.in_ok-push_warning_at.ensures

@@ -8,7 +8,7 @@ use Rattle.audit_report.proofs.findings.push_warnings.Given as goal
 abbrev pub invariant-loop-warning : goal.invariant-loop-warning
 invariant-loop-warning l =
     Shows l.findings.wanted
-    (flat_map (warning_at l.findings.advisories.now l.findings.lockfile.now)
+    (flat_map (warning_at l.findings.symbols.now l.findings.advisories.now l.findings.lockfile.now)
     (take l.warning-index l.warnings))
     l.initial.sheet.page.bytes.items (l.findings.known.now ++ l.initial.sheet.added)
     l.sheet.page.bytes.items (l.findings.known.now ++ l.sheet.added)

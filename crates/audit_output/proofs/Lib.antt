@@ -1,0 +1,4 @@
+pub mod Each
+pub mod Placing
+pub mod Puts
+pub mod Reaching

@@ -1,0 +1,78 @@
+-- The line that tells why a run ended without its output (this project).
+use Rattle.std.specs.Prelude.{ℕ, codes, decimal, List, ◌++◌, [], Option, Some, None}
+use Rattle.std.specs.Fmt.{signed_decimal}
+use Rattle.audit_asked.specs.declared.faults.RunFault.{RunFault}
+use Rattle.audit_asked.specs.declared.faults.RunFault.TheVariants as fault
+use Rattle.audit_lock.specs.declared.listed.LockRule.{LockRule}
+use Rattle.audit_lock.specs.declared.listed.LockRule.TheVariants as rule
+use Rattle.audit_lock.specs.declared.lockfiles.LockfileFault.{LockfileFault}
+use Rattle.audit_lock.specs.declared.lockfiles.LockfileFault.TheVariants as lockfile_fault
+use Rattle.audit_settings.specs.declared.configs.SettingsFault.{SettingsFault}
+use Rattle.audit_settings.specs.declared.configs.SettingsFault.TheVariants as settings_fault
+
+-- ---- settings
+
+abbrev pub settings_words : SettingsFault → List ℕ
+settings_words settings_fault.Toml = codes "invalid TOML"
+settings_words settings_fault.Float = codes "a float"
+settings_words (settings_fault.Unknown key) = codes "unknown key " ++ key
+settings_words (settings_fault.Missing key) = codes "missing key " ++ key.now
+settings_words (settings_fault.Value key) = codes "wrong value " ++ key.now
+settings_words settings_fault.NoMemory = codes "out of memory"
+
+-- ---- lockfiles
+
+-- a rule by its name, in lower case
+abbrev pub rule_word : LockRule → List ℕ
+rule_word rule.Version = codes "version"
+rule_word rule.Packages = codes "packages"
+rule_word rule.Name = codes "name"
+rule_word rule.PackageVersion = codes "packageversion"
+rule_word rule.Source = codes "source"
+rule_word rule.Checksum = codes "checksum"
+rule_word rule.Dependencies = codes "dependencies"
+rule_word rule.Replace = codes "replace"
+rule_word rule.Root = codes "root"
+rule_word rule.Names = codes "names"
+
+-- the package that breaks a rule, if it is known
+abbrev pub of_package : Option ℕ → List ℕ
+of_package None = []
+of_package (Some n) = codes " of package " ++ decimal n
+
+abbrev pub lockfile_words : LockfileFault → List ℕ
+lockfile_words lockfile_fault.Toml = codes "invalid TOML"
+lockfile_words lockfile_fault.Float = codes "a float"
+lockfile_words (lockfile_fault.Rule package_ r) =
+    codes "rule " ++ rule_word r ++ of_package package_
+lockfile_words lockfile_fault.NoMemory = codes "out of memory"
+
+-- a wrong version is an error of its own kind
+abbrev pub lockfile_kind : LockfileFault → List ℕ
+lockfile_kind (lockfile_fault.Rule package_ rule.Version) = codes "version error"
+lockfile_kind _ = codes "parse error"
+
+-- ---- the line
+
+-- why a run ended; a lockfile's fault is told with the lockfile's path
+abbrev pub fault_words : List ℕ → RunFault → List ℕ
+fault_words place (fault.Usage n) = codes "bad word at place " ++ decimal n
+fault_words place (fault.Settings reason) = codes "config error: " ++ settings_words reason
+fault_words place (fault.Missing path) = path ++ codes " isn't there"
+fault_words place (fault.NotUtf8 path) = path ++ codes " isn't UTF-8"
+fault_words place (fault.TooLarge path len) =
+    path ++ codes " has " ++ decimal len ++ codes " bytes"
+fault_words place (fault.File path) = codes "I/O error: " ++ path
+fault_words place (fault.Lockfile reason) =
+    lockfile_kind reason ++ codes ": couldn't load " ++ place ++ codes ": "
+    ++ lockfile_words reason
+fault_words place (fault.Advisory n reason) = codes "parse error: advisory " ++ decimal n
+fault_words place fault.Print = codes "I/O error: output"
+fault_words place (fault.Generate status) =
+    codes "non-zero exit status running `cargo update --workspace`: " ++ signed_decimal status
+fault_words place (fault.Start failed) =
+    decimal failed ++ codes " programs couldn't be started"
+fault_words place fault.NoMemory = codes "out of memory"
+
+abbrev pub fault_line : List ℕ → RunFault → List ℕ
+fault_line place reason = codes "error: " ++ fault_words place reason ++ codes "\n"

@@ -1,0 +1,4 @@
+pub mod BinaryOutputs
+pub mod FaultLines
+pub mod Outputs
+pub mod Printed

@@ -1,0 +1,216 @@
+//! The line that tells why a run ended without its output.
+ghost use Rattle.std.specs.Prelude.{◌≡◌, ◌++◌, codes, decimal, IfOk, OnOk, string_bytes};
+ghost use Rattle.std.specs.Fmt.{signed_decimal};
+ghost use Rattle.audit_output.specs.FaultLines.{fault_line, fault_words, lockfile_kind, lockfile_words, of_package, rule_word, settings_words};
+
+use audit_asked::RunFault;
+use audit_lock::{LockRule, LockfileFault};
+use audit_settings::SettingsFault;
+use std::alloc::{AllocError, Global};
+
+/// What is told of a lockfile that couldn't be generated, in front of cargo's status.
+const GENERATED: &str = "non-zero exit status running `cargo update --workspace`: ";
+
+/// Appends two texts.
+pub fn push_two(out: &mut String, first: &str, second: &str) -> Result<(), AllocError>
+    ensures { OnOk result (string_bytes out.new
+        ≡ string_bytes out.old ++ (first.now ++ second.now)) }
+{
+    out.push_str(first)?;
+    out.push_str(second)
+}
+
+/// Appends a number.
+pub fn push_number(alloc: Global, out: &mut String, number: u64) -> Result<(), AllocError>
+    ensures { OnOk result (string_bytes out.new ≡ string_bytes out.old ++ decimal number) }
+{
+    let text = format!(in alloc; "{number}")?;
+    out.push_str(text.as_str())
+}
+
+fn push_signed(alloc: Global, out: &mut String, number: &i32) -> Result<(), AllocError>
+    ensures { OnOk result (string_bytes out.new
+        ≡ string_bytes out.old ++ signed_decimal number.now) }
+{
+    let text = format!(in alloc; "{number}")?;
+    out.push_str(text.as_str())
+}
+
+/// A text with a number behind it.
+fn push_numbered(
+    alloc: Global,
+    out: &mut String,
+    text: &str,
+    number: usize,
+) -> Result<(), AllocError>
+    ensures { OnOk result (string_bytes out.new
+        ≡ string_bytes out.old ++ (text.now ++ decimal number)) }
+{
+    out.push_str(text)?;
+    push_number(alloc, out, number as u64)
+}
+
+fn push_settings(out: &mut String, reason: &SettingsFault) -> Result<(), AllocError>
+    ensures { OnOk result (string_bytes out.new
+        ≡ string_bytes out.old ++ settings_words reason.now) }
+{
+    match reason {
+        SettingsFault::Toml => out.push_str("invalid TOML"),
+        SettingsFault::Float => out.push_str("a float"),
+        SettingsFault::Unknown { key } => push_two(out, "unknown key ", key.as_str()),
+        SettingsFault::Missing { key } => push_two(out, "missing key ", key),
+        SettingsFault::Value { key } => push_two(out, "wrong value ", key),
+        SettingsFault::NoMemory => out.push_str("out of memory"),
+    }
+}
+
+fn rule_word(rule: LockRule) -> &'static str
+    ensures { result.now ≡ rule_word rule }
+{
+    match rule {
+        LockRule::Version => "version",
+        LockRule::Packages => "packages",
+        LockRule::Name => "name",
+        LockRule::PackageVersion => "packageversion",
+        LockRule::Source => "source",
+        LockRule::Checksum => "checksum",
+        LockRule::Dependencies => "dependencies",
+        LockRule::Replace => "replace",
+        LockRule::Root => "root",
+        LockRule::Names => "names",
+    }
+}
+
+fn push_package(alloc: Global, out: &mut String, locked: Option<usize>) -> Result<(), AllocError>
+    ensures { OnOk result (string_bytes out.new ≡ string_bytes out.old ++ of_package locked) }
+{
+    match locked {
+        None => Ok(()),
+        Some(n) => push_numbered(alloc, out, " of package ", n),
+    }
+}
+
+fn push_rule(
+    alloc: Global,
+    out: &mut String,
+    locked: Option<usize>,
+    rule: LockRule,
+) -> Result<(), AllocError>
+    ensures { OnOk result (string_bytes out.new
+        ≡ string_bytes out.old ++ (codes "rule " ++ rule_word rule ++ of_package locked)) }
+{
+    push_two(out, "rule ", rule_word(rule))?;
+    push_package(alloc, out, locked)
+}
+
+/// Appends why a text is no lockfile.
+pub fn push_lockfile_words(
+    alloc: Global,
+    out: &mut String,
+    reason: LockfileFault,
+) -> Result<(), AllocError>
+    ensures { OnOk result (string_bytes out.new ≡ string_bytes out.old ++ lockfile_words reason) }
+{
+    match reason {
+        LockfileFault::Toml => out.push_str("invalid TOML"),
+        LockfileFault::Float => out.push_str("a float"),
+        LockfileFault::Rule { package, rule } => push_rule(alloc, out, package, rule),
+        LockfileFault::NoMemory => out.push_str("out of memory"),
+    }
+}
+
+fn lockfile_kind(reason: LockfileFault) -> &'static str
+    ensures { result.now ≡ lockfile_kind reason }
+{
+    match reason {
+        LockfileFault::Rule {
+            rule: LockRule::Version,
+            ..
+        } => "version error",
+        _ => "parse error",
+    }
+}
+
+fn push_lockfile(
+    alloc: Global,
+    out: &mut String,
+    place: &str,
+    reason: LockfileFault,
+) -> Result<(), AllocError>
+    ensures { OnOk result (string_bytes out.new ≡ string_bytes out.old ++ (lockfile_kind reason
+        ++ codes ": couldn't load " ++ place.now ++ codes ": " ++ lockfile_words reason)) }
+{
+    push_two(out, lockfile_kind(reason), ": couldn't load ")?;
+    push_two(out, place, ": ")?;
+    push_lockfile_words(alloc, out, reason)
+}
+
+fn push_too_large(alloc: Global, out: &mut String, path: &str, len: u64) -> Result<(), AllocError>
+    ensures { OnOk result (string_bytes out.new
+        ≡ string_bytes out.old
+        ++ (path.now ++ codes " has " ++ decimal len ++ codes " bytes")) }
+{
+    push_two(out, path, " has ")?;
+    push_number(alloc, out, len)?;
+    out.push_str(" bytes")
+}
+
+fn push_started(alloc: Global, out: &mut String, failed: u64) -> Result<(), AllocError>
+    ensures { OnOk result (string_bytes out.new
+        ≡ string_bytes out.old ++ (decimal failed ++ codes " programs couldn't be started")) }
+{
+    push_number(alloc, out, failed)?;
+    out.push_str(" programs couldn't be started")
+}
+
+/// A text with a status behind it.
+fn push_ended(alloc: Global, out: &mut String, text: &str, status: &i32) -> Result<(), AllocError>
+    ensures { OnOk result (string_bytes out.new
+        ≡ string_bytes out.old ++ (text.now ++ signed_decimal status.now)) }
+{
+    out.push_str(text)?;
+    push_signed(alloc, out, status)
+}
+
+fn push_config(out: &mut String, reason: &SettingsFault) -> Result<(), AllocError>
+    ensures { OnOk result (string_bytes out.new
+        ≡ string_bytes out.old ++ (codes "config error: " ++ settings_words reason.now)) }
+{
+    out.push_str("config error: ")?;
+    push_settings(out, reason)
+}
+
+fn push_fault(
+    alloc: Global,
+    out: &mut String,
+    place: &str,
+    fault: &RunFault,
+) -> Result<(), AllocError>
+    ensures { OnOk result (string_bytes out.new
+        ≡ string_bytes out.old ++ fault_words place.now fault.now) }
+{
+    match fault {
+        RunFault::Usage { place: n } => push_numbered(alloc, out, "bad word at place ", *n),
+        RunFault::Settings(reason) => push_config(out, reason),
+        RunFault::Missing { path } => push_two(out, path.as_str(), " isn't there"),
+        RunFault::NotUtf8 { path } => push_two(out, path.as_str(), " isn't UTF-8"),
+        RunFault::TooLarge { path, len } => push_too_large(alloc, out, path.as_str(), *len),
+        RunFault::File { path } => push_two(out, "I/O error: ", path.as_str()),
+        RunFault::Lockfile(reason) => push_lockfile(alloc, out, place, *reason),
+        RunFault::Advisory { n, .. } => { push_numbered(alloc, out, "parse error: advisory ", *n) }
+        RunFault::Print => out.push_str("I/O error: output"),
+        RunFault::Generate { status } => push_ended(alloc, out, GENERATED, status),
+        RunFault::Start { failed } => push_started(alloc, out, *failed),
+        RunFault::NoMemory => out.push_str("out of memory"),
+    }
+}
+
+/// The line that tells a fault; that of a lockfile names the lockfile's path.
+pub fn fault_line(alloc: Global, place: &str, fault: &RunFault) -> Result<String, AllocError>
+    ensures { IfOk result (λ line. string_bytes line ≡ fault_line place.now fault.now) }
+{
+    let mut out = String::from_str(alloc, "error: ")?;
+    push_fault(alloc, &mut out, place, fault)?;
+    out.push_str("\n")?;
+    Ok(out)
+}

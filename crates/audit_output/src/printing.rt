@@ -1,0 +1,145 @@
+//! The output of the audit of a lockfile.
+ghost use Rattle.std.specs.Prelude.{◌≡◌, ◌≤◌, ◌⊎◌, Err, IfOk, IfErr, string_bytes};
+ghost use Rattle.tame_names.specs.Counts.{Rose};
+ghost use Rattle.audit_report.specs.Outputs.{IsPut};
+ghost use Rattle.audit_output.specs.Outputs.{IsPrintFault, IsReportOf, output_of, report_output, shown_on, status_lines};
+ghost use Rattle.audit_output.specs.Printed.{verdict_lines};
+
+use crate::judged_lines::verdict_lines;
+use crate::outputs::{loaded_lines_in, push_unchecked_lines};
+use crate::presenting::{new_presenter, print_report, print_self};
+use crate::putting::put_text;
+use audit_advisory::OutputConfig;
+use audit_asked::RunFault;
+use audit_core::{Audited, Auditor};
+use audit_report::scanning_line_in;
+use std::alloc::{AllocError, Global};
+use tame_names::Sink;
+
+/// What is printed of the audit of a lockfile, and how.
+#[derive(Clone, Copy)]
+pub struct Sheet<'a> {
+    pub config: &'a OutputConfig,
+    /// The lockfile's path.
+    pub place: &'a str,
+    /// The path of the database.
+    pub database: &'a str,
+    pub auditor: &'a Auditor,
+    pub audited: &'a Audited,
+}
+
+/// The status lines of an audit.
+fn status_lines(alloc: Global, sheet: &Sheet<'_>) -> Result<String, AllocError>
+    ensures { IfOk result (λ lines. string_bytes lines
+        ≡ status_lines (shown_on sheet.now) sheet.now.place.now sheet.now.audited.now) }
+{
+    let audited = sheet.audited;
+    let packages = audited.lockfile.packages();
+    let count = sheet.auditor.database().advisories().len();
+    let checks = sheet.auditor.checks();
+    let mut out = loaded_lines_in(alloc, sheet.config, count, sheet.database, checks)?;
+    let scanning = scanning_line_in(alloc, sheet.config, sheet.place, packages.len())?;
+    out.push_str(scanning.as_str())?;
+    push_unchecked_lines(alloc, &mut out, packages, audited.verdicts.as_slice())?;
+    Ok(out)
+}
+
+/// Puts the status lines.
+fn print_status<E: Sink>(alloc: Global, sheet: &Sheet<'_>, err: &mut E) -> Result<(), RunFault>
+    ensures err { E.tells → IsPut (E.holds err.old)
+        (status_lines (shown_on sheet.now) sheet.now.place.now sheet.now.audited.now)
+        (E.holds err.new) result }
+    ensures later { E.faults err.old ≤ E.faults err.new }
+    ensures failed { result ≡ Err RunFault.Print → Rose (E.faults err.old) (E.faults err.new) }
+    ensures only { IfErr result IsPrintFault }
+{
+    match status_lines(alloc, sheet) {
+        Ok(lines) => put_text(err, lines.as_bytes()),
+        Err(_) => Err(RunFault::NoMemory),
+    }
+}
+
+/// Puts the status lines, the report with what sums it up, and what advisories on the auditor
+/// itself say.
+fn print_all<O: Sink, E: Sink>(
+    alloc: Global,
+    sheet: &Sheet<'_>,
+    out: &mut O,
+    err: &mut E,
+) -> Result<(), RunFault>
+    requires report { IsReportOf sheet.now.auditor.now.database sheet.now.audited.now }
+    ensures out { O.tells → IsPut (O.holds out.old)
+        (report_output (shown_on sheet.now) sheet.now.place.now sheet.now.audited.now).out
+        (O.holds out.new) result }
+    ensures err { E.tells → IsPut (E.holds err.old)
+        (report_output (shown_on sheet.now) sheet.now.place.now sheet.now.audited.now).err
+        (E.holds err.new) result }
+    ensures out_later { O.faults out.old ≤ O.faults out.new }
+    ensures err_later { E.faults err.old ≤ E.faults err.new }
+    ensures failed { result ≡ Err RunFault.Print → Rose (O.faults out.old) (O.faults out.new)
+        ⊎ Rose (E.faults err.old) (E.faults err.new) }
+    ensures only { IfErr result IsPrintFault }
+{
+    print_status(alloc, sheet, err)?;
+    let mut presenter = new_presenter(alloc, sheet.config)?;
+    print_report(
+        alloc,
+        sheet.auditor,
+        sheet.audited,
+        None,
+        &mut presenter,
+        out,
+        err,
+    )?;
+    print_self(alloc, sheet.auditor, &mut presenter, out, err)
+}
+
+/// Puts the lines of the verdicts alone.
+pub fn print_verdicts<O: Sink>(
+    alloc: Global,
+    audited: &Audited,
+    out: &mut O,
+) -> Result<(), RunFault>
+    ensures out { O.tells → IsPut (O.holds out.old)
+        (verdict_lines audited.now.lockfile audited.now.verdicts) (O.holds out.new) result }
+    ensures later { O.faults out.old ≤ O.faults out.new }
+    ensures failed { result ≡ Err RunFault.Print → Rose (O.faults out.old) (O.faults out.new) }
+    ensures only { IfErr result IsPrintFault }
+{
+    match verdict_lines(
+        alloc,
+        audited.lockfile.packages(),
+        audited.verdicts.as_slice(),
+    ) {
+        Ok(lines) => put_text(out, lines.as_bytes()),
+        Err(_) => Err(RunFault::NoMemory),
+    }
+}
+
+/// Puts the output of an audit: the lines of the verdicts alone, or all of a report.
+pub fn print<O: Sink, E: Sink>(
+    alloc: Global,
+    verdicts: bool,
+    sheet: &Sheet<'_>,
+    out: &mut O,
+    err: &mut E,
+) -> Result<(), RunFault>
+    requires report { IsReportOf sheet.now.auditor.now.database sheet.now.audited.now }
+    ensures out { O.tells → IsPut (O.holds out.old)
+        (output_of verdicts (shown_on sheet.now) sheet.now.place.now sheet.now.audited.now).out
+        (O.holds out.new) result }
+    ensures err { E.tells → IsPut (E.holds err.old)
+        (output_of verdicts (shown_on sheet.now) sheet.now.place.now sheet.now.audited.now).err
+        (E.holds err.new) result }
+    ensures out_later { O.faults out.old ≤ O.faults out.new }
+    ensures err_later { E.faults err.old ≤ E.faults err.new }
+    ensures failed { result ≡ Err RunFault.Print → Rose (O.faults out.old) (O.faults out.new)
+        ⊎ Rose (E.faults err.old) (E.faults err.new) }
+    ensures only { IfErr result IsPrintFault }
+{
+    if verdicts {
+        print_verdicts(alloc, sheet.audited, out)
+    } else {
+        print_all(alloc, sheet, out, err)
+    }
+}

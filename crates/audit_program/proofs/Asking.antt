@@ -1,0 +1,63 @@
+-- What was asked, by its parts.
+use Rattle.std.proofs.Common.{◌≡◌, ◌≤◌, ℕ, List, Bool, true, false, Option, Some, None, Result, Ok, Err, refl, arith}
+use Rattle.std.specs.Prelude.{IfSome, pos}
+use Rattle.tame_names.specs.Standing.{Host}
+use Rattle.audit_settings.specs.declared.commands.AuditCommand.{AuditCommand}
+use Rattle.audit_settings.specs.declared.configs.AuditConfig.{AuditConfig}
+use Rattle.audit_asked.specs.Advisories.{advisories_asked}
+use Rattle.audit_asked.specs.Asked.{asked, texts_asked}
+use Rattle.audit_asked.specs.Databases.{database_asked}
+use Rattle.audit_asked.specs.ForBinaries.{asked_for_binaries}
+use Rattle.audit_asked.specs.Places.{place_asked}
+use Rattle.audit_asked.specs.Refusals.{Refused}
+use Rattle.audit_asked.specs.Settings.{settled}
+use Rattle.audit_asked.specs.Starts.{RunStartsWhere}
+use Rattle.audit_asked.specs.Texts.{go_on, input_or_text}
+use Rattle.audit_asked.specs.declared.asking.Asked.{Asked}
+use Rattle.audit_asked.specs.declared.binaries.AskedForBinaries.{AskedForBinaries}
+use Rattle.audit_asked.specs.declared.runners.Started.{Started}
+use Rattle.audit_fix.specs.Steps.{RoseBy}
+
+-- where all is accepted, the first part is, and the rest goes on with it
+part : {A B : Type 0} (p : Result A Refused) (next : A → Result B Refused) (b : B) → go_on p next ≡ Ok b → (a : A) × (p ≡ Ok a) × (next a ≡ Ok b)
+part (Ok a) next b is = (a, refl, is)
+part (Err e) next b is = absurd (cc)
+
+-- the settings are those under the command's options
+texts_config : (host : Host) (config : AuditConfig) (place : List ℕ) (given : Asked) → texts_asked host config place ≡ Ok given → given.config ≡ config
+texts_config host config place given is =
+    let database = part (database_asked config.database.path host) _ given is in
+    let advisories = part (advisories_asked host database.0) _ given database.2 in
+    let text = part (input_or_text host place) _ given advisories.2 in
+    let last = text.2 in
+    cc (last)
+
+pub asked_config : (command : AuditCommand) (host : Host) (given : Asked) (config : AuditConfig) → asked command host (pos 0) ≡ Ok given → settled command host ≡ Ok config → given.config ≡ config
+asked_config command host given config is settles =
+    let first = part (settled command host) _ given is in
+    let place = part (place_asked command.file host (pos 0)) _ given first.2 in
+    let mine = texts_config host first.0 place.0 given place.2 in
+    let other = first.1 in
+    cc (mine, other, settles)
+
+pub binaries_config : (command : AuditCommand) (host : Host) (given : AskedForBinaries) (config : AuditConfig) → asked_for_binaries command host ≡ Ok given → settled command host ≡ Ok config → given.config ≡ config
+binaries_config command host given config is settles =
+    let first = part (settled command host) _ given is in
+    let database = part (database_asked first.0.database.path host) _ given first.2 in
+    let advisories = part (advisories_asked host database.0) _ given database.2 in
+    let last = advisories.2 in
+    let other = first.1 in
+    cc (last, other, settles)
+
+-- a lockfile was generated, whatever was answered then
+pub generated_as : (b : Bool) (given : Asked) (before now : List Started) → RunStartsWhere {T = Asked} b before now (Ok given) → RunStartsWhere {T = Unit {0}} b before now (Ok tt)
+generated_as true given before now h = h
+generated_as false given before now h = h
+
+-- from an earlier moment
+pub rose_from : (failed a b c : ℕ) → a ≤ b → RoseBy failed b c → RoseBy failed a c
+rose_from failed a b c low rose = omega (arith, low, rose)
+
+pub if_some : {T : Type 0} (o : Option T) (P Q : T → Type 0) → ((x : T) → P x → Q x) → IfSome o P → IfSome o Q
+if_some None P Q f h = tt
+if_some (Some x) P Q f h = f x h

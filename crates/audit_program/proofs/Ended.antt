@@ -1,0 +1,56 @@
+-- The line of a fault behind what was put.
+use Rattle.std.proofs.Common.{◌≡◌, ◌⊎◌, ◌≤◌, inl, inr, ℕ, List, ◌++◌, Option, Some, None, Result, Ok, Err, sym, subst, arith}
+use Rattle.std.specs.Prelude.{OnOk, IfErr}
+use Rattle.tame_names.specs.Counts.{IsQuiet, Rose}
+use Rattle.tame_names.specs.Output.{AddsPrefix}
+use Rattle.audit_asked.specs.declared.faults.RunFault.{RunFault}
+use Rattle.audit_asked.specs.declared.faults.RunFault.TheVariants as fault
+use Rattle.audit_output.specs.FaultLines.{fault_line}
+use Rattle.audit_program.specs.Outputs.{IsEnded, IsLinePut, IsPutBy}
+
+pub not_both : (before now : ℕ) → IsQuiet before now → Rose before now → ⊥
+not_both before now quiet rose = let same = quiet.0 in let low = quiet.1 in omega (arith, same, low, rose)
+
+-- a line that was put as an answer tells
+pub line_put : {T E : Type 0} (r : Result T E) (before line now : List ℕ) (faults faults_now : ℕ) → OnOk r (now ≡ before ++ line) → AddsPrefix before line now
+    → IfErr r (λ e. Rose faults faults_now) → IsLinePut before line now faults faults_now
+line_put (Ok x) before line now faults faults_now whole part failed = record { part = part; whole = λ quiet. whole }
+line_put (Err e) before line now faults faults_now whole part failed = record { part = part; whole = λ quiet. absurd (not_both faults faults_now quiet failed) }
+
+pub rose_of : {T E : Type 0} (P : E → Type 0) (r : Result T E) (f g : ℕ) → IfErr r (λ e. P e × Rose f g) → IfErr r (λ e. Rose f g)
+rose_of P (Ok x) f g h = tt
+rose_of P (Err e) f g h = h.1
+
+narrow : (a b c : ℕ) → a ≤ b → b ≤ c → IsQuiet a c → IsQuiet b c
+narrow a b c low high quiet = let same = quiet.0 in let end = quiet.1 in (omega (arith, low, high, same), omega (arith, low, high, same, end))
+
+-- the same from an earlier moment
+pub ended_from : (place before text : List ℕ) (o : Option RunFault) (now : List ℕ) (a b c : ℕ) → a ≤ b → b ≤ c → IsEnded place before text o now b c → IsEnded place before text o now a c
+ended_from place before text None now a b c low high h = h
+ended_from place before text (Some f) now a b c low high h =
+    (h.0, h.1, record { part = h.2.part; whole = λ quiet. h.2.whole (narrow a b c low high quiet) })
+
+-- the line of a fault that doesn't tell the lockfile's place is the same for any place
+pub ended_by : (a b before text now : List ℕ) (f : RunFault) (o : Option RunFault) (m n : ℕ) → fault_line a f ≡ fault_line b f → (o ≡ Some f) ⊎ (o ≡ Some fault.NoMemory)
+    → IsEnded a before text o now m n → IsEnded b before text o now m n
+ended_by a b before text now f o m n line (inl is) h =
+    let P : Option RunFault → Type 0 = λ x. IsEnded a before text x now m n in
+    let Q : Option RunFault → Type 0 = λ x. IsEnded b before text x now m n in
+    let L : List ℕ → Type 0 = λ l. (put : List ℕ) × IsPutBy before text (Some f) put × IsLinePut put l now m n in
+    subst Q (sym is) (subst L line (subst P is h))
+ended_by a b before text now f o m n line (inr is) h =
+    let P : Option RunFault → Type 0 = λ x. IsEnded a before text x now m n in
+    let Q : Option RunFault → Type 0 = λ x. IsEnded b before text x now m n in
+    subst Q (sym is) (subst P is h)
+
+-- a line that was put behind a text
+pub ended_line : (place before text put now : List ℕ) (f : RunFault) (o : Option RunFault) (m n : ℕ) → (o ≡ Some f) ⊎ (o ≡ Some fault.NoMemory)
+    → IsPutBy before text o put → ((e : RunFault) → o ≡ Some e → IsLinePut put (fault_line place e) now m n) → IsEnded place before text o now m n
+ended_line place before text put now f o m n (inl is) h line =
+    let P : Option RunFault → Type 0 = λ x. IsPutBy before text x put in
+    let Q : Option RunFault → Type 0 = λ x. IsEnded place before text x now m n in
+    subst Q (sym is) (put, subst P is h, line f is)
+ended_line place before text put now f o m n (inr is) h line =
+    let P : Option RunFault → Type 0 = λ x. IsPutBy before text x put in
+    let Q : Option RunFault → Type 0 = λ x. IsEnded place before text x now m n in
+    subst Q (sym is) (put, subst P is h, line fault.NoMemory is)

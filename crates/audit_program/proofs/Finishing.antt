@@ -1,0 +1,100 @@
+-- The steps of `fix` by how a run ended.
+use Rattle.std.proofs.Common.{◌≡◌, ◌⊎◌, inl, inr, ℕ, ℤ, zero, suc, Bool, true, false, List, [], ◌∷◌, take, length, Option, Some, None, refl, sym, subst, append-nil, arith}
+use Rattle.std.proofs.Math.Seq.{take-length}
+use Rattle.audit_asked.specs.declared.faults.RunFault.{RunFault}
+use Rattle.audit_asked.specs.declared.faults.RunFault.TheVariants as fault
+use Rattle.audit_asked.specs.declared.runners.Started.{Started}
+use Rattle.audit_fix.specs.Steps.{StartsEach, StartsPart}
+use Rattle.audit_fix.specs.declared.plans.FixStep.{FixStep}
+use Rattle.audit_output.specs.Outputs.{IsPrintFault}
+use Rattle.audit_advisory.specs.declared.advisories.Advisory.{Advisory}
+use Rattle.audit_core.specs.declared.auditing.Audited.{Audited}
+use Rattle.audit_program.specs.Outputs.{IsWhole, remedy_lines_in}
+use Rattle.audit_program.specs.declared.tasks.Remedy.TheVariants.{Report}
+use Rattle.audit_program.specs.Steps.{AreStarted, FailedBy}
+use Rattle.audit_program.proofs.Faults.{print_case}
+
+-- no steps are started
+pub each_none : (before : List Started) → StartsEach [] [] before before
+each_none before = record { one_each = refl; added = sym (append-nil before) }
+
+pub part_nothing : (steps : List FixStep) (before : List Started) → StartsPart steps before before
+part_nothing steps before = (0, [], each_none before)
+
+pub part_all : (steps : List FixStep) (statuses : List (Option ℤ)) (before now : List Started) → StartsEach steps statuses before now → StartsPart steps before now
+part_all steps statuses before now h =
+    let P : List FixStep → Type 0 = λ xs. StartsEach xs statuses before now in
+    (length steps, statuses, subst P (sym (take-length steps)) h)
+
+no_length : {A : Type 0} (xs : List A) → 0 ≡ length xs → xs ≡ []
+no_length [] is = refl
+no_length (x ∷ xs) is = absurd (omega (arith, is))
+
+none_taken : {A : Type 0} (n : ℕ) → take n (let xs : List A = [] in xs) ≡ []
+none_taken zero = refl
+none_taken (suc n) = refl
+
+-- of no steps a part is none
+none_of_none : (before now : List Started) → StartsPart [] before now → StartsEach [] [] before now
+none_of_none before now h =
+    let P : List FixStep → Type 0 = λ xs. StartsEach xs h.1 before now in
+    let all : StartsEach [] h.1 before now = subst P (none_taken h.0) h.2 in
+    let Q : List (Option ℤ) → Type 0 = λ xs. StartsEach [] xs before now in
+    subst Q (no_length h.1 (sym all.one_each)) all
+
+none_each : (told : Type 0) (steps : List FixStep) (before now : List Started) → (told → StartsPart steps before now) → told → 0 ≡ length steps → StartsEach steps [] before now
+none_each told steps before now part here is =
+    let same = no_length steps is in
+    let P : List FixStep → Type 0 = λ xs. StartsEach xs [] before now in
+    let Q : List FixStep → Type 0 = λ xs. StartsPart xs before now in
+    subst P (sym same) (none_of_none before now (subst Q same (part here)))
+
+-- nothing is said of a fault of printing
+unfailed : (statuses : List (Option ℤ)) (f : RunFault) → IsPrintFault f → FailedBy statuses (Some f)
+unfailed statuses f only =
+    let P : RunFault → Type 0 = λ e. FailedBy statuses (Some e) in
+    print_case P f only (record { none = λ is. cc; some = λ failed is. cc }) (record { none = λ is. cc; some = λ failed is. cc })
+
+not_whole : (X : Type 0) (f : RunFault) → IsPrintFault f → IsWhole (Some f) → X
+not_whole X f only w = let P : RunFault → Type 0 = λ e. IsWhole (Some e) → X in print_case P f only (λ no. absurd no) (λ no. absurd no) w
+
+-- a part of the steps, where a put failed or memory ran out
+pub partly_started : (told : Type 0) (steps : List FixStep) (before now : List Started) (f : RunFault) → IsPrintFault f → (told → StartsPart steps before now)
+    → AreStarted told steps before now [] (Some f)
+partly_started told steps before now f only part = record {
+  part = part;
+  each = λ here is. none_each told steps before now part here is;
+  one_each = λ w. not_whole (0 ≡ length steps) f only w;
+  failed = unfailed [] f only;
+}
+
+-- all of them
+pub all_started : (told : Type 0) (steps : List FixStep) (before now : List Started) (statuses : List (Option ℤ)) (reason : Option RunFault)
+    → length statuses ≡ length steps → (told → StartsEach steps statuses before now) → FailedBy statuses reason → AreStarted told steps before now statuses reason
+all_started told steps before now statuses reason is each failed = record {
+  part = λ here. part_all steps statuses before now (each here);
+  each = λ here same. each here;
+  one_each = λ w. is;
+  failed = failed;
+}
+
+pub all_printing : (told : Type 0) (steps : List FixStep) (before now : List Started) (statuses : List (Option ℤ)) (f : RunFault) → IsPrintFault f
+    → length statuses ≡ length steps → (told → StartsEach steps statuses before now) → AreStarted told steps before now statuses (Some f)
+all_printing told steps before now statuses f only is each = all_started told steps before now statuses (Some f) is each (unfailed statuses f only)
+
+-- no step is planned
+pub no_steps : (told : Type 0) (before : List Started) → AreStarted told [] before before [] None
+no_steps told before = all_started told [] before before [] None refl (λ here. each_none before) (record { none = λ is. refl; some = λ failed is. cc })
+
+-- a report alone has no lines of `fix`
+pub report_lines : (verdicts : Bool) (advisories : List Advisory) (audited : Audited) (statuses : List (Option ℤ)) → remedy_lines_in verdicts Report advisories audited statuses ≡ []
+report_lines true advisories audited statuses = refl
+report_lines false advisories audited statuses = refl
+
+-- the same where a run ends with a fault, or for want of memory
+pub started_failed : (told : Type 0) (steps : List FixStep) (before now : List Started) (statuses : List (Option ℤ)) (f : RunFault) (o : Option RunFault) → (o ≡ Some f) ⊎ (o ≡ Some fault.NoMemory)
+    → AreStarted told steps before now statuses (Some f) → AreStarted told steps before now statuses o
+started_failed told steps before now statuses f o (inl is) h = let P : Option RunFault → Type 0 = λ x. AreStarted told steps before now statuses x in subst P (sym is) h
+started_failed told steps before now statuses f o (inr is) h =
+    let P : Option RunFault → Type 0 = λ x. AreStarted told steps before now statuses x in
+    subst P (sym is) (record { part = h.part; each = h.each; one_each = λ no. absurd no; failed = record { none = λ is. cc; some = λ failed is. cc } })

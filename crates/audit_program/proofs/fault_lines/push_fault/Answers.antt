@@ -1,7 +1,0 @@
-use Rattle.audit_program.proofs.fault_lines.push_fault.Goals as goal
-
-pub returns-in-Generate : goal.returns-in-Generate
-returns-in-Generate c = rw c.in-Generate.is c.push_ended.ensures
-
-pub returns-in-Later : goal.returns-in-Later
-returns-in-Later c = rw c.in-Later.is c.push_two-in-Later.ensures

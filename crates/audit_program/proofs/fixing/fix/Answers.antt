@@ -1,0 +1,25 @@
+use Rattle.std.proofs.Common.{◌≡◌, [], Err, rules, arith}
+use Rattle.std.proofs.lemmas.Grind.{common_steps}
+use Rattle.audit_asked.specs.declared.faults.RunFault.TheVariants as fault
+use Rattle.audit_output.proofs.Puts.{part_none}
+use Rattle.audit_program.proofs.Finishing.{part_nothing, partly_started}
+use Rattle.audit_program.proofs.Putting.{put_memory}
+use Rattle.audit_program.proofs.fixing.fix.Goals as goal
+
+pub returns-in_err-plan-clause-fixed : goal.returns-in_err-plan-clause-fixed
+returns-in_err-plan-clause-fixed g c =
+    let is : c.from_residual.result ≡ Err fault.NoMemory = first_of (search rules, grind (arith, common_steps)) in
+    rw is record {
+      statuses = [];
+      started = partly_started _ _ _ _ fault.NoMemory tt (λ told. part_nothing _ _);
+      put = λ told. put_memory _ _ _ (part_none _ _);
+    }
+
+pub returns-in_err-statuses-clause-fixed : goal.returns-in_err-statuses-clause-fixed
+returns-in_err-statuses-clause-fixed g c =
+    let is : c.from_residual-in_err-statuses.result ≡ Err fault.NoMemory = first_of (search rules, grind (arith, common_steps)) in
+    rw is record {
+      statuses = [];
+      started = partly_started _ _ _ _ fault.NoMemory tt (λ told. rw (c.in_ok-plan.ensures.plan, c.database.ensures) at (c.in_err-statuses.ensures.part told));
+      put = λ told. put_memory _ _ _ (part_none _ _);
+    }

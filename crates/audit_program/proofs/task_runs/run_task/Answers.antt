@@ -1,0 +1,62 @@
+use Rattle.std.proofs.Common.{◌≡◌, Ok, refl, sym, subst, ap, ◌∙◌}
+use Rattle.audit_lock.specs.Locked.{locked}
+use Rattle.audit_asked.specs.Asked.{generates}
+use Rattle.audit_asked.specs.Settings.{settled}
+use Rattle.audit_asked.specs.declared.asking.Asked.{Asked}
+use Rattle.audit_settings.specs.declared.configs.AuditConfig.{AuditConfig}
+use Rattle.audit_core.specs.Audits.{KeepsOthers}
+use Rattle.audit_core.specs.Checks.{asked_of, checks_of}
+use Rattle.audit_core.proofs.Exchanged.{keeps_nothing, part_none}
+use Rattle.audit_program.proofs.Asking.{asked_config, generated_as, if_some, rose_from}
+use Rattle.audit_program.proofs.Commands.{if_none}
+use Rattle.audit_program.proofs.Starting.{failed_starts}
+use Rattle.audit_program.proofs.task_runs.run_task.Goals as goal
+
+pub returns-in-Ok-clause-audited : goal.returns-in-Ok-clause-audited
+returns-in-Ok-clause-audited g c =
+    if_some c.run_given.result.audited _ _ (λ audited h. record {
+      given = c.in-Ok.given;
+      gives = λ told. (c.in-Ok.ensures.gives told).ok;
+      generated = g.R.Runner.starts c.ask.new.runner;
+      at_most = c.in-Ok.ensures.at_most;
+      is_generated = λ told_files told. generated_as _ c.in-Ok.given _ _ (c.in-Ok.ensures.started told_files told);
+      run = h;
+    }) c.run_given.ensures.audited
+
+pub returns-in-Ok-clause-start_rose : goal.returns-in-Ok-clause-start_rose
+returns-in-Ok-clause-start_rose g c failed is =
+    rose_from failed _ _ _ c.in-Ok.ensures.start_cause.later (c.run_given.ensures.start_rose failed is)
+
+pub returns-in-Ok-clause-others : goal.returns-in-Ok-clause-others
+returns-in-Ok-clause-others g c told_files told given packages is lock q other =
+    let mine = (c.in-Ok.ensures.gives told_files).ok in
+    let same : given ≡ c.in-Ok.given = cc (is, mine) in
+    let P : Asked → Type 0 = λ x. locked x.text ≡ Ok packages → KeepsOthers (asked_of (checks_of x.config) packages) (g.D.CacheDisk.past c.args.disk.now) (g.D.CacheDisk.past c.run_given.new.disk) in
+    (subst P (sym same) (c.run_given.ensures.others told packages)) lock q other
+
+pub returns-in-Ok-clause-unasked : goal.returns-in-Ok-clause-unasked
+returns-in-Ok-clause-unasked g c told config settles off =
+    let same : c.in-Ok.given.config ≡ config = asked_config c.args.task.now.command (g.F.Files.host c.args.files.now) c.in-Ok.given config (c.in-Ok.ensures.gives told).ok settles in
+    c.run_given.ensures.unasked (λ on. off (ap (λ (x : AuditConfig). checks_of x) (sym same) ∙ on))
+
+pub returns-in-Ok-clause-unchanged : goal.returns-in-Ok-clause-unchanged
+returns-in-Ok-clause-unchanged g c told_files told config settles off q =
+    let same : c.in-Ok.given.config ≡ config = asked_config c.args.task.now.command (g.F.Files.host c.args.files.now) c.in-Ok.given config (c.in-Ok.ensures.gives told_files).ok settles in
+    c.run_given.ensures.unchanged (λ on. off (ap (λ (x : AuditConfig). checks_of x) (sym same) ∙ on)) told q
+
+pub returns-in-Ok-clause-off : goal.returns-in-Ok-clause-off
+returns-in-Ok-clause-off g c told config settles off =
+    let same : c.in-Ok.given.config ≡ config = asked_config c.args.task.now.command (g.F.Files.host c.args.files.now) c.in-Ok.given config (c.in-Ok.ensures.gives told).ok settles in
+    c.run_given.ensures.off (ap (λ (x : AuditConfig). checks_of x) same ∙ off)
+
+pub returns-in-Err-clause-started : goal.returns-in-Err-clause-started
+returns-in-Err-clause-started g c told_files told =
+    if_none c.failed.result.audited _
+    (failed_starts (generates c.args.task.now.command (g.F.Files.host c.args.files.now) (settled c.args.task.now.command (g.F.Files.host c.args.files.now))) _ _ c.in-Err.fault c.failed.result.fault c.failed.ensures.fault
+    (c.in-Err.ensures.at_most told) (c.in-Err.ensures.started told_files told))
+
+pub returns-in-Err-clause-kept : goal.returns-in-Err-clause-kept
+returns-in-Err-clause-kept g c told_wire told = keeps_nothing (g.W.Wire.exchanges c.args.wire.now) (g.W.Wire.exchanges c.args.wire.now) (g.D.CacheDisk.past c.args.disk.now)
+
+pub returns-in-Err-clause-part : goal.returns-in-Err-clause-part
+returns-in-Err-clause-part g c told_files told given packages is lock = part_none _ _ _ refl

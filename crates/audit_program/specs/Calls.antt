@@ -1,0 +1,92 @@
+-- Which calls on the host failed in a run, and what was started (this project).
+use Rattle.std.specs.Prelude.{◌≡◌, ◌⊎◌, ◌++◌, ◌∷◌, [], ℕ, pos, List, Bool, true, false, Option, Some, None, Result, Ok}
+use Rattle.tame_names.specs.Standing.{Host}
+use Rattle.tame_names.specs.declared.host.FailedCall.{FailedCall}
+use Rattle.tame_names.specs.declared.host.FileCall.TheVariants as file_call
+use Rattle.audit_settings.specs.declared.commands.AuditCommand.{AuditCommand}
+use Rattle.audit_words.specs.declared.commands.Command.{Command}
+use Rattle.audit_words.specs.declared.commands.Command.TheVariants.{Audit, Bin, Fix}
+use Rattle.audit_words.specs.declared.commands.WordsFault.{WordsFault}
+use Rattle.audit_asked.specs.Asked.{IsAskedCall, generates}
+use Rattle.audit_asked.specs.ForBinaries.{IsForBinariesCall}
+use Rattle.audit_asked.specs.Settings.{settled}
+use Rattle.audit_asked.specs.Starts.{AddsStart, StartsAtMost}
+use Rattle.audit_asked.specs.declared.faults.RunFault.{RunFault}
+use Rattle.audit_asked.specs.declared.faults.RunFault.TheVariants as fault
+use Rattle.audit_asked.specs.declared.runners.Started.{Started}
+use Rattle.audit_program.specs.Tasks.{fix_command}
+
+-- ---- failed calls in asking
+
+-- a call that may fail was added
+abbrev pub AddsOne : (List ℕ → FailedCall → Type 0) → List FailedCall → List FailedCall → Type 0
+AddsOne may before now =
+    (path : List ℕ) × (call : FailedCall) × (now ≡ before ++ call ∷ []) × may path call
+
+-- a fault of the files added one call to the failed ones, which may end a run with its path; where
+-- memory ran out one may have been added; any other answer added none
+abbrev pub AddsRunCall : (List ℕ → FailedCall → Type 0) → List FailedCall → List FailedCall
+    → Option RunFault → Type 0
+AddsRunCall may before now (Some (fault.File path)) =
+    (call : FailedCall) × (now ≡ before ++ call ∷ []) × may path call
+AddsRunCall may before now (Some fault.NoMemory) = (now ≡ before) ⊎ AddsOne may before now
+AddsRunCall may before now _ = now ≡ before
+
+-- ---- failed readings of binaries
+
+abbrev pub reading_of : List ℕ → FailedCall
+reading_of path = record { call = file_call.Read; path = Some path }
+
+-- a failed reading was added for some of these paths, in their order, once each
+abbrev pub AddsReadings : List (List ℕ) → List FailedCall → List FailedCall → Type 0
+AddsReadings [] before now = now ≡ before
+AddsReadings (path ∷ paths) before now =
+    AddsReadings paths before now ⊎ AddsReadings paths (before ++ reading_of path ∷ []) now
+
+-- a fault of the files comes in asking; where memory ran out, a call may have failed in asking, or
+-- readings of binaries; and readings where the run ended with its output, or with a part of it
+abbrev pub AddsBinCalls : AuditCommand → List (List ℕ) → Host → List FailedCall
+    → List FailedCall → Option RunFault → Type 0
+AddsBinCalls command paths host before now (Some (fault.File path)) =
+    AddsRunCall (IsForBinariesCall command host) before now (Some (fault.File path))
+AddsBinCalls command paths host before now (Some fault.NoMemory) =
+    AddsOne (IsForBinariesCall command host) before now ⊎ AddsReadings paths before now
+AddsBinCalls command paths host before now (Some fault.Print) = AddsReadings paths before now
+AddsBinCalls command paths host before now None = AddsReadings paths before now
+AddsBinCalls command paths host before now (Some _) = now ≡ before
+
+-- ---- by the words
+
+abbrev pub AddsCalls : Result Command WordsFault → Host → List FailedCall → List FailedCall
+    → Option RunFault → Type 0
+AddsCalls (Ok (Audit command)) host before now reason =
+    AddsRunCall (IsAskedCall command host) before now reason
+AddsCalls (Ok (Fix command more)) host before now reason =
+    AddsRunCall (IsAskedCall (fix_command command more) host) before now reason
+AddsCalls (Ok (Bin command more)) host before now reason =
+    AddsBinCalls command more.binary_paths host before now reason
+AddsCalls _ host before now reason = now ≡ before
+
+-- a lockfile is generated
+abbrev pub words_generate : Result Command WordsFault → Host → Bool
+words_generate (Ok (Audit command)) host = generates command host (settled command host)
+words_generate (Ok (Fix command more)) host =
+    generates (fix_command command more) host (settled (fix_command command more) host)
+words_generate _ host = false
+
+-- ---- starts
+
+-- without an audit, where a lockfile is generated: the start that generates it, as it ended; where
+-- a
+-- call on the files failed it may have been made or not, and where memory ran out it may have ended
+-- in any way
+abbrev pub StartsBy : List Started → List Started → Option RunFault → Type 0
+StartsBy before now (Some (fault.Generate status)) = AddsStart (Some status) before now
+StartsBy before now (Some (fault.Start failed)) = AddsStart None before now
+StartsBy before now (Some (fault.File path)) = (now ≡ before) ⊎ AddsStart (Some (pos 0)) before now
+StartsBy before now (Some fault.NoMemory) = StartsAtMost before now
+StartsBy before now _ = AddsStart (Some (pos 0)) before now
+
+abbrev pub StartsWhere : Bool → List Started → List Started → Option RunFault → Type 0
+StartsWhere true before now reason = StartsBy before now reason
+StartsWhere false before now reason = now ≡ before

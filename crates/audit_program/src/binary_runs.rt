@@ -1,0 +1,317 @@
+//! Runs of audits of binaries: `bin`.
+ghost use Rattle.std.specs.Prelude.{◌≡◌, ◌≢◌, ◌⊎◌, ◌≤◌, [], ℕ, List, Ok, Some, None, IsSome, IfSome, IfNone, IsTrue};
+ghost use Rattle.tame_names.specs.Counts.{Rose};
+ghost use Rattle.audit_settings.specs.declared.configs.AuditConfig.{AuditConfig};
+ghost use Rattle.audit_asked.specs.Settings.{settled};
+ghost use Rattle.audit_core.specs.Auditors.{auditor_of};
+ghost use Rattle.audit_core.specs.Checks.{checks_of};
+ghost use Rattle.audit_core.specs.Turns.{KeepsHonest};
+ghost use Rattle.audit_core.specs.declared.checking.Checks.TheVariants as Checks;
+ghost use Rattle.audit_binaries.specs.Binaries.{ArePartly};
+ghost use Rattle.audit_program.specs.BinaryRuns.{ArePartlyRun, IsBinariesRunOf, IsGivenBinariesRun, scan_of};
+ghost use Rattle.audit_program.specs.Calls.{AddsBinCalls};
+ghost use Rattle.audit_program.specs.Causes.{BinariesCause};
+ghost use Rattle.audit_program.specs.Outputs.{IsEnded, IsPutBy};
+ghost use Rattle.audit_program.specs.Statuses.{fault_status, is_early, summary_status};
+ghost use Rattle.audit_output.specs.Outputs.{IsPrintFault};
+
+use crate::ending::{Outcome, failed};
+use audit_asked::{AskedForBinaries, RunFault, ask_for_binaries};
+use audit_binaries::{BinaryLimits, Decoder, MultiFileReportSummary, audit_binaries};
+use audit_core::Auditor;
+use audit_output::{BinarySheet, print_binaries};
+use audit_settings::AuditCommand;
+use audit_words::BinCommand;
+use std::alloc::Global;
+use tame_cache::CacheDisk;
+use tame_names::{FileLock, Files, Sink};
+use tame_sparse::Wire;
+
+/// The status of audits of binaries: 1 where vulnerabilities were found, else 2 where errors were,
+/// else 0.
+fn summary_status(summary: MultiFileReportSummary) -> u8
+    ensures { result ≡ summary_status summary }
+{
+    if summary.vulnerabilities_found {
+        1
+    } else if summary.errors_encountered {
+        2
+    } else {
+        0
+    }
+}
+
+/// Audits the binaries at the paths of the words, and prints the audits.
+fn run_given<F: Files, P: Decoder, W: Wire, D: CacheDisk, O: Sink, E: Sink>(
+    alloc: Global,
+    command: &AuditCommand,
+    more: &BinCommand,
+    given: AskedForBinaries,
+    files: &mut F,
+    decoder: &mut P,
+    lock: &FileLock,
+    wire: &mut W,
+    disk: &mut D,
+    out: &mut O,
+    err: &mut E,
+) -> Outcome
+    ensures binaries { IfSome result.binaries (IsGivenBinariesRun
+        (record {
+          files = F.tells;
+          decoder = P.tells;
+          wire = W.tells;
+          disk = D.tells;
+          out = O.tells;
+          err = E.tells;
+        })
+        command.now more.now given (F.host files.old) (P.answers decoder.old)
+        (record {
+          moment = record {
+            exchanges = W.exchanges wire.old;
+            files = D.past disk.old;
+            wire_faults = W.faults wire.old;
+            disk_faults = D.faults disk.old;
+          };
+          folders = D.folders disk.old;
+          failed = F.failed files.old;
+          file_faults = F.faults files.old;
+          decode_faults = P.faults decoder.old;
+        })
+        (record {
+          moment = record {
+            exchanges = W.exchanges wire.new;
+            files = D.past disk.new;
+            wire_faults = W.faults wire.new;
+            disk_faults = D.faults disk.new;
+          };
+          folders = D.folders disk.new;
+          failed = F.failed files.new;
+          file_faults = F.faults files.new;
+          decode_faults = P.faults decoder.new;
+        })
+        (record {
+          out_before = O.holds out.old;
+          out_now = O.holds out.new;
+          err_before = E.holds err.old;
+          err_now = E.holds err.new;
+          err_faults = E.faults err.old;
+          err_faults_now = E.faults err.new;
+        })
+        (record { fault = result.fault; status = result.status })) }
+    ensures audited { result.audited ≡ None }
+    ensures fault { IfSome result.fault IsPrintFault }
+    ensures status { (f : RunFault) → result.fault ≡ Some f → result.status ≡ fault_status f }
+    ensures has_binaries { (result.fault ≡ None) ⊎ (result.fault ≡ Some RunFault.Print)
+        → IsSome result.binaries }
+    ensures unmade_out { IfNone result.binaries (out.new ≡ out.old) }
+    ensures unmade_err { E.tells → IfNone result.binaries (IsEnded [] (E.holds err.old) []
+        result.fault (E.holds err.new) (E.faults err.old) (E.faults err.new)) }
+    ensures partly { IfNone result.binaries (ArePartly
+        (record { files = F.tells; decoder = P.tells; wire = W.tells; disk = D.tells })
+        (scan_of given more.now (F.host files.old) (P.answers decoder.old))
+        (record {
+          moment = record {
+            exchanges = W.exchanges wire.old;
+            files = D.past disk.old;
+            wire_faults = W.faults wire.old;
+            disk_faults = D.faults disk.old;
+          };
+          folders = D.folders disk.old;
+          failed = F.failed files.old;
+          file_faults = F.faults files.old;
+          decode_faults = P.faults decoder.old;
+        })
+        (record {
+          moment = record {
+            exchanges = W.exchanges wire.new;
+            files = D.past disk.new;
+            wire_faults = W.faults wire.new;
+            disk_faults = D.faults disk.new;
+          };
+          folders = D.folders disk.new;
+          failed = F.failed files.new;
+          file_faults = F.faults files.new;
+          decode_faults = P.faults decoder.new;
+        })
+        more.now.binary_paths) }
+    ensures rose { result.fault ≡ Some RunFault.Print → Rose (O.faults out.old) (O.faults out.new)
+        ⊎ Rose (E.faults err.old) (E.faults err.new) }
+    ensures files_same { F.tells → F.host files.new ≡ F.host files.old }
+    ensures kept { W.tells → D.tells → KeepsHonest (W.exchanges wire.old) (W.exchanges wire.new)
+        (D.past disk.old) (D.past disk.new) }
+    ensures unasked { checks_of given.config ≢ Checks.Online → wire.new ≡ wire.old }
+    ensures unchanged { checks_of given.config ≢ Checks.Online → D.tells
+        → (q : List ℕ) → D.past disk.new q ≡ D.past disk.old q }
+    ensures off { checks_of given.config ≡ Checks.Off → disk.new ≡ disk.old }
+{
+    let AskedForBinaries {
+        config,
+        database,
+        advisories,
+    } = given;
+    let Ok(auditor) = Auditor::of(alloc, &config, advisories) else {
+        return failed(alloc, err, "", RunFault::NoMemory, None, None);
+    };
+    let limits = BinaryLimits::of(more.max_binary_size, more.audit_data_size_limit);
+    let Ok(binaries) = audit_binaries(
+        alloc,
+        &auditor,
+        &limits,
+        config.output.deny.as_slice(),
+        &more.binary_paths,
+        files,
+        decoder,
+        lock,
+        wire,
+        disk,
+    ) else {
+        return failed(alloc, err, "", RunFault::NoMemory, None, None);
+    };
+    let sheet = BinarySheet {
+        config: &config.output,
+        database: database.as_str(),
+        auditor: &auditor,
+        paths: more.binary_paths.as_slice(),
+        answers: binaries.answers.as_slice(),
+    };
+    match print_binaries(alloc, command.verdicts, &sheet, out, err) {
+        Ok(()) => Outcome {
+            status: summary_status(binaries.summary),
+            audited: None,
+            binaries: Some(binaries),
+            fault: None,
+        },
+        Err(fault) => failed(alloc, err, "", fault, None, Some(binaries)),
+    }
+}
+
+/// Asks for what audits of binaries need, audits, and prints.
+pub fn run_binaries<F: Files, P: Decoder, W: Wire, D: CacheDisk, O: Sink, E: Sink>(
+    alloc: Global,
+    command: &AuditCommand,
+    more: &BinCommand,
+    files: &mut F,
+    decoder: &mut P,
+    lock: &FileLock,
+    wire: &mut W,
+    disk: &mut D,
+    out: &mut O,
+    err: &mut E,
+) -> Outcome
+    ensures binaries { IfSome result.binaries (IsBinariesRunOf
+        (record {
+          files = F.tells;
+          decoder = P.tells;
+          wire = W.tells;
+          disk = D.tells;
+          out = O.tells;
+          err = E.tells;
+        })
+        command.now more.now (F.host files.old) (P.answers decoder.old)
+        (record {
+          moment = record {
+            exchanges = W.exchanges wire.old;
+            files = D.past disk.old;
+            wire_faults = W.faults wire.old;
+            disk_faults = D.faults disk.old;
+          };
+          folders = D.folders disk.old;
+          failed = F.failed files.old;
+          file_faults = F.faults files.old;
+          decode_faults = P.faults decoder.old;
+        })
+        (record {
+          moment = record {
+            exchanges = W.exchanges wire.new;
+            files = D.past disk.new;
+            wire_faults = W.faults wire.new;
+            disk_faults = D.faults disk.new;
+          };
+          folders = D.folders disk.new;
+          failed = F.failed files.new;
+          file_faults = F.faults files.new;
+          decode_faults = P.faults decoder.new;
+        })
+        (record {
+          out_before = O.holds out.old;
+          out_now = O.holds out.new;
+          err_before = E.holds err.old;
+          err_now = E.holds err.new;
+          err_faults = E.faults err.old;
+          err_faults_now = E.faults err.new;
+        })
+        (record { fault = result.fault; status = result.status })) }
+    ensures audited { result.audited ≡ None }
+    ensures has_binaries { (result.fault ≡ None) ⊎ (result.fault ≡ Some RunFault.Print)
+        → IsSome result.binaries }
+    ensures no_binaries { IfSome result.fault (λ f. IsTrue (is_early f) → result.binaries ≡ None) }
+    ensures status { (f : RunFault) → result.fault ≡ Some f → result.status ≡ fault_status f }
+    ensures unmade_out { IfNone result.binaries (out.new ≡ out.old) }
+    ensures unmade_err { E.tells → IfNone result.binaries (IsEnded [] (E.holds err.old) []
+        result.fault (E.holds err.new) (E.faults err.old) (E.faults err.new)) }
+    ensures partly { result.fault ≡ Some RunFault.NoMemory
+        → IfNone result.binaries (((wire.new ≡ wire.old) × (disk.new ≡ disk.old)) ⊎ ArePartlyRun
+        (record {
+          files = F.tells;
+          decoder = P.tells;
+          wire = W.tells;
+          disk = D.tells;
+          out = O.tells;
+          err = E.tells;
+        })
+        command.now more.now (F.host files.old) (P.answers decoder.old)
+        (record {
+          moment = record {
+            exchanges = W.exchanges wire.old;
+            files = D.past disk.old;
+            wire_faults = W.faults wire.old;
+            disk_faults = D.faults disk.old;
+          };
+          folders = D.folders disk.old;
+          failed = F.failed files.old;
+          file_faults = F.faults files.old;
+          decode_faults = P.faults decoder.old;
+        })
+        (record {
+          moment = record {
+            exchanges = W.exchanges wire.new;
+            files = D.past disk.new;
+            wire_faults = W.faults wire.new;
+            disk_faults = D.faults disk.new;
+          };
+          folders = D.folders disk.new;
+          failed = F.failed files.new;
+          file_faults = F.faults files.new;
+          decode_faults = P.faults decoder.new;
+        })) }
+    ensures cause { IfSome result.fault (BinariesCause F.tells command.now (F.host files.old)) }
+    ensures rose { result.fault ≡ Some RunFault.Print → Rose (O.faults out.old) (O.faults out.new)
+        ⊎ Rose (E.faults err.old) (E.faults err.new) }
+    ensures file_rose { (path : List ℕ) → result.fault ≡ Some (RunFault.File path)
+        → Rose (F.faults files.old) (F.faults files.new) }
+    ensures unstarted { (failed : ℕ) → result.fault ≢ Some (RunFault.Start failed) }
+    ensures failed { F.tells → AddsBinCalls command.now more.now.binary_paths (F.host files.old)
+        (F.failed files.old) (F.failed files.new) result.fault }
+    ensures files_same { F.tells → F.host files.new ≡ F.host files.old }
+    ensures early { IfNone result.binaries (result.fault ≢ Some RunFault.NoMemory
+        → (wire.new ≡ wire.old) × (disk.new ≡ disk.old)) }
+    ensures kept { W.tells → D.tells → KeepsHonest (W.exchanges wire.old) (W.exchanges wire.new)
+        (D.past disk.old) (D.past disk.new) }
+    ensures unasked { F.tells → (config : AuditConfig)
+        → settled command.now (F.host files.old) ≡ Ok config
+        → checks_of config ≢ Checks.Online → wire.new ≡ wire.old }
+    ensures unchanged { F.tells → D.tells → (config : AuditConfig)
+        → settled command.now (F.host files.old) ≡ Ok config
+        → checks_of config ≢ Checks.Online
+        → (q : List ℕ) → D.past disk.new q ≡ D.past disk.old q }
+    ensures off { F.tells → (config : AuditConfig)
+        → settled command.now (F.host files.old) ≡ Ok config
+        → checks_of config ≡ Checks.Off → disk.new ≡ disk.old }
+{
+    match ask_for_binaries(alloc, command, files) {
+        Ok(given) => run_given(
+            alloc, command, more, given, files, decoder, lock, wire, disk, out, err,
+        ),
+        Err(fault) => failed(alloc, err, "", fault, None, None),
+    }
+}

@@ -1,0 +1,11 @@
+//! What a binary tells of itself.
+
+/// What a binary tells of the packages that it was built from.
+#[derive(Clone, Copy, Debug, PartialEq, Eq)]
+pub enum Found {
+    /// All of them.
+    Complete,
+    /// Some of them.
+    Incomplete,
+    Nothing,
+}

@@ -1,0 +1,159 @@
+//! Runs, each as one line.
+use crate::runs::Ran;
+use audit_asked::Started;
+use audit_binaries::{BinariesAudit, BinaryAnswer, Decoder};
+use audit_core::{Audited, Judged, Turn};
+use row_fixtures::{RowFault, owned_text, shown};
+use std::alloc::{AllocError, Global};
+use tame_cache::{CacheDisk, MemCacheDisk};
+use tame_names::Text;
+use tame_sparse::Exchange;
+
+fn push_exchange(alloc: Global, out: &mut String, exchange: &Exchange) -> Result<(), RowFault> {
+    let named = owned_text(alloc, &exchange.named)?;
+    Ok(write!(out, " ({} {named})", exchange.path)?)
+}
+
+fn push_turn(out: &mut String, turn: &Turn) -> Result<(), AllocError> {
+    let (wire, after) = (turn.wire_before, turn.wire_after);
+    let (before, asked, last) = (turn.disk_before, turn.disk_asked, turn.disk_after);
+    write!(out, " ({wire} {after} {before} {asked} {last})")
+}
+
+fn push_judged(out: &mut String, judged: &Judged) -> Result<(), AllocError> {
+    let (package, verdict) = (judged.package, judged.verdict);
+    write!(out, " ({package} {verdict:?})")
+}
+
+/// Adds what was asked, and what was named.
+fn push_asked(alloc: Global, out: &mut String, ran: &Ran) -> Result<(), RowFault> {
+    out.push_str("; asked")?;
+    for exchange in ran.wire.exchanges() {
+        push_exchange(alloc, out, exchange)?;
+    }
+    Ok(())
+}
+
+/// Adds the audit: its exit, how many vulnerabilities and warnings it has, its verdicts, and its
+/// turns with their counts of faults.
+fn push_audited(out: &mut String, audited: &Audited) -> Result<(), AllocError> {
+    let exit = audited.exit;
+    let (found, warned) = (
+        audited.report.vulnerabilities.as_slice().len(),
+        audited.report.warnings.as_slice().len(),
+    );
+    write!(
+        out,
+        "; audited {exit}, {found} found, {warned} warned of; verdicts"
+    )?;
+    for judged in audited.verdicts.as_slice() {
+        push_judged(out, judged)?;
+    }
+    out.push_str("; turns")?;
+    for turn in audited.turns.as_slice() {
+        push_turn(out, turn)?;
+    }
+    Ok(())
+}
+
+/// Adds the fault, how many calls on the host's files failed, and how many programs were started.
+fn push_fault(out: &mut String, ran: &Ran) -> Result<(), AllocError> {
+    match &ran.outcome.fault {
+        None => out.push_str("; no fault")?,
+        Some(fault) => write!(out, "; {fault:?}")?,
+    }
+    let failed = ran.files.failed().len();
+    let started = ran.runner.starts().len();
+    write!(out, "; {failed} failed calls, {started} starts")
+}
+
+fn push_words(out: &mut String, words: &[Text]) -> Result<(), AllocError> {
+    for word in words {
+        write!(out, "{word} ")?;
+    }
+    Ok(())
+}
+
+/// Adds the words of a start, and the status that it ended with.
+fn push_start(out: &mut String, started: &Started) -> Result<(), AllocError> {
+    out.push_str(" (")?;
+    push_words(out, started.words.as_slice())?;
+    match started.status {
+        Some(status) => write!(out, "ended {status})"),
+        None => out.push_str("failed)"),
+    }
+}
+
+/// Adds the starts, if there are any.
+fn push_starts(out: &mut String, starts: &[Started]) -> Result<(), AllocError> {
+    if starts.is_empty() {
+        return Ok(());
+    }
+    out.push_str("; started")?;
+    for started in starts {
+        push_start(out, started)?;
+    }
+    Ok(())
+}
+
+/// Adds the answer for a binary: why there is no audit, or how many vulnerabilities, warnings and
+/// verdicts it has.
+fn push_answer(out: &mut String, answer: &BinaryAnswer) -> Result<(), AllocError> {
+    match answer {
+        BinaryAnswer::Audited(found, audited) => {
+            let hits = audited.report.vulnerabilities.as_slice().len();
+            let warned = audited.report.warnings.as_slice().len();
+            let judged = audited.verdicts.as_slice().len();
+            write!(
+                out,
+                " ({found:?} {hits} found, {warned} warned of, {judged} verdicts)"
+            )
+        }
+        BinaryAnswer::Refused(fault) => write!(out, " ({fault:?})"),
+    }
+}
+
+/// Adds the answers for binaries and what they come to.
+fn push_binaries(out: &mut String, binaries: &BinariesAudit) -> Result<(), AllocError> {
+    out.push_str("; binaries")?;
+    for answer in binaries.answers.as_slice() {
+        push_answer(out, answer)?;
+    }
+    let summary = &binaries.summary;
+    let (found, errors) = (summary.vulnerabilities_found, summary.errors_encountered);
+    write!(out, ", found {found}, errors {errors}")
+}
+
+/// A run as a line: its status, its output and errors, what was asked and named, the audit, the
+/// fault, how many calls of the disk have failed, and, if there are any, the starts and the answers
+/// for binaries.
+pub fn told(alloc: Global, ran: &Ran, disk: &MemCacheDisk) -> Result<String, RowFault> {
+    let status = ran.outcome.status;
+    let printed = shown(alloc, ran.out.bytes())?;
+    let errors = shown(alloc, ran.err.bytes())?;
+    let mut out = format!(in alloc; "{status} [{printed}] [{errors}]")?;
+    push_asked(alloc, &mut out, ran)?;
+    match &ran.outcome.audited {
+        Some(audited) => push_audited(&mut out, audited)?,
+        None => out.push_str("; no audit")?,
+    }
+    push_fault(&mut out, ran)?;
+    let faults = disk.disk_faults();
+    write!(out, "; {faults} faults of the disk")?;
+    push_starts(&mut out, ran.runner.starts())?;
+    if let Some(binaries) = &ran.outcome.binaries {
+        push_binaries(&mut out, binaries)?;
+        let failed = ran.decoder.decode_faults();
+        write!(out, ", {failed} failed decodes")?;
+    }
+    Ok(out)
+}
+
+/// What a run printed, and how many exchanges there were.
+pub fn told_short(alloc: Global, ran: &Ran) -> Result<String, RowFault> {
+    let printed = shown(alloc, ran.out.bytes())?;
+    let errors = ran.err.bytes().len();
+    let asked = ran.wire.exchanges().len();
+    let status = ran.outcome.status;
+    Ok(format!(in alloc; "{status} [{printed}]; {errors} errors; {asked} asked")?)
+}
