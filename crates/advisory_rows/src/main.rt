@@ -78,7 +78,7 @@ fn print_text(rt: &HostRuntime, line: &str) -> io::Result<()> {
     print_answer(rt, line, text.as_str())
 }
 
-fn print_head(rt: &HostRuntime, line: &str) -> io::Result<()> {
+fn print_version_flag(rt: &HostRuntime, line: &str) -> io::Result<()> {
     let head = unfolded(rt.alloc(), line)?;
     let text = format!(in rt.alloc(); "```toml\n{head}\n```\n# Title\n")?;
     print_answer(rt, line, text.as_str())
@@ -210,7 +210,7 @@ fn print_line(rt: &HostRuntime, kind: &str, line: &str) -> io::Result<()> {
     match kind {
         "requirements" => print_met(rt, line),
         "texts" => print_text(rt, line),
-        "heads" => print_head(rt, line),
+        "heads" => print_version_flag(rt, line),
         "words" => print_word(rt, line),
         _ => Err(bad_input()),
     }

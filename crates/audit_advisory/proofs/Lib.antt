@@ -3,6 +3,7 @@ pub mod Cuts
 pub mod Filtering
 pub mod Forms
 pub mod Halving
+pub mod Joined
 pub mod Ordered
 pub mod Picking
 pub mod Placing

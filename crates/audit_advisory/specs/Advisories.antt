@@ -2,7 +2,7 @@
 use Rattle.std.specs.Prelude.{ℕ, codes, List, [], ◌∷◌, ◌&&◌, ◌==◌, Option, Some, None, option_map, option_and_then, if◌then◌else◌, Result, Ok, Err}
 use Rattle.toml.specs.Data.{Data, Members, no_members, member, as_table, get_member}
 use Rattle.toml.specs.Parse.{parse_document}
-use Rattle.toml_tables.specs.Answers.{and_then, or_fault}
+use Rattle.toml_tables.specs.Results.{and_then, or_fault}
 use Rattle.toml_tables.specs.Floats.{members_have_float}
 use Rattle.toml_tables.specs.Members.{optional, optional_texts, required, texts_of}
 use Rattle.audit_advisory.specs.Fences.{fenced, titled}
@@ -38,7 +38,8 @@ onto_segment b (segment ∷ more) = (b ∷ segment) ∷ more
 abbrev pub segments : List ℕ → List (List ℕ)
 segments [] = [] ∷ []
 segments (a ∷ []) = (a ∷ []) ∷ []
-segments (a ∷ b ∷ bs) = if a == 58 && b == 58 then [] ∷ segments bs else onto_segment a (segments (b ∷ bs))
+segments (a ∷ b ∷ bs) =
+    if a == 58 && b == 58 then [] ∷ segments bs else onto_segment a (segments (b ∷ bs))
 
 -- an array of requirements
 abbrev pub requirements_in : Data → Option (List (List ℕ))
@@ -46,7 +47,10 @@ requirements_in d = option_and_then requirements_of (texts_of d)
 
 -- a path with its requirements
 abbrev pub function_of : List ℕ → Data → Option Function
-function_of path d = option_map (λ rs. record { path = segments path; versions = rs }) (requirements_in d)
+function_of path d = option_map (λ rs. record {
+  path = segments path;
+  versions = rs;
+}) (requirements_in d)
 
 -- each path with its requirements, in the order of the table
 abbrev pub functions_of : Members → Option (List Function)
@@ -83,10 +87,18 @@ affected_or_absent m = option_and_then affected_in (optional as_table m)
 abbrev pub fields_of : Members → List ℕ × List ℕ → Result Advisory AdvisoryFault
 fields_of ms titles =
     and_then (λ metadata. and_then (λ versions. and_then (λ affected.
-    Ok (record { metadata = metadata; versions = versions; arch = affected.arch; os = affected.os; functions = affected.functions }))
+    Ok (record {
+      metadata = metadata;
+      versions = versions;
+      arch = affected.arch;
+      os = affected.os;
+      functions = affected.functions;
+    }))
     (or_rule rule.Affected (affected_or_absent (get_member (codes "affected") ms))))
-    (and_then versions_in (or_rule rule.Versions (required as_table (get_member (codes "versions") ms)))))
-    (and_then (metadata_of titles) (or_rule rule.Advisory (required as_table (get_member (codes "advisory") ms))))
+    (and_then versions_in (or_rule rule.Versions
+    (required as_table (get_member (codes "versions") ms)))))
+    (and_then (metadata_of titles)
+    (or_rule rule.Advisory (required as_table (get_member (codes "advisory") ms))))
 
 -- TOML without floats
 abbrev pub without_floats : Members → Result Members AdvisoryFault
@@ -98,7 +110,8 @@ head_of head = and_then without_floats (or_fault fault.Toml (parse_document head
 -- the head, the title, the fields, in this order; `parted` is the head and what follows it
 abbrev pub advisory_in : List ℕ × List ℕ → Result Advisory AdvisoryFault
 advisory_in parted =
-    and_then (λ ms. and_then (fields_of ms) (or_rule rule.Title (titled parted.1))) (head_of parted.0)
+    and_then (λ ms. and_then (fields_of ms) (or_rule rule.Title (titled parted.1)))
+    (head_of parted.0)
 
 -- the advisory that a text is, or the first rule that it breaks
 abbrev pub advisory_of : List ℕ → Result Advisory AdvisoryFault

@@ -30,7 +30,8 @@ has_denied warnings options = list_any (λ warning. is_denied options warning.ki
 
 -- a report has a vulnerability, or such a warning
 abbrev pub report_fails : Report → List DenyOption → Bool
-report_fails report options = not (length report.vulnerabilities == 0) || has_denied report.warnings options
+report_fails report options =
+    not (length report.vulnerabilities == 0) || has_denied report.warnings options
 
 abbrev pub is_warnings : DenyOption → Bool
 is_warnings deny.Warnings = true
@@ -46,4 +47,5 @@ self_fails options self_advisories = not (length self_advisories == 0) && denies
 
 -- an audit fails by its report, or by the advisories on the auditor itself
 abbrev pub fails : Report → List DenyOption → List ℕ → Bool
-fails report options self_advisories = report_fails report options || self_fails options self_advisories
+fails report options self_advisories =
+    report_fails report options || self_fails options self_advisories

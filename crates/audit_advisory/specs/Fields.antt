@@ -2,7 +2,7 @@
 use Rattle.std.specs.Prelude.{ℕ, codes, List, [], ◌∷◌, length, Bool, true, false, ◌&&◌, ◌==◌, nat_le, bytes_eq, Option, Some, None, option_map, option_and_then, if◌then◌else◌, Result, Ok}
 use Rattle.std.specs.Char.{is_ascii_digit}
 use Rattle.toml.specs.Data.{Data, string, Members, as_str, get_member}
-use Rattle.toml_tables.specs.Answers.{and_then, or_fault}
+use Rattle.toml_tables.specs.Results.{and_then, or_fault}
 use Rattle.toml_tables.specs.Members.{natural, optional, required}
 use Rattle.audit_advisory.specs.declared.faults.AdvisoryRule.{AdvisoryRule}
 use Rattle.audit_advisory.specs.declared.faults.AdvisoryRule.TheVariants as rule
@@ -69,7 +69,8 @@ withdrawn_field ms = or_rule rule.Withdrawn (optional as_date (get_member (codes
 
 abbrev pub informational_field : Members → Result (Option Informational) AdvisoryFault
 informational_field ms =
-    or_rule rule.Informational (option_map (option_map kind_of) (optional as_str (get_member (codes "informational") ms)))
+    or_rule rule.Informational (option_map (option_map kind_of)
+    (optional as_str (get_member (codes "informational") ms)))
 
 abbrev pub score_field : Members → Result (Option ℕ) AdvisoryFault
 score_field ms = or_rule rule.Score (score_or_absent (get_member (codes "score_tenths") ms))
@@ -77,7 +78,8 @@ score_field ms = or_rule rule.Score (score_or_absent (get_member (codes "score_t
 -- id, package, date, withdrawn, url, source, license, cvss, informational and score, in this order
 abbrev pub metadata_of : List ℕ × List ℕ → Members → Result Metadata AdvisoryFault
 metadata_of titles ms =
-    and_then (λ id. and_then (λ «package». and_then (λ date. and_then (λ withdrawn. and_then (λ url. and_then (λ source.
+    and_then (λ id. and_then (λ «package». and_then
+    (λ date. and_then (λ withdrawn. and_then (λ url. and_then (λ source.
     and_then (λ license. and_then (λ cvss. and_then (λ informs. and_then (λ score.
     Ok (record {
       id = id;

@@ -24,18 +24,19 @@ severity_of tenths =
     else if nat_le tenths 89 then severity.High
     else severity.Critical
 
-abbrev pub rank : Severity → ℕ
-rank severity.None = 0
-rank severity.Low = 1
-rank severity.Medium = 2
-rank severity.High = 3
-rank severity.Critical = 4
+abbrev pub severity_level : Severity → ℕ
+severity_level severity.None = 0
+severity_level severity.Low = 1
+severity_level severity.Medium = 2
+severity_level severity.High = 3
+severity_level severity.Critical = 4
 
 -- a score isn't below a threshold, where both are stated
 abbrev pub is_severe : Option ℕ → Option Severity → Bool
 is_severe None threshold = true
 is_severe (Some tenths) None = true
-is_severe (Some tenths) (Some threshold) = nat_le (rank threshold) (rank (severity_of tenths))
+is_severe (Some tenths) (Some threshold) =
+    nat_le (severity_level threshold) (severity_level (severity_of tenths))
 
 -- a package's source is the default registry
 abbrev pub is_from_default : Option (List ℕ) → Bool
@@ -46,10 +47,12 @@ abbrev pub is_from : List ℕ → Option (List ℕ) → Bool
 is_from wanted None = false
 is_from wanted (Some source) = bytes_eq source wanted
 
--- a package comes from the source that an advisory states, the default registry where it states none
+-- a package comes from the source that an advisory states, the default registry where it states
+-- none
 abbrev pub source_fits : Option (List ℕ) → Option (List ℕ) → Bool
 source_fits None source = is_from_default source
-source_fits (Some wanted) source = if is_default_registry wanted then is_from_default source else is_from wanted source
+source_fits (Some wanted) source =
+    if is_default_registry wanted then is_from_default source else is_from wanted source
 
 abbrev pub is_among : List ℕ → List (List ℕ) → Bool
 is_among text texts = list_any (λ t. bytes_eq t text) texts
@@ -59,7 +62,8 @@ have_common some others = list_any (λ text. is_among text others) some
 
 -- a filter and what is affected have a common text, where both are stated
 abbrev pub target_fits : List (List ℕ) → List (List ℕ) → Bool
-target_fits filter affected = length filter == 0 || length affected == 0 || have_common filter affected
+target_fits filter affected =
+    length filter == 0 || length affected == 0 || have_common filter affected
 
 abbrev pub point_of_parts : Parts → Point
 point_of_parts p = record { major = p.0; minor = p.1; patch = p.2; pre = p.3 }
@@ -87,4 +91,5 @@ affects settings advisory p =
 
 -- an advisory hits a package: it is on the package's name, and affects it
 abbrev pub hits : Settings → Advisory → Package → Bool
-hits settings advisory p = bytes_eq advisory.metadata.«package» p.name && affects settings advisory p
+hits settings advisory p =
+    bytes_eq advisory.metadata.«package» p.name && affects settings advisory p

@@ -1,4 +1,5 @@
--- The interval of versions that a comparator stands for, by its operator, its parts and its pre-release.
+-- The interval of versions that a comparator stands for, by its operator, its parts and its
+-- pre-release.
 use Rattle.std.specs.Prelude.{ℕ, ◌+◌, ◌-◌, ◌^◌, nat_lt, codes, List, [], Bool, true, false, ◌&&◌, Option, Some, None, option_map, if◌then◌else◌}
 use Rattle.std.specs.List.{list_all}
 use Rattle.std.specs.Ordering.{is_lt, is_gt, is_le, is_ge}
@@ -43,20 +44,38 @@ abbrev pub next_major : ℕ → Option Release
 next_major major = option_map (λ next. record { major = next; minor = 0; patch = 0 }) (raised major)
 
 abbrev pub next_minor : ℕ → ℕ → Option Release
-next_minor major minor = option_map (λ next. record { major = major; minor = next; patch = 0 }) (raised minor)
+next_minor major minor = option_map (λ next. record {
+  major = major;
+  minor = next;
+  patch = 0;
+}) (raised minor)
 
 abbrev pub next_patch : ℕ → ℕ → ℕ → Option Release
-next_patch major minor patch = option_map (λ next. record { major = major; minor = minor; patch = next }) (raised patch)
+next_patch major minor patch = option_map (λ next. record {
+  major = major;
+  minor = minor;
+  patch = next;
+}) (raised patch)
 
 -- from a release; where there is none, nothing is that high
 abbrev pub from_release : Option Release → Lower
 from_release None = lower.Unreachable
-from_release (Some r) = lower.From (record { major = r.major; minor = r.minor; patch = r.patch; pre = [] })
+from_release (Some r) = lower.From (record {
+  major = r.major;
+  minor = r.minor;
+  patch = r.patch;
+  pre = [];
+})
 
 -- below `M.m.p-0`, the lowest pre-release of a release; where there is none, everything is
 abbrev pub below_release : Option Release → Upper
 below_release None = upper.Free
-below_release (Some r) = upper.Below (record { major = r.major; minor = r.minor; patch = r.patch; pre = codes "0" })
+below_release (Some r) = upper.Below (record {
+  major = r.major;
+  minor = r.minor;
+  patch = r.patch;
+  pre = codes "0";
+})
 
 -- a missing part is 0
 abbrev pub part : Option ℕ → ℕ
@@ -91,7 +110,8 @@ compatible_patch (Some p) major minor = next_patch major minor p
 
 abbrev pub compatible_minor : Option ℕ → Option ℕ → ℕ → Option Release
 compatible_minor None patch major = next_major major
-compatible_minor (Some m) patch major = if nat_lt 0 m then next_minor major m else compatible_patch patch major m
+compatible_minor (Some m) patch major =
+    if nat_lt 0 m then next_minor major m else compatible_patch patch major m
 
 abbrev pub compatible : Held → Option Release
 compatible c = if nat_lt 0 c.1 then next_major c.1 else compatible_minor c.2 c.3 c.1

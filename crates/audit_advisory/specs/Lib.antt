@@ -12,4 +12,5 @@ pub mod Points
 pub mod Queries
 pub mod Reports
 pub mod Requirements
+pub mod Segments
 pub mod Versions

@@ -29,5 +29,6 @@ goes_on past Greater = false
 -- places in the order of their names; those of one name are all of them, in their own order
 pub record IsByName (advisories : List Advisory) (places : List ℕ) : Type 0 where
   pub sorted : IsSortedByKey (name_at advisories) (slice_cmp nat_cmp) places
-  pub same : (q : List ℕ) → filter (has_name advisories q) places ≡ filter (has_name advisories q) (places_from 0 advisories)
+  pub same : (q : List ℕ) → filter (has_name advisories q) places
+      ≡ filter (has_name advisories q) (places_from 0 advisories)
   pub long : length places ≡ length advisories

@@ -7,7 +7,8 @@ use Rattle.audit_advisory.specs.declared.advisories.Advisory.{Advisory}
 
 -- by an advisory that is neither withdrawn nor informational a version is vulnerable
 abbrev pub warns_of : Point → Advisory → Bool
-warns_of v a = is_none a.metadata.withdrawn && is_none a.metadata.informational && is_vulnerable a.versions v
+warns_of v a =
+    is_none a.metadata.withdrawn && is_none a.metadata.informational && is_vulnerable a.versions v
 
 -- it is on this name, too
 abbrev pub concerns : List ℕ → Point → Advisory → Bool

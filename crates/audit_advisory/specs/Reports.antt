@@ -1,4 +1,5 @@
--- The report of an audit: a filter over all pairs of a package and an advisory (this project, after cargo-audit).
+-- The report of an audit: a filter over all pairs of a package and an advisory (this project, after
+-- cargo-audit).
 use Rattle.std.specs.Prelude.{ℕ, ◌<◌, List, ◌++◌, length, map, flat_map, All, IfSome, Bool, true, false, not, ◌&&◌, is_none, Option, Some, None}
 use Rattle.std.specs.List.{filter, list_any}
 use Rattle.audit_lock.specs.declared.resolving.Package.{Package}
@@ -48,7 +49,8 @@ is_told k (Some informational) = tells k informational
 
 -- the settings list this kind
 abbrev pub is_listed : WarningKind → Settings → Bool
-is_listed k settings = list_any (λ informational. tells k informational) settings.informational_warnings
+is_listed k settings =
+    list_any (λ informational. tells k informational) settings.informational_warnings
 
 -- an advisory is informational, of this kind, and the kind is listed
 abbrev pub is_warned_of : WarningKind → Settings → Advisory → Bool
@@ -75,21 +77,24 @@ all_pairs packages advisories = flat_map (λ p. map (pair_of p) advisories) pack
 -- those that pass a test
 abbrev pub pairs_where : (Package → Advisory → Bool) → List Package → List Advisory → List Pair
 pairs_where test packages advisories =
-    filter (λ (pair : Pair). test pair.locked.item pair.advisory.item) (all_pairs (placed packages) (placed advisories))
+    filter (λ (pair : Pair). test pair.locked.item pair.advisory.item)
+    (all_pairs (placed packages) (placed advisories))
 
 abbrev pub vulnerability_at : ℕ → ℕ → Vulnerability
 vulnerability_at i j = record { advisory = j; «package» = i }
 
 abbrev pub vulnerabilities_of : Settings → List Advisory → List Package → List Vulnerability
 vulnerabilities_of settings advisories packages =
-    map (λ (pair : Pair). vulnerability_at pair.locked.place pair.advisory.place) (pairs_where (is_vulnerability settings) packages advisories)
+    map (λ (pair : Pair). vulnerability_at pair.locked.place pair.advisory.place)
+    (pairs_where (is_vulnerability settings) packages advisories)
 
 abbrev pub warning_at : WarningKind → ℕ → ℕ → Warning
 warning_at k i j = record { kind = k; «package» = i; advisory = Some j }
 
 abbrev pub warnings_of : Settings → List Advisory → List Package → WarningKind → List Warning
 warnings_of settings advisories packages k =
-    map (λ (pair : Pair). warning_at k pair.locked.place pair.advisory.place) (pairs_where (is_warning settings k) packages advisories)
+    map (λ (pair : Pair). warning_at k pair.locked.place pair.advisory.place)
+    (pairs_where (is_warning settings k) packages advisories)
 
 -- the vulnerabilities by package, then advisory; the warnings by kind, then package, then advisory
 abbrev pub report_of : Settings → List Advisory → List Package → Report
@@ -105,8 +110,10 @@ report_of settings advisories packages = record {
 
 -- each place is below its count
 pub record IsPlaced (report : Report) : Type 0 where
-  pub vulnerabilities : All (λ v. (v.advisory < report.advisory_count) × (v.«package» < report.dependency_count)) report.vulnerabilities
-  pub warnings : All (λ w. (w.«package» < report.dependency_count) × IfSome w.advisory (λ a. a < report.advisory_count)) report.warnings
+  pub vulnerabilities : All (λ v. (v.advisory < report.advisory_count)
+      × (v.«package» < report.dependency_count)) report.vulnerabilities
+  pub warnings : All (λ w. (w.«package» < report.dependency_count)
+      × IfSome w.advisory (λ a. a < report.advisory_count)) report.warnings
 
 -- ---- yanked packages
 

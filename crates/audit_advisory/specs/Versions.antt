@@ -1,6 +1,6 @@
 -- The versions that an advisory names as safe.
 use Rattle.std.specs.Prelude.{ℕ, List, Bool, not, ◌&&◌, Result, Ok}
-use Rattle.toml_tables.specs.Answers.{and_then, or_fault}
+use Rattle.toml_tables.specs.Results.{and_then, or_fault}
 use Rattle.audit_advisory.specs.Points.{Point}
 use Rattle.audit_advisory.specs.Requirements.{meets_any, requirements_of}
 use Rattle.audit_advisory.specs.declared.versions.Versions.{Versions}
@@ -17,4 +17,5 @@ versions_of patched unaffected =
 
 -- a version is neither patched nor unaffected
 abbrev pub is_vulnerable : Versions → Point → Bool
-is_vulnerable versions v = not (meets_any versions.patched v) && not (meets_any versions.unaffected v)
+is_vulnerable versions v =
+    not (meets_any versions.patched v) && not (meets_any versions.unaffected v)

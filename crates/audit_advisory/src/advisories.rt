@@ -1,7 +1,8 @@
 //! Advisories.
 ghost use Rattle.std.specs.Prelude.{◌≡◌, ◌≢◌, IfOk, IfErr, Ok, Err};
 ghost use Rattle.toml.specs.View.{table_view};
-ghost use Rattle.audit_advisory.specs.Advisories.{advisory_in, advisory_of, fields_of, head_of, version_texts, versions_in};
+ghost use Rattle.audit_advisory.specs.Advisories.{advisory_in, advisory_of, fields_of, head_of, versions_in};
+ghost use Rattle.audit_advisory.specs.Advisories as spec;
 
 use crate::affected::{Function, affected_or_absent};
 use crate::faults::{AdvisoryFault, AdvisoryRule};
@@ -28,7 +29,7 @@ pub struct Advisory {
 }
 
 /// A head, which is TOML without floats.
-fn read_head(alloc: Global, head: &str) -> Result<Table, AdvisoryFault>
+fn read_version_flag(alloc: Global, head: &str) -> Result<Table, AdvisoryFault>
     ensures ok { IfOk result (λ table. head_of head.now ≡ Ok (table_view table)) }
     ensures refused { IfErr result (λ e. e ≢ AdvisoryFault.NoMemory → head_of head.now ≡ Err e) }
 {
@@ -46,9 +47,9 @@ fn read_head(alloc: Global, head: &str) -> Result<Table, AdvisoryFault>
 
 /// The texts at a key of `[versions]`, none where it is absent.
 fn version_texts(alloc: Global, table: &Table, key: &str) -> Result<Items<Text>, AdvisoryFault>
-    ensures ok { IfOk result (λ ts. version_texts key.now (table_view table.now) ≡ Ok ts) }
+    ensures ok { IfOk result (λ ts. spec.version_texts key.now (table_view table.now) ≡ Ok ts) }
     ensures refused { IfErr result (λ e. e ≢ AdvisoryFault.NoMemory
-        → version_texts key.now (table_view table.now) ≡ Err e) }
+        → spec.version_texts key.now (table_view table.now) ≡ Err e) }
 {
     match optional_texts(alloc, member(table, key))? {
         Some(texts) => Ok(texts),
@@ -105,7 +106,7 @@ fn read_parted(alloc: Global, head: &str, behind: &str) -> Result<Advisory, Advi
     ensures refused { IfErr result (λ e. e ≢ AdvisoryFault.NoMemory
         → advisory_in (head.now, behind.now) ≡ Err e) }
 {
-    let table = read_head(alloc, head)?;
+    let table = read_version_flag(alloc, head)?;
     let Some((title, description)) = titled(behind) else {
         return Err(AdvisoryFault::Rule(AdvisoryRule::Title));
     };

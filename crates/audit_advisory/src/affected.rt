@@ -1,7 +1,7 @@
 //! What of a package an advisory affects.
 ghost use Rattle.std.specs.Prelude.{◌≡◌, ◌∷◌, ◌++◌, ◌<◌, [], length, MatchOption, IfOk, IfSome, option_map};
 ghost use Rattle.toml.specs.View.{view, table_view};
-ghost use Rattle.audit_advisory.specs.Advisories.{affected_of, affected_or_absent, function_of, functions_of, functions_or_absent, requirements_in, segments};
+ghost use Rattle.audit_advisory.specs.Advisories as spec;
 
 use crate::requirements::Requirement;
 use crate::versions::requirements_of;
@@ -30,8 +30,8 @@ pub struct Affected {
 
 /// The first segment and what follows its `::`, where there is one.
 fn cut_segment(path: &str) -> Option<(&str, &str)>
-    ensures segments { MatchOption result (segments path.now ≡ path.now ∷ [])
-        (λ p. segments path.now ≡ p.0.now ∷ segments p.1.now) }
+    ensures segments { MatchOption result (spec.segments path.now ≡ path.now ∷ [])
+        (λ p. spec.segments path.now ≡ p.0.now ∷ spec.segments p.1.now) }
     ensures shorter { IfSome result (λ p. length p.1.now < length path.now) }
 {
     path.split_once("::")
@@ -39,7 +39,7 @@ fn cut_segment(path: &str) -> Option<(&str, &str)>
 
 /// The segments of a path.
 fn segments(alloc: Global, path: &str) -> Result<FunctionPath, NoMemory>
-    ensures { IfOk result (λ ss. ss ≡ segments path.now) }
+    ensures { IfOk result (λ ss. ss ≡ spec.segments path.now) }
 {
     let mut cut = Items::new(alloc);
     let mut left = path;
@@ -53,7 +53,7 @@ fn segments(alloc: Global, path: &str) -> Result<FunctionPath, NoMemory>
 
 /// The requirements of an array.
 fn requirements_in(alloc: Global, value: &Value) -> Result<Option<Items<Requirement>>, NoMemory>
-    ensures { IfOk result (λ rs. rs ≡ requirements_in (view value.now)) }
+    ensures { IfOk result (λ rs. rs ≡ spec.requirements_in (view value.now)) }
 {
     match texts_of(alloc, value)? {
         Some(texts) => requirements_of(alloc, texts.as_slice()),
@@ -63,7 +63,7 @@ fn requirements_in(alloc: Global, value: &Value) -> Result<Option<Items<Requirem
 
 /// A path with its requirements.
 fn function_of(alloc: Global, path: &str, value: &Value) -> Result<Option<Function>, NoMemory>
-    ensures { IfOk result (λ f. f ≡ function_of path.now (view value.now)) }
+    ensures { IfOk result (λ f. f ≡ spec.function_of path.now (view value.now)) }
 {
     let Some(versions) = requirements_in(alloc, value)? else {
         return Ok(None);
@@ -76,7 +76,7 @@ fn function_of(alloc: Global, path: &str, value: &Value) -> Result<Option<Functi
 
 /// Each path with its requirements.
 fn functions_of(alloc: Global, table: &Table) -> Result<Option<Items<Function>>, NoMemory>
-    ensures { IfOk result (λ fs. fs ≡ functions_of (table_view table.now)) }
+    ensures { IfOk result (λ fs. fs ≡ spec.functions_of (table_view table.now)) }
 {
     let mut functions = Items::new(alloc);
     for (path, value) in table.iter() {
@@ -93,7 +93,7 @@ fn functions_or_absent(
     member: Option<&Value>,
 ) -> Result<Option<Items<Function>>, NoMemory>
     ensures { IfOk result (λ fs. fs
-        ≡ functions_or_absent (option_map (λ v. view v.now) member.entry)) }
+        ≡ spec.functions_or_absent (option_map (λ v. view v.now) member.entry)) }
 {
     match optional_table(member) {
         None => Ok(None),
@@ -103,7 +103,7 @@ fn functions_or_absent(
 }
 
 fn affected_of(alloc: Global, table: &Table) -> Result<Option<Affected>, NoMemory>
-    ensures { IfOk result (λ a. a ≡ affected_of (table_view table.now)) }
+    ensures { IfOk result (λ a. a ≡ spec.affected_of (table_view table.now)) }
 {
     let Some(arch) = optional_texts(alloc, member(table, "arch"))? else {
         return Ok(None);
@@ -127,7 +127,7 @@ pub fn affected_or_absent(
     member: Option<&Value>,
 ) -> Result<Option<Affected>, NoMemory>
     ensures { IfOk result (λ a. a
-        ≡ affected_or_absent (option_map (λ v. view v.now) member.entry)) }
+        ≡ spec.affected_or_absent (option_map (λ v. view v.now) member.entry)) }
 {
     match optional_table(member) {
         None => Ok(None),

@@ -2,7 +2,8 @@
 ghost use Rattle.std.specs.Prelude.{◌≡◌, IfOk, codes};
 ghost use Rattle.semver.specs.Identifiers.{comparator_view, pre_text};
 ghost use Rattle.audit_advisory.specs.Points.{point_of};
-ghost use Rattle.audit_advisory.specs.Intervals.{below_release, from_release, keeps_lower, keeps_upper, next_major, next_minor, next_patch, raised, stated};
+ghost use Rattle.audit_advisory.specs.Intervals.{keeps_lower, keeps_upper};
+ghost use Rattle.audit_advisory.specs.Intervals as spec;
 
 use crate::edges::{Edge, Release};
 use semver::{Comparator, Prerelease, Version};
@@ -59,7 +60,7 @@ impl Upper {
 
 /// A part raised by one, where it still has 64 bits.
 fn raised(part: u64) -> Option<u64>
-    ensures { result ≡ raised part }
+    ensures { result ≡ spec.raised part }
 {
     if part < u64::MAX {
         Some(part + 1)
@@ -70,7 +71,7 @@ fn raised(part: u64) -> Option<u64>
 
 /// The next major release, where there is one.
 pub fn next_major(major: u64) -> Option<Release>
-    ensures { result ≡ next_major major }
+    ensures { result ≡ spec.next_major major }
 {
     let next = raised(major)?;
     Some(Release {
@@ -82,7 +83,7 @@ pub fn next_major(major: u64) -> Option<Release>
 
 /// The next minor release, where there is one.
 pub fn next_minor(major: u64, minor: u64) -> Option<Release>
-    ensures { result ≡ next_minor major minor }
+    ensures { result ≡ spec.next_minor major minor }
 {
     let next = raised(minor)?;
     Some(Release {
@@ -94,7 +95,7 @@ pub fn next_minor(major: u64, minor: u64) -> Option<Release>
 
 /// The next patch release, where there is one.
 pub fn next_patch(major: u64, minor: u64, patch: u64) -> Option<Release>
-    ensures { result ≡ next_patch major minor patch }
+    ensures { result ≡ spec.next_patch major minor patch }
 {
     let next = raised(patch)?;
     Some(Release {
@@ -122,7 +123,7 @@ fn copied_pre(alloc: Global, pre: &Prerelease) -> Result<Prerelease, NoMemory>
 
 /// The version that a comparator states, its missing parts 0.
 pub fn stated(alloc: Global, comparator: &Comparator) -> Result<Edge, NoMemory>
-    ensures { IfOk result (λ edge. edge ≡ stated (comparator_view comparator.now)) }
+    ensures { IfOk result (λ edge. edge ≡ spec.stated (comparator_view comparator.now)) }
 {
     let release = Release {
         major: comparator.major,
@@ -134,7 +135,7 @@ pub fn stated(alloc: Global, comparator: &Comparator) -> Result<Edge, NoMemory>
 
 /// From a release; where there is none, nothing is that high.
 pub fn from_release(release: Option<Release>) -> Lower
-    ensures { result ≡ from_release release }
+    ensures { result ≡ spec.from_release release }
 {
     match release {
         None => Lower::Unreachable,
@@ -144,7 +145,7 @@ pub fn from_release(release: Option<Release>) -> Lower
 
 /// Below the lowest pre-release of a release; where there is none, everything is.
 pub fn below_release(alloc: Global, release: Option<Release>) -> Result<Upper, NoMemory>
-    ensures { IfOk result (λ end. end ≡ below_release release) }
+    ensures { IfOk result (λ end. end ≡ spec.below_release release) }
 {
     match release {
         None => Ok(Upper::Free),

@@ -4,7 +4,7 @@ ghost use Rattle.std.specs.List.{filter};
 ghost use Rattle.audit_advisory.specs.Names.{IsByName, has_name};
 ghost use Rattle.audit_advisory.specs.Places.{passes_at, places_from};
 ghost use Rattle.audit_advisory.specs.Points.{point_of};
-ghost use Rattle.audit_advisory.specs.Queries.{query, warns_of};
+ghost use Rattle.audit_advisory.specs.Queries as spec;
 ghost use Rattle.audit_advisory.specs.declared.advisories.Advisory.{Advisory};
 
 use crate::advisories::Advisory;
@@ -33,7 +33,7 @@ impl Model for Database {
 
 /// Whether by the advisory at a place a version is vulnerable.
 fn warns_of(advisories: &[Advisory], place: usize, version: &Version) -> bool
-    ensures { result ≡ passes_at (warns_of (point_of version.now)) advisories.now place }
+    ensures { result ≡ passes_at (spec.warns_of (point_of version.now)) advisories.now place }
 {
     match advisories.get(place) {
         Some(advisory) => {
@@ -53,7 +53,7 @@ fn warning_places(
     version: &Version,
 ) -> Result<Items<usize>, NoMemory>
     ensures { IfOk result (λ found. found
-        ≡ filter (passes_at (warns_of (point_of version.now)) advisories.now) places.now) }
+        ≡ filter (passes_at (spec.warns_of (point_of version.now)) advisories.now) places.now) }
 {
     let mut found = Items::new(alloc);
     for place in places {
@@ -106,7 +106,7 @@ impl Database {
         version: &Version,
     ) -> Result<Items<usize>, NoMemory>
         ensures { IfOk result (λ places. places
-            ≡ query «package».now (point_of version.now) self.now) }
+            ≡ spec.query «package».now (point_of version.now) self.now) }
     {
         let mut count = Comparisons { made: 0 };
         let places = self.places_of(package, &mut count);

@@ -1,13 +1,13 @@
 //! When an audit fails.
 ghost use Rattle.std.specs.Prelude.{◌≡◌};
-ghost use Rattle.audit_advisory.specs.Exits.{denies, denies_self, fails, has_denied, is_denied, report_fails, self_fails};
+ghost use Rattle.audit_advisory.specs.Exits as spec;
 
 use crate::outputs::{DenyOption, WarningKind};
 use crate::reports::{Report, Warning};
 
 /// Whether an option denies warnings of a kind.
 fn denies(option: DenyOption, kind: WarningKind) -> bool
-    ensures { result ≡ denies kind option }
+    ensures { result ≡ spec.denies kind option }
 {
     option
         .get_warning_kind()
@@ -17,7 +17,7 @@ fn denies(option: DenyOption, kind: WarningKind) -> bool
 
 /// Whether some option denies warnings of a kind.
 fn is_denied(deny: &[DenyOption], kind: WarningKind) -> bool
-    ensures { result ≡ is_denied deny.now kind }
+    ensures { result ≡ spec.is_denied deny.now kind }
 {
     for option in deny {
         if denies(*option, kind) {
@@ -28,7 +28,7 @@ fn is_denied(deny: &[DenyOption], kind: WarningKind) -> bool
 }
 
 fn has_denied(warnings: &[Warning], deny: &[DenyOption]) -> bool
-    ensures { result ≡ has_denied warnings.now deny.now }
+    ensures { result ≡ spec.has_denied warnings.now deny.now }
 {
     for warning in warnings {
         if is_denied(deny, warning.kind) {
@@ -39,7 +39,7 @@ fn has_denied(warnings: &[Warning], deny: &[DenyOption]) -> bool
 }
 
 fn denies_self(deny: &[DenyOption]) -> bool
-    ensures { result ≡ denies_self deny.now }
+    ensures { result ≡ spec.denies_self deny.now }
 {
     for option in deny {
         if matches!(option, DenyOption::Warnings) {
@@ -52,21 +52,21 @@ fn denies_self(deny: &[DenyOption]) -> bool
 /// Whether an audit fails by its report: it has a vulnerability, or a warning of a kind that some
 /// option denies.
 pub fn report_fails(report: &Report, deny: &[DenyOption]) -> bool
-    ensures { result ≡ report_fails report.now deny.now }
+    ensures { result ≡ spec.report_fails report.now deny.now }
 {
     !report.vulnerabilities.as_slice().is_empty() || has_denied(report.warnings.as_slice(), deny)
 }
 
 /// Whether an audit fails by advisories on the auditor itself, which `warnings` denies.
 pub fn self_fails(deny: &[DenyOption], self_advisories: &[usize]) -> bool
-    ensures { result ≡ self_fails deny.now self_advisories.now }
+    ensures { result ≡ spec.self_fails deny.now self_advisories.now }
 {
     !self_advisories.is_empty() && denies_self(deny)
 }
 
 /// Whether an audit fails: by its report, or by advisories on the auditor itself.
 pub fn fails(report: &Report, deny: &[DenyOption], self_advisories: &[usize]) -> bool
-    ensures { result ≡ fails report.now deny.now self_advisories.now }
+    ensures { result ≡ spec.fails report.now deny.now self_advisories.now }
 {
     report_fails(report, deny) || self_fails(deny, self_advisories)
 }

@@ -4,7 +4,8 @@ ghost use Rattle.std.specs.List.{filter};
 ghost use Rattle.audit_advisory.specs.Hits.{IsVersionOf};
 ghost use Rattle.audit_advisory.specs.Names.{has_name};
 ghost use Rattle.audit_advisory.specs.Places.{passes_at, places_from, places_where};
-ghost use Rattle.audit_advisory.specs.Reports.{counts, is_listed, is_plain, is_told, is_vulnerability, is_warned_of, is_warning, speaks_of, tells, vulnerabilities_of, vulnerability_at, warning_at, warnings_of};
+ghost use Rattle.audit_advisory.specs.Reports.{is_vulnerability, is_warning, vulnerabilities_of, vulnerability_at, warning_at, warnings_of};
+ghost use Rattle.audit_advisory.specs.Reports as spec;
 
 use crate::advisories::Advisory;
 use crate::counting::Comparisons;
@@ -21,7 +22,7 @@ use tame_names::{Items, NoMemory};
 
 /// Whether an advisory isn't withdrawn, and its id isn't ignored.
 fn counts(settings: &Settings, advisory: &Advisory) -> bool
-    ensures { result ≡ counts settings.now advisory.now }
+    ensures { result ≡ spec.counts settings.now advisory.now }
 {
     advisory.metadata.withdrawn.is_none()
         && !is_among(advisory.metadata.id.as_str(), settings.ignore.as_slice())
@@ -29,7 +30,7 @@ fn counts(settings: &Settings, advisory: &Advisory) -> bool
 
 /// Whether this is what a warning of a kind tells.
 fn tells(kind: WarningKind, informational: &Informational) -> bool
-    ensures { result ≡ tells kind informational.now }
+    ensures { result ≡ spec.tells kind informational.now }
 {
     match (kind, informational) {
         (WarningKind::Notice, Informational::Notice) => true,
@@ -40,7 +41,7 @@ fn tells(kind: WarningKind, informational: &Informational) -> bool
 }
 
 fn is_told(kind: WarningKind, informational: &Option<Informational>) -> bool
-    ensures { result ≡ is_told kind informational.now }
+    ensures { result ≡ spec.is_told kind informational.now }
 {
     match informational {
         None => false,
@@ -49,7 +50,7 @@ fn is_told(kind: WarningKind, informational: &Option<Informational>) -> bool
 }
 
 fn is_listed(kind: WarningKind, settings: &Settings) -> bool
-    ensures { result ≡ is_listed kind settings.now }
+    ensures { result ≡ spec.is_listed kind settings.now }
 {
     for informational in settings.informational_warnings.as_slice() {
         if tells(kind, informational) {
@@ -68,7 +69,7 @@ fn speaks_of(
     version: &Option<Version>,
 ) -> bool
     requires { IsVersionOf version.now locked.now.version }
-    ensures { result ≡ passes_at (speaks_of settings.now locked.now) advisories.now place }
+    ensures { result ≡ passes_at (spec.speaks_of settings.now locked.now) advisories.now place }
 {
     match advisories.get(place) {
         Some(advisory) => {
@@ -80,7 +81,7 @@ fn speaks_of(
 
 /// Whether the advisory at a place isn't informational.
 fn is_plain(advisories: &[Advisory], place: usize) -> bool
-    ensures { result ≡ passes_at is_plain advisories.now place }
+    ensures { result ≡ passes_at spec.is_plain advisories.now place }
 {
     match advisories.get(place) {
         Some(advisory) => advisory.metadata.informational.is_none(),
@@ -95,7 +96,7 @@ fn is_warned_of(
     advisories: &[Advisory],
     place: usize,
 ) -> bool
-    ensures { result ≡ passes_at (is_warned_of kind settings.now) advisories.now place }
+    ensures { result ≡ passes_at (spec.is_warned_of kind settings.now) advisories.now place }
 {
     match advisories.get(place) {
         Some(advisory) => {
@@ -116,7 +117,7 @@ fn speaking_at(
 ) -> Result<Items<usize>, NoMemory>
     requires { IsVersionOf version.now locked.now.version }
     ensures { IfOk result (λ found. found
-        ≡ filter (passes_at (speaks_of settings.now locked.now) advisories.now) places.now) }
+        ≡ filter (passes_at (spec.speaks_of settings.now locked.now) advisories.now) places.now) }
 {
     let mut found = Items::new(alloc);
     for place in places {
@@ -136,7 +137,7 @@ fn speaking_places(
     locked: &Package,
 ) -> Result<Items<usize>, NoMemory>
     ensures { IfOk result (λ found. found
-        ≡ filter (passes_at (speaks_of settings.now locked.now) advisories.now) places.now) }
+        ≡ filter (passes_at (spec.speaks_of settings.now locked.now) advisories.now) places.now) }
 {
     let version = read_version(alloc, locked.version.as_str())?;
     speaking_at(alloc, settings, advisories, places, locked, &version)
@@ -150,7 +151,8 @@ fn add_vulnerabilities(
     package: usize,
 ) -> Result<(), NoMemory>
     ensures { OnOk result (found.new ≡ found.old
-        ++ map (vulnerability_at «package») (filter (passes_at is_plain advisories.now) places.now)) }
+        ++ map (vulnerability_at «package»)
+        (filter (passes_at spec.is_plain advisories.now) places.now)) }
 {
     for place in places {
         if is_plain(advisories, *place) {
@@ -173,7 +175,7 @@ fn add_warnings(
     package: usize,
 ) -> Result<(), NoMemory>
     ensures { OnOk result (found.new ≡ found.old ++ map (warning_at kind «package»)
-        (filter (passes_at (is_warned_of kind settings.now) advisories.now) places.now)) }
+        (filter (passes_at (spec.is_warned_of kind settings.now) advisories.now) places.now)) }
 {
     for place in places {
         if is_warned_of(kind, settings, advisories, *place) {
@@ -217,7 +219,8 @@ fn add_package(
         (places_where (is_warning settings.now WarningKind.Notice locked.now) advisories.now)) }
     ensures unmaintained { OnOk result (found.new.unmaintained ≡ found.old.unmaintained
         ++ map (warning_at WarningKind.Unmaintained i)
-        (places_where (is_warning settings.now WarningKind.Unmaintained locked.now) advisories.now)) }
+        (places_where (is_warning settings.now WarningKind.Unmaintained locked.now)
+        advisories.now)) }
     ensures unsound { OnOk result (found.new.unsound ≡ found.old.unsound
         ++ map (warning_at WarningKind.Unsound i)
         (places_where (is_warning settings.now WarningKind.Unsound locked.now) advisories.now)) }

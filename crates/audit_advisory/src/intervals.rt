@@ -2,7 +2,8 @@
 ghost use Rattle.std.specs.Prelude.{◌≡◌, IfOk};
 ghost use Rattle.semver.specs.Identifiers.{comparator_view};
 ghost use Rattle.audit_advisory.specs.Points.{point_of};
-ghost use Rattle.audit_advisory.specs.Intervals.{alike_parts, compatible, interval_of, lies_in, lower_by, past_parts, up_to_parts, upper_by};
+ghost use Rattle.audit_advisory.specs.Intervals.{alike_parts, interval_of, lies_in, lower_by, past_parts, up_to_parts, upper_by};
+ghost use Rattle.audit_advisory.specs.Intervals as spec;
 
 use crate::bounds::{
     Lower, Upper, below_release, from_release, next_major, next_minor, next_patch, stated,
@@ -55,7 +56,7 @@ fn alike(comparator: &Comparator) -> Option<Release>
 
 /// The next release in the first part that isn't 0, in the last part where all are.
 fn compatible(comparator: &Comparator) -> Option<Release>
-    ensures { result ≡ compatible (comparator_view comparator.now) }
+    ensures { result ≡ spec.compatible (comparator_view comparator.now) }
 {
     let major = comparator.major;
     if major > 0 {

@@ -1,5 +1,6 @@
-//! What holds of every interval, in the words of Semantic Versioning 2.0.0.
-ghost use Rattle.std.specs.Prelude.{◌≡◌, ◌↔◌, ◌<◌, ◌-◌, ◌^◌, ℕ, List, [], map, Option, Some, Ok, IsTrue};
+//! What holds of every interval, in the words of Semantic Versioning 2.0.0, and of every path.
+ghost use Rattle.std.specs.Prelude.{◌≡◌, ◌↔◌, ◌<◌, ◌-◌, ◌^◌, ℕ, List, [], map, Option, Some, Ok, IsTrue, false};
+ghost use Rattle.std.specs.List.{All};
 ghost use Rattle.std.specs.declared.cmp.Ordering.TheVariants as ordering;
 ghost use Rattle.semver.specs.Eval.{matches_all, matches_one};
 ghost use Rattle.semver.specs.Identifiers.{comparator_view, pre_text};
@@ -7,10 +8,12 @@ ghost use Rattle.semver.specs.Parse.{req_of};
 ghost use Rattle.semver.specs.declared.Comparator.{Comparator};
 ghost use Rattle.semver.specs.declared.Op.TheVariants as op;
 ghost use Rattle.semver.specs.declared.Version.{Version};
+ghost use Rattle.audit_advisory.specs.Advisories.{segments};
 ghost use Rattle.audit_advisory.specs.Agreement.{ArePlain, IsPlain};
 ghost use Rattle.audit_advisory.specs.Intervals.{interval_of, lies_in};
 ghost use Rattle.audit_advisory.specs.Points.{Point, point_of, precedence};
 ghost use Rattle.audit_advisory.specs.Requirements.{meets};
+ghost use Rattle.audit_advisory.specs.Segments.{has_colons, joined};
 
 /// `=1.2.3` holds exactly the versions of that version's precedence (section 11), whatever their
 /// build metadata.
@@ -45,4 +48,11 @@ pub fn releases_are_as_for_cargo()
     ensures all { (text : List ℕ) (cs : List Comparator) (v : Version)
         → req_of text ≡ Ok (map comparator_view cs) → ArePlain (map comparator_view cs)
         → pre_text v.pre ≡ [] → meets text (point_of v) ≡ matches_all cs v }
+{}
+
+/// The segments of a path, with two colons between each two, are the path; and none of them has two
+/// colons side by side.
+pub fn segments_give_the_path()
+    ensures joined { (path : List ℕ) → joined (segments path) ≡ path }
+    ensures apart { (path : List ℕ) → All (λ s. has_colons s ≡ false) (segments path) }
 {}

@@ -1,5 +1,17 @@
 //! Security advisories: their texts, their versions, the packages that they hit, and the report on
 //! a lockfile.
+//!
+//! Promises: a text reads to its advisory, or the first rule that it breaks is named; a version
+//! meets a requirement exactly by a table of bounds; a report is the filter over all pairs of a
+//! package and an advisory, made with a bound on the comparisons of names.
+//! Stands on `tame_names`, `toml_tables`, the lockfiles of `audit_lock`, and `semver`.
+//!
+//! ```ignore
+//! let database = Database::new(alloc, advisories)?;
+//! let mut count = Comparisons { made: 0 };
+//! let report = Report::generate(alloc, &database, &lockfile, &settings, &mut count)?;
+//! let failed = report_fails(&report, &[DenyOption::Yanked]);
+//! ```
 #![tactic(auto)]
 
 mod advisories;
@@ -35,6 +47,7 @@ pub use hitting::{hits, read_version};
 pub use intervals::Interval;
 pub use laws::{
     caret_keeps_the_first_number, exact_holds_one_precedence, releases_are_as_for_cargo,
+    segments_give_the_path,
 };
 pub use metadata::{Informational, Metadata};
 pub use outputs::{DenyOption, OutputConfig, OutputFormat, WarningKind};

@@ -2,7 +2,8 @@
 ghost use Rattle.std.specs.Prelude.{◌≡◌, ◌≢◌, IfOk, IfErr, Ok, Err, option_map};
 ghost use Rattle.toml.specs.View.{view, table_view};
 ghost use Rattle.toml_tables.specs.Members.{optional, required};
-ghost use Rattle.audit_advisory.specs.Fields.{as_date, as_filled, date_field, filled_field, has_form, informational_field, is_date, kind_of, metadata_of, score_field, score_or_absent, text_field, withdrawn_field};
+ghost use Rattle.audit_advisory.specs.Fields.{as_date, as_filled, kind_of, metadata_of};
+ghost use Rattle.audit_advisory.specs.Fields as spec;
 
 use crate::faults::{AdvisoryFault, AdvisoryRule};
 use std::alloc::Global;
@@ -52,7 +53,7 @@ fn filled_text<'a>(member: Option<&'a Value>) -> Option<&'a str>
 
 /// Whether a text has this form: a digit for each `d`, and every other byte itself.
 fn has_form(form: &[u8], text: &[u8]) -> bool
-    ensures { result ≡ has_form form.now text.now }
+    ensures { result ≡ spec.has_form form.now text.now }
 {
     if form.len() != text.len() {
         return false;
@@ -72,7 +73,7 @@ fn has_form(form: &[u8], text: &[u8]) -> bool
 }
 
 fn is_date(text: &str) -> bool
-    ensures { result ≡ is_date text.now }
+    ensures { result ≡ spec.is_date text.now }
 {
     has_form(b"dddd-dd-dd", text.as_bytes())
 }
@@ -99,7 +100,7 @@ fn optional_date<'a>(member: Option<&'a Value>) -> Option<Option<&'a str>>
 }
 
 fn score_or_absent(member: Option<&Value>) -> Option<Option<u8>>
-    ensures { result ≡ score_or_absent (option_map (λ v. view v.now) member.entry) }
+    ensures { result ≡ spec.score_or_absent (option_map (λ v. view v.now) member.entry) }
 {
     match optional_number(member)? {
         None => Some(None),
@@ -144,9 +145,9 @@ fn filled_field(
     key: &str,
     rule: AdvisoryRule,
 ) -> Result<Text, AdvisoryFault>
-    ensures ok { IfOk result (λ t. filled_field key.now rule (table_view table.now) ≡ Ok t) }
+    ensures ok { IfOk result (λ t. spec.filled_field key.now rule (table_view table.now) ≡ Ok t) }
     ensures refused { IfErr result (λ e. e ≢ AdvisoryFault.NoMemory
-        → filled_field key.now rule (table_view table.now) ≡ Err e) }
+        → spec.filled_field key.now rule (table_view table.now) ≡ Err e) }
 {
     match filled_text(member(table, key)) {
         Some(text) => Ok(Text::of(alloc, text)?),
@@ -161,9 +162,9 @@ fn text_field(
     key: &str,
     rule: AdvisoryRule,
 ) -> Result<Option<Text>, AdvisoryFault>
-    ensures ok { IfOk result (λ t. text_field key.now rule (table_view table.now) ≡ Ok t) }
+    ensures ok { IfOk result (λ t. spec.text_field key.now rule (table_view table.now) ≡ Ok t) }
     ensures refused { IfErr result (λ e. e ≢ AdvisoryFault.NoMemory
-        → text_field key.now rule (table_view table.now) ≡ Err e) }
+        → spec.text_field key.now rule (table_view table.now) ≡ Err e) }
 {
     match optional_text(member(table, key)) {
         Some(text) => Ok(Text::of_option(alloc, text)?),
@@ -172,9 +173,9 @@ fn text_field(
 }
 
 fn date_field(alloc: Global, table: &Table) -> Result<Text, AdvisoryFault>
-    ensures ok { IfOk result (λ t. date_field (table_view table.now) ≡ Ok t) }
+    ensures ok { IfOk result (λ t. spec.date_field (table_view table.now) ≡ Ok t) }
     ensures refused { IfErr result (λ e. e ≢ AdvisoryFault.NoMemory
-        → date_field (table_view table.now) ≡ Err e) }
+        → spec.date_field (table_view table.now) ≡ Err e) }
 {
     match required_date(member(table, "date")) {
         Some(text) => Ok(Text::of(alloc, text)?),
@@ -183,9 +184,9 @@ fn date_field(alloc: Global, table: &Table) -> Result<Text, AdvisoryFault>
 }
 
 fn withdrawn_field(alloc: Global, table: &Table) -> Result<Option<Text>, AdvisoryFault>
-    ensures ok { IfOk result (λ t. withdrawn_field (table_view table.now) ≡ Ok t) }
+    ensures ok { IfOk result (λ t. spec.withdrawn_field (table_view table.now) ≡ Ok t) }
     ensures refused { IfErr result (λ e. e ≢ AdvisoryFault.NoMemory
-        → withdrawn_field (table_view table.now) ≡ Err e) }
+        → spec.withdrawn_field (table_view table.now) ≡ Err e) }
 {
     match optional_date(member(table, "withdrawn")) {
         Some(text) => Ok(Text::of_option(alloc, text)?),
@@ -194,9 +195,9 @@ fn withdrawn_field(alloc: Global, table: &Table) -> Result<Option<Text>, Advisor
 }
 
 fn informational_field(alloc: Global, table: &Table) -> Result<Option<Informational>, AdvisoryFault>
-    ensures ok { IfOk result (λ kind. informational_field (table_view table.now) ≡ Ok kind) }
+    ensures ok { IfOk result (λ kind. spec.informational_field (table_view table.now) ≡ Ok kind) }
     ensures refused { IfErr result (λ e. e ≢ AdvisoryFault.NoMemory
-        → informational_field (table_view table.now) ≡ Err e) }
+        → spec.informational_field (table_view table.now) ≡ Err e) }
 {
     match optional_text(member(table, "informational")) {
         Some(Some(text)) => Ok(Some(Informational::of(alloc, text)?)),
@@ -206,7 +207,7 @@ fn informational_field(alloc: Global, table: &Table) -> Result<Option<Informatio
 }
 
 fn score_field(table: &Table) -> Result<Option<u8>, AdvisoryFault>
-    ensures { result ≡ score_field (table_view table.now) }
+    ensures { result ≡ spec.score_field (table_view table.now) }
 {
     match score_or_absent(member(table, "score_tenths")) {
         Some(score) => Ok(score),

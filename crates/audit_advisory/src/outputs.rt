@@ -1,6 +1,7 @@
 //! What an audit denies, and how its report is shown.
 ghost use Rattle.std.specs.Prelude.{◌≡◌, IfOk, IsTrue, option_map};
-ghost use Rattle.audit_advisory.specs.Outputs.{all_deny_options, deny_option_of, is_quiet, output_format_of, warning_kinds_of};
+ghost use Rattle.audit_advisory.specs.Outputs.{all_deny_options, deny_option_of, output_format_of, warning_kinds_of};
+ghost use Rattle.audit_advisory.specs.Outputs as spec;
 
 use std::alloc::Global;
 use tame_names::{Items, NoMemory};
@@ -111,7 +112,7 @@ impl OutputFormat {
 impl OutputConfig {
     /// Whether status lines are left out: where that is asked for, and in both forms for machines.
     pub fn is_quiet(&self) -> bool
-        ensures { result ≡ is_quiet self.now }
+        ensures { result ≡ spec.is_quiet self.now }
     {
         match self.format {
             OutputFormat::Json | OutputFormat::Sarif => true,

@@ -3,7 +3,8 @@ ghost use Rattle.std.specs.Prelude.{◌≡◌, ◌↔◌, List, ℕ, Some, IsTru
 ghost use Rattle.semver.specs.Identifiers.{comparator_view};
 ghost use Rattle.semver.specs.Parse.{memory_error};
 ghost use Rattle.audit_advisory.specs.Points.{point_of};
-ghost use Rattle.audit_advisory.specs.Intervals.{interval_of, lies_in_each};
+ghost use Rattle.audit_advisory.specs.Intervals.{interval_of};
+ghost use Rattle.audit_advisory.specs.Intervals as spec;
 ghost use Rattle.audit_advisory.specs.Requirements.{intervals_of, meets, requirement_of};
 
 use crate::intervals::Interval;
@@ -69,7 +70,7 @@ fn intervals_read(alloc: Global, comparators: &[Comparator]) -> Result<Items<Int
 
 /// Whether a version lies in each of these intervals.
 fn lies_in_each(intervals: &[Interval], version: &Version) -> bool
-    ensures { result ≡ lies_in_each intervals.now (point_of version.now) }
+    ensures { result ≡ spec.lies_in_each intervals.now (point_of version.now) }
 {
     for interval in intervals {
         if !interval.contains(version) {

@@ -3,7 +3,8 @@ ghost use Rattle.std.specs.Prelude.{◌≡◌, ℕ, ◌+◌, ◌*◌, ◌^◌, �
 ghost use Rattle.std.specs.List.{filter};
 ghost use Rattle.std.specs.Cmp.Lexicographic.{slice_cmp};
 ghost use Rattle.std.specs.Ordering.{nat_cmp};
-ghost use Rattle.audit_advisory.specs.Names.{IsByName, goes_on, has_name, name_at};
+ghost use Rattle.audit_advisory.specs.Names.{IsByName, has_name};
+ghost use Rattle.audit_advisory.specs.Names as spec;
 ghost use Rattle.audit_advisory.specs.Places.{places_from};
 
 use crate::advisories::Advisory;
@@ -14,7 +15,7 @@ use tame_names::{Items, NoMemory};
 
 /// The name that the advisory at a place is on; nothing where there is none.
 fn name_at(advisories: &[Advisory], place: usize) -> &str
-    ensures { result.now ≡ name_at advisories.now place }
+    ensures { result.now ≡ spec.name_at advisories.now place }
 {
     match advisories.get(place) {
         Some(advisory) => advisory.metadata.package.as_str(),
@@ -47,7 +48,7 @@ pub(crate) fn sorted_places(
 
 /// Whether a search goes on to the right of a name that compares so.
 fn goes_on(past: bool, order: Ordering) -> bool
-    ensures { result ≡ goes_on past order }
+    ensures { result ≡ spec.goes_on past order }
 {
     match order {
         Ordering::Less => true,
@@ -67,10 +68,12 @@ fn first_place(
 ) -> usize
     requires { IsByName advisories.now by_name.now }
     ensures within { result ≤ length by_name.now }
-    ensures before { (k : ℕ) → k < result → goes_on past
-        (slice_cmp nat_cmp (name_at advisories.now (slice_index by_name.now k)) name.now) ≡ true }
-    ensures behind { (k : ℕ) → result ≤ k → k < length by_name.now → goes_on past
-        (slice_cmp nat_cmp (name_at advisories.now (slice_index by_name.now k)) name.now) ≡ false }
+    ensures before { (k : ℕ) → k < result → spec.goes_on past
+        (slice_cmp nat_cmp (spec.name_at advisories.now (slice_index by_name.now k)) name.now)
+        ≡ true }
+    ensures behind { (k : ℕ) → result ≤ k → k < length by_name.now → spec.goes_on past
+        (slice_cmp nat_cmp (spec.name_at advisories.now (slice_index by_name.now k)) name.now)
+        ≡ false }
     ensures most { (d : ℕ) → length by_name.now < 2 ^ d → count.new.made ≤ count.old.made + d }
     ensures least { count.old.made ≤ count.new.made }
 {

@@ -1,6 +1,7 @@
 //! What an audit asks of advisories.
 ghost use Rattle.std.specs.Prelude.{◌≡◌, IfOk};
-ghost use Rattle.audit_advisory.specs.Hits.{is_severe, rank, severity_of};
+ghost use Rattle.audit_advisory.specs.Hits.{severity_of};
+ghost use Rattle.audit_advisory.specs.Hits as spec;
 
 use crate::metadata::Informational;
 use std::alloc::Global;
@@ -49,8 +50,8 @@ impl Severity {
         }
     }
 
-    fn rank(self) -> u8
-        ensures { result ≡ rank self }
+    fn severity_level(self) -> u8
+        ensures { result ≡ spec.severity_level self }
     {
         match self {
             Severity::None => 0,
@@ -64,10 +65,11 @@ impl Severity {
 
 /// Whether a score isn't below a threshold, where both are stated.
 pub fn is_severe(tenths: Option<u8>, threshold: Option<Severity>) -> bool
-    ensures { result ≡ is_severe tenths threshold }
+    ensures { result ≡ spec.is_severe tenths threshold }
 {
     match (tenths, threshold) {
-        (Some(tenths), Some(threshold)) => threshold.rank() <= Severity::of(tenths).rank(),
+        (Some(tenths), Some(threshold)) => threshold.severity_level()
+            <= Severity::of(tenths).severity_level(),
         _ => true,
     }
 }

@@ -1,8 +1,9 @@
 //! The versions that an advisory names as safe.
 ghost use Rattle.std.specs.Prelude.{◌≡◌, ◌≢◌, IfOk, IfErr, Ok, Err};
 ghost use Rattle.audit_advisory.specs.Points.{point_of};
-ghost use Rattle.audit_advisory.specs.Requirements.{meets_any, requirements_of};
-ghost use Rattle.audit_advisory.specs.Versions.{is_vulnerable, versions_of};
+ghost use Rattle.audit_advisory.specs.Requirements as spec;
+ghost use Rattle.audit_advisory.specs.Versions.{versions_of};
+ghost use Rattle.audit_advisory.specs.Versions as versions_spec;
 
 use crate::faults::{AdvisoryFault, AdvisoryRule};
 use crate::requirements::Requirement;
@@ -22,7 +23,7 @@ pub fn requirements_of(
     alloc: Global,
     texts: &[Text],
 ) -> Result<Option<Items<Requirement>>, NoMemory>
-    ensures { IfOk result (λ rs. rs ≡ requirements_of texts.now) }
+    ensures { IfOk result (λ rs. rs ≡ spec.requirements_of texts.now) }
 {
     let mut requirements = Items::new(alloc);
     for text in texts {
@@ -35,7 +36,7 @@ pub fn requirements_of(
 }
 
 fn meets_any(requirements: &[Requirement], version: &Version) -> bool
-    ensures { result ≡ meets_any requirements.now (point_of version.now) }
+    ensures { result ≡ spec.meets_any requirements.now (point_of version.now) }
 {
     for requirement in requirements {
         if requirement.holds(version) {
@@ -70,7 +71,7 @@ impl Versions {
 
     /// Whether a version is neither patched nor unaffected.
     pub fn is_vulnerable(&self, version: &Version) -> bool
-        ensures { result ≡ is_vulnerable self.now (point_of version.now) }
+        ensures { result ≡ versions_spec.is_vulnerable self.now (point_of version.now) }
     {
         !meets_any(self.patched.as_slice(), version)
             && !meets_any(self.unaffected.as_slice(), version)

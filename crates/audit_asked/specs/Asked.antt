@@ -32,8 +32,7 @@ texts_asked host config place =
     }))))
 
 -- the settings, the lockfile's place, the database, the advisories, and the lockfile's text, or the
--- first refusal; a lockfile that has to
--- be generated is generated with this status
+-- first refusal; a lockfile that has to be generated is generated with this status
 abbrev pub asked : AuditCommand → Host → ℤ → Result Asked Refused
 asked command host status =
     go_on (settled command host) (λ config.
@@ -60,7 +59,8 @@ generates command host (Err reason) = false
 abbrev pub IsAdvisoriesCall : Host → Option (List ℕ) → List ℕ → FailedCall → Type 0
 IsAdvisoriesCall host None told call = IsReadingCall (advisory_paths host None) told call
 IsAdvisoriesCall host (Some database) told call =
-    IsListingCall database told call ⊎ IsReadingCall (advisory_paths host (Some database)) told call
+    IsListingCall host database told call
+    ⊎ IsReadingCall (advisory_paths host (Some database)) told call
 
 -- a call once the database is known
 abbrev pub IsKnownCall : Host → Option (List ℕ) → List ℕ → List ℕ → FailedCall → Type 0

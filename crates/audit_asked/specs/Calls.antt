@@ -1,18 +1,19 @@
 -- The calls on a host's files that may fail, and what a failed one ends (this project).
 use Rattle.std.specs.Prelude.{◌≡◌, ◌≤◌, ◌⊎◌, ℕ, codes, List, [], ◌∷◌, ◌++◌, bytes_eq, Option, Some, None, if◌then◌else◌, Result, Ok, Err, IfErr}
-use Rattle.std.specs.List.{slice_get}
-use Rattle.tame_names.specs.Counts.{Rose}
+use Rattle.std.specs.List.{Contains, slice_get}
+use Rattle.tame_names.specs.Counts.{CountRose}
 use Rattle.tame_names.specs.Paths.{join}
 use Rattle.tame_names.specs.Standing.{Host}
 use Rattle.tame_names.specs.declared.host.FailedCall.{FailedCall}
 use Rattle.tame_names.specs.declared.host.FileCall.{FileCall}
 use Rattle.tame_names.specs.declared.host.FileCall.TheVariants as file_call
 use Rattle.tame_location.specs.Homes.{IsHomeCall}
-use Rattle.audit_asked.specs.Advisories.{crates_folder}
+use Rattle.audit_asked.specs.Advisories.{crates_folder, names_at}
 use Rattle.audit_asked.specs.Places.{lockfile_name, manifest_name}
 use Rattle.audit_asked.specs.Settings.{folder_file, home_file, known_home}
 use Rattle.audit_asked.specs.declared.faults.RunFault.{RunFault}
 use Rattle.audit_asked.specs.declared.faults.RunFault.TheVariants as fault
+use Rattle.audit_asked.specs.declared.listings.Wanted.TheVariants as wanted
 use Rattle.audit_asked.specs.declared.places.LocateError.{LocateError}
 use Rattle.audit_asked.specs.declared.places.LocateError.TheVariants as locate
 
@@ -34,7 +35,7 @@ AddsFailed may before now (Err e) = AddsBy may before now e
 -- the count never falls, and a fault of the files raised it
 pub record HasFileCause {T : Type 0} (before now : ℕ) (result : Result T RunFault) : Type 0 where
   pub later : before ≤ now
-  pub rose : (path : List ℕ) → result ≡ Err (fault.File path) → Rose before now
+  pub rose : (path : List ℕ) → result ≡ Err (fault.File path) → CountRose before now
 
 -- a failed look at one of two files by name added it to the failed ones
 abbrev pub AddsLook : {T : Type 0} → List FailedCall → List FailedCall → Result T LocateError
@@ -50,7 +51,7 @@ IsLookError _ = ⊥
 -- the count never falls, and a failed look raised it
 pub record HasLookCause {T : Type 0} (before now : ℕ) (result : Result T LocateError) : Type 0 where
   pub later : before ≤ now
-  pub rose : IfErr result (λ e. IsLookError e → Rose before now)
+  pub rose : IfErr result (λ e. IsLookError e → CountRose before now)
 
 -- ---- which calls may fail, with the path that is told
 
@@ -99,16 +100,17 @@ abbrev pub IsDatabaseCall : Option (List ℕ) → List ℕ → FailedCall → Ty
 IsDatabaseCall (Some path) told call = IsCallOn file_call.Kind path told call
 IsDatabaseCall None told call = AsksHome told call
 
--- a listing of a folder in this one
-abbrev pub IsListingBelow : List ℕ → List ℕ → FailedCall → Type 0
-IsListingBelow folder told call =
-    (name : List ℕ) × IsCallOn file_call.List (join folder name) told call
+-- a listing of one of the folders of these names in this one
+abbrev pub IsListingBelow : List ℕ → List (List ℕ) → List ℕ → FailedCall → Type 0
+IsListingBelow folder names told call =
+    (name : List ℕ) × Contains names name × IsCallOn file_call.List (join folder name) told call
 
--- a listing of the folder `crates` of a database, or of a folder in it
-abbrev pub IsListingCall : List ℕ → List ℕ → FailedCall → Type 0
-IsListingCall database told call =
+-- a listing of the folder `crates` of a database, or of a folder that is listed in it
+abbrev pub IsListingCall : Host → List ℕ → List ℕ → FailedCall → Type 0
+IsListingCall host database told call =
     IsCallOn file_call.List (crates_folder database) told call
-    ⊎ IsListingBelow (crates_folder database) told call
+    ⊎ IsListingBelow (crates_folder database)
+    (names_at wanted.Folders host (crates_folder database)) told call
 
 -- the reading of one of these paths
 abbrev pub IsReadingCall : List (List ℕ) → List ℕ → FailedCall → Type 0

@@ -12,8 +12,8 @@ abbrev pub limit : ℕ
 limit = 67108864
 
 -- the settings are refused; nothing is at a path; what is there isn't UTF-8, has too many bytes, or
--- is no file; the n-th
--- advisory is refused; cargo ended with another status than 0; the last one is told by no host
+-- is no file; the n-th advisory is refused; cargo ended with another status than 0; the last one is
+-- told by no host
 pub data Refused : Type 0 where
   settings : (reason : Refusal) → Refused
   missing : (path : List ℕ) → Refused

@@ -1,6 +1,6 @@
 -- The starts of programs that a runner makes (this project).
 use Rattle.std.specs.Prelude.{◌≡◌, ◌≢◌, ◌≤◌, ◌⊎◌, ℕ, ℤ, pos, codes, List, [], ◌∷◌, ◌++◌, Bool, true, false, Option, Some, None, Result, Ok, Err}
-use Rattle.tame_names.specs.Counts.{Rose}
+use Rattle.tame_names.specs.Counts.{CountRose}
 use Rattle.audit_asked.specs.Places.{lockfile_name, manifest_name}
 use Rattle.audit_asked.specs.declared.faults.RunFault.{RunFault}
 use Rattle.audit_asked.specs.declared.faults.RunFault.TheVariants as fault
@@ -32,8 +32,7 @@ abbrev pub AddsStart : Option ℤ → List Started → List Started → Type 0
 AddsStart status before now = now ≡ before ++ generating status ∷ []
 
 -- a start that ended with 0 where the call succeeded, with the status that it tells, or failed;
--- none where memory ran out or a
--- look at the files failed
+-- none where memory ran out or a look at the files failed
 abbrev pub Generates : {T : Type 0} → List Started → List Started → Result T LocateError → Type 0
 Generates before now (Ok done) = AddsStart (Some (pos 0)) before now
 Generates before now (Err (locate.Generate status)) = AddsStart (Some status) before now
@@ -55,7 +54,7 @@ StartsAtMost before now = (now ≡ before) ⊎ ((status : Option ℤ) × AddsSta
 pub record HasStartCause {T : Type 0} (before now : ℕ)
     (result : Result T LocateError) : Type 0 where
   pub later : before ≤ now
-  pub rose : result ≡ Err locate.Start → Rose before now
+  pub rose : result ≡ Err locate.Start → CountRose before now
 
 -- a start failed, or ended with another status than 0
 abbrev pub IsStartError : LocateError → Type 0
@@ -94,4 +93,4 @@ RunStartsWhere false before now result = now ≡ before
 pub record HasRunStartCause {T : Type 0} (before now : ℕ)
     (result : Result T RunFault) : Type 0 where
   pub later : before ≤ now
-  pub rose : (failed : ℕ) → result ≡ Err (fault.Start failed) → Rose before now
+  pub rose : (failed : ℕ) → result ≡ Err (fault.Start failed) → CountRose before now

@@ -1,6 +1,6 @@
 -- The texts of a host's files (this project).
 use Rattle.std.specs.Prelude.{ℕ, codes, List, length, bytes_eq, nat_lt, Option, Some, None, if◌then◌else◌, Result, Ok, Err}
-use Rattle.toml_tables.specs.Answers.{and_then, or_fault}
+use Rattle.toml_tables.specs.Results.{and_then, or_fault}
 use Rattle.tame_names.specs.Standing.{Host, Standing, Nothing, File, Folder, Other}
 use Rattle.tame_names.specs.Utf8.{utf8_text}
 use Rattle.audit_asked.specs.Refusals.{Refused, limit, missing, no_file, not_utf8, too_large}

@@ -2,7 +2,8 @@
 ghost use Rattle.std.specs.Prelude.{◌≡◌, ◌++◌, Ok, Err, IfOk, IfErr, OnOk, IsTrue, map};
 ghost use Rattle.tame_names.specs.declared.host.FileCall.TheVariants as FileCall;
 ghost use Rattle.tame_names.specs.Paths.{join};
-ghost use Rattle.audit_asked.specs.Advisories.{advisories_asked, advisories_from, advisory_at, database_paths, paths_below, paths_in};
+ghost use Rattle.audit_asked.specs.Advisories.{advisories_asked, advisories_from, paths_below};
+ghost use Rattle.audit_asked.specs.Advisories as spec;
 ghost use Rattle.audit_asked.specs.Asked.{IsAdvisoriesCall};
 ghost use Rattle.audit_asked.specs.Calls.{AddsFailed, HasFileCause, IsCallOn, IsListingBelow, IsListingCall, IsReadingCall};
 ghost use Rattle.audit_asked.specs.Refusals.{IsReadFault, IsCallFault, is_told, refused};
@@ -57,10 +58,10 @@ fn paths_in<F: Files>(
     names: &BTreeSet<Text>,
 ) -> Result<Items<Text>, RunFault>
     ensures ok { F.tells → IfOk result (λ paths.
-        paths ≡ paths_in (F.host files.old) folder.now names.now.keys) }
+        paths ≡ spec.paths_in (F.host files.old) folder.now names.now.keys) }
     ensures only { IfErr result IsCallFault }
     ensures cause { HasFileCause (F.faults files.old) (F.faults files.new) result }
-    ensures failed { F.tells → AddsFailed (IsListingBelow folder.now)
+    ensures failed { F.tells → AddsFailed (IsListingBelow folder.now names.now.keys)
         (F.failed files.old) (F.failed files.new) result }
     ensures same { F.tells → F.host files.new ≡ F.host files.old }
 {
@@ -79,10 +80,10 @@ fn database_paths<F: Files>(
     database: &str,
 ) -> Result<Items<Text>, RunFault>
     ensures ok { F.tells → IfOk result (λ paths.
-        paths ≡ database_paths (F.host files.old) database.now) }
+        paths ≡ spec.database_paths (F.host files.old) database.now) }
     ensures only { IfErr result IsCallFault }
     ensures cause { HasFileCause (F.faults files.old) (F.faults files.new) result }
-    ensures failed { F.tells → AddsFailed (IsListingCall database.now)
+    ensures failed { F.tells → AddsFailed (IsListingCall (F.host files.old) database.now)
         (F.failed files.old) (F.failed files.new) result }
     ensures same { F.tells → F.host files.new ≡ F.host files.old }
 {
@@ -99,9 +100,9 @@ fn advisory_at<F: Files>(
     path: &str,
 ) -> Result<Advisory, RunFault>
     ensures ok { F.tells → IfOk result (λ read.
-        advisory_at (F.host files.old) n path.now ≡ Ok read) }
+        spec.advisory_at (F.host files.old) n path.now ≡ Ok read) }
     ensures refused { F.tells → IfErr result (λ e. IsTrue (is_told e)
-        → advisory_at (F.host files.old) n path.now ≡ Err (refused e)) }
+        → spec.advisory_at (F.host files.old) n path.now ≡ Err (refused e)) }
     ensures only { IfErr result IsReadFault }
     ensures cause { HasFileCause (F.faults files.old) (F.faults files.new) result }
     ensures failed { F.tells → AddsFailed (IsCallOn FileCall.Read path.now)

@@ -1,7 +1,8 @@
 //! What audits of binaries ask of the host.
 ghost use Rattle.std.specs.Prelude.{◌≡◌, Ok, Err, IfOk, IfErr, IsTrue};
 ghost use Rattle.audit_asked.specs.Calls.{AddsFailed, HasFileCause};
-ghost use Rattle.audit_asked.specs.ForBinaries.{IsAdvisedCall, IsForBinariesCall, advised, asked_for_binaries};
+ghost use Rattle.audit_asked.specs.ForBinaries.{IsAdvisedCall, IsForBinariesCall, asked_for_binaries};
+ghost use Rattle.audit_asked.specs.ForBinaries as spec;
 ghost use Rattle.audit_asked.specs.Refusals.{Gives, IsReadFault, is_told, refused};
 
 use crate::advisories::advisories;
@@ -31,9 +32,9 @@ fn advised<F: Files>(
     config: AuditConfig,
 ) -> Result<AskedForBinaries, RunFault>
     ensures ok { F.tells → IfOk result (λ asked.
-        advised (F.host files.old) config ≡ Ok asked) }
+        spec.advised (F.host files.old) config ≡ Ok asked) }
     ensures refused { F.tells → IfErr result (λ e. IsTrue (is_told e)
-        → advised (F.host files.old) config ≡ Err (refused e)) }
+        → spec.advised (F.host files.old) config ≡ Err (refused e)) }
     ensures only { IfErr result IsReadFault }
     ensures cause { HasFileCause (F.faults files.old) (F.faults files.new) result }
     ensures failed { F.tells → AddsFailed (IsAdvisedCall (F.host files.old) config)

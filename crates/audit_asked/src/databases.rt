@@ -2,7 +2,8 @@
 ghost use Rattle.std.specs.Prelude.{◌≡◌, Ok, Err, Some, None, IfOk, IfErr, IsTrue};
 ghost use Rattle.tame_names.specs.declared.host.FileCall.TheVariants as FileCall;
 ghost use Rattle.audit_asked.specs.Calls.{AddsFailed, AsksHome, HasFileCause, IsCallOn, IsDatabaseCall};
-ghost use Rattle.audit_asked.specs.Databases.{database_asked, database_path};
+ghost use Rattle.audit_asked.specs.Databases.{database_asked};
+ghost use Rattle.audit_asked.specs.Databases as spec;
 ghost use Rattle.audit_asked.specs.Refusals.{IsReadFault, is_told, refused};
 
 use crate::faults::RunFault;
@@ -81,7 +82,7 @@ pub(crate) fn database<F: Files>(
 
 /// The path that is told of a database.
 pub(crate) fn database_path(alloc: Global, database: Option<Text>) -> Result<Text, NoMemory>
-    ensures { IfOk result (λ path. path ≡ database_path database) }
+    ensures { IfOk result (λ path. path ≡ spec.database_path database) }
 {
     match database {
         Some(path) => Ok(path),

@@ -1,7 +1,7 @@
 //! The folder of cargo's home, where it can be told.
 ghost use Rattle.std.specs.Prelude.{◌≡◌, Ok, Err, IfOk, IfErr};
 ghost use Rattle.audit_asked.specs.Calls.{AddsFailed, AsksHome, HasFileCause};
-ghost use Rattle.audit_asked.specs.Settings.{known_home};
+ghost use Rattle.audit_asked.specs.Settings as spec;
 ghost use Rattle.audit_asked.specs.Refusals.{IsCallFault};
 
 use crate::faults::RunFault;
@@ -11,7 +11,7 @@ use tame_names::{Error, Files, IoKind, Text};
 
 /// The folder of cargo's home; nothing where a variable isn't UTF-8 or none names it.
 pub(crate) fn known_home<F: Files>(alloc: Global, files: &mut F) -> Result<Option<Text>, RunFault>
-    ensures ok { F.tells → IfOk result (λ home. home ≡ known_home (F.host files.old)) }
+    ensures ok { F.tells → IfOk result (λ home. home ≡ spec.known_home (F.host files.old)) }
     ensures only { IfErr result IsCallFault }
     ensures cause { HasFileCause (F.faults files.old) (F.faults files.new) result }
     ensures failed { F.tells → AddsFailed AsksHome

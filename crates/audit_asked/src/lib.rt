@@ -1,5 +1,15 @@
 //! What a run asks of its host before it audits: the settings, the lockfile's place, the
 //! advisories and the lockfile's text; for audits of binaries the settings and the advisories.
+//!
+//! Promises: an answer or a refusal is that of the definition over what the host has; one call
+//! failed at most, and it is one that may end a run so.
+//! Stands on the host `Files` of `tame_names`, the home of `tame_location`, and the readers of
+//! `audit_lock`, `audit_advisory` and `audit_settings`.
+//!
+//! ```ignore
+//! let asked = ask(alloc, &command, &mut files, &mut runner)?; // or a RunFault
+//! let auditor = Auditor::of(alloc, &asked.config, asked.advisories)?;
+//! ```
 #![tactic(auto)]
 
 mod advisories;

@@ -1,7 +1,8 @@
 //! The names in folders, in byte order.
 ghost use Rattle.std.specs.Prelude.{◌≡◌, [], Ok, Err, IfOk, IfErr, option_map};
 ghost use Rattle.tame_names.specs.declared.host.FileCall.TheVariants as FileCall;
-ghost use Rattle.audit_asked.specs.Advisories.{is_advisory_name, names_at, names_with, wanted_name};
+ghost use Rattle.audit_asked.specs.Advisories.{names_with};
+ghost use Rattle.audit_asked.specs.Advisories as spec;
 ghost use Rattle.audit_asked.specs.Calls.{AddsFailed, HasFileCause, IsCallOn};
 ghost use Rattle.audit_asked.specs.Refusals.{IsCallFault};
 
@@ -20,14 +21,14 @@ pub(crate) enum Wanted {
 }
 
 fn is_advisory_name(name: &str) -> bool
-    ensures { result ≡ is_advisory_name name.now }
+    ensures { result ≡ spec.is_advisory_name name.now }
 {
     name.as_bytes().ends_with(b".md")
 }
 
 /// The name of an entry, where it is wanted and UTF-8.
 fn wanted_name(wanted: Wanted, entry: &Listed) -> Option<&Text>
-    ensures { option_map (λ name. name.now) result ≡ wanted_name wanted entry.now }
+    ensures { option_map (λ name. name.now) result ≡ spec.wanted_name wanted entry.now }
 {
     let name = entry.name.as_ref()?;
     let is_wanted = match wanted {
@@ -58,7 +59,7 @@ pub(crate) fn names_at<F: Files>(
     path: &str,
 ) -> Result<BTreeSet<Text>, RunFault>
     ensures ok { F.tells → IfOk result (λ names.
-        names.keys ≡ names_at wanted (F.host files.old) path.now) }
+        names.keys ≡ spec.names_at wanted (F.host files.old) path.now) }
     ensures only { IfErr result IsCallFault }
     ensures cause { HasFileCause (F.faults files.old) (F.faults files.new) result }
     ensures failed { F.tells → AddsFailed (IsCallOn FileCall.List path.now)

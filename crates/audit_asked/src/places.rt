@@ -1,9 +1,11 @@
 //! The lockfile's place.
 ghost use Rattle.std.specs.Prelude.{◌≡◌, ◌⊎◌, pos, true, false, Ok, Err, Some, None, IfOk, IfErr, IsTrue, option_map};
 ghost use Rattle.audit_asked.specs.Calls.{AddsFailed, AddsLook, HasFileCause, HasLookCause, IsLookError, IsPlaceCall};
-ghost use Rattle.audit_asked.specs.Places.{is_there, is_to_generate, place_asked, place_of};
+ghost use Rattle.audit_asked.specs.Places.{place_asked, place_of};
+ghost use Rattle.audit_asked.specs.Places as spec;
 ghost use Rattle.audit_asked.specs.Refusals.{IsAskFault, is_told, refused};
-ghost use Rattle.audit_asked.specs.Starts.{Generates, GeneratesWhere, HasRunStartCause, HasStartCause, IsLocateError, IsStartError, RunStartsWhere, StartsAtMost, generating_words};
+ghost use Rattle.audit_asked.specs.Starts.{Generates, GeneratesWhere, HasRunStartCause, HasStartCause, IsLocateError, IsStartError, RunStartsWhere, StartsAtMost};
+ghost use Rattle.audit_asked.specs.Starts as starts_spec;
 ghost use Rattle.audit_asked.specs.Asked.{status_told};
 
 use crate::faults::RunFault;
@@ -42,7 +44,7 @@ const MANIFEST_NAME: &str = "Cargo.toml";
 /// Whether something is at a path.
 fn is_there<F: Files>(files: &mut F, path: &'static str) -> Result<bool, LocateError>
     ensures ok { F.tells → IfOk result (λ there.
-        there ≡ is_there ((F.host files.old).stands path.now)) }
+        there ≡ spec.is_there ((F.host files.old).stands path.now)) }
     ensures only { IfErr result (λ e.
         (e ≡ LocateError.File path.entry) ⊎ (e ≡ LocateError.NoMemory)) }
     ensures cause { HasLookCause (F.faults files.old) (F.faults files.new) result }
@@ -59,7 +61,8 @@ fn is_there<F: Files>(files: &mut F, path: &'static str) -> Result<bool, LocateE
 
 /// Whether a lockfile that isn't named has to be generated.
 fn is_to_generate<F: Files>(files: &mut F) -> Result<bool, LocateError>
-    ensures ok { F.tells → IfOk result (λ wanted. wanted ≡ is_to_generate None (F.host files.old)) }
+    ensures ok { F.tells → IfOk result
+        (λ wanted. wanted ≡ spec.is_to_generate None (F.host files.old)) }
     ensures only { IfErr result IsLocateError }
     ensures unstarted { IfErr result (λ e. ¬ (IsStartError e)) }
     ensures cause { HasLookCause (F.faults files.old) (F.faults files.new) result }
@@ -74,7 +77,7 @@ fn is_to_generate<F: Files>(files: &mut F) -> Result<bool, LocateError>
 
 /// The words that generate a lockfile.
 fn generating_words(alloc: Global) -> Result<Items<Text>, NoMemory>
-    ensures { IfOk result (λ words. words ≡ generating_words) }
+    ensures { IfOk result (λ words. words ≡ starts_spec.generating_words) }
 {
     let mut words = Items::new(alloc);
     words.add(Text::of(alloc, "update")?)?;
@@ -112,10 +115,11 @@ pub fn locate_or_generate<F: Files, R: Runner>(
 
     // a program is started exactly where a lockfile has to be generated
     ensures started { F.tells → R.tells
-        → GeneratesWhere (is_to_generate (option_map (λ p. p.now) path.entry) (F.host files.old))
+        → GeneratesWhere (spec.is_to_generate (option_map (λ p. p.now) path.entry)
+        (F.host files.old))
         (R.starts runner.old) (R.starts runner.new) result }
     ensures start { F.tells → IfErr result (λ e. IsStartError e
-        → IsTrue (is_to_generate (option_map (λ p. p.now) path.entry) (F.host files.old))) }
+        → IsTrue (spec.is_to_generate (option_map (λ p. p.now) path.entry) (F.host files.old))) }
     ensures at_most { R.tells → StartsAtMost (R.starts runner.old) (R.starts runner.new) }
     ensures start_cause { HasStartCause (R.faults runner.old) (R.faults runner.new) result }
 
@@ -158,7 +162,8 @@ pub(crate) fn place<F: Files, R: Runner>(
     ensures only { IfErr result IsAskFault }
 
     ensures started { F.tells → R.tells
-        → RunStartsWhere (is_to_generate (option_map (λ p. p.now) path.entry) (F.host files.old))
+        → RunStartsWhere (spec.is_to_generate (option_map (λ p. p.now) path.entry)
+        (F.host files.old))
         (R.starts runner.old) (R.starts runner.new) result }
     ensures at_most { R.tells → StartsAtMost (R.starts runner.old) (R.starts runner.new) }
     ensures start_cause { HasRunStartCause (R.faults runner.old) (R.faults runner.new) result }

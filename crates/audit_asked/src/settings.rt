@@ -3,7 +3,8 @@ ghost use Rattle.std.specs.Prelude.{◌≡◌, Ok, Err, Some, None, IfOk, IfErr,
 ghost use Rattle.tame_names.specs.declared.host.FileCall.TheVariants as FileCall;
 ghost use Rattle.audit_asked.specs.Calls.{AddsFailed, HasFileCause, IsCallOn, IsHomeConfigCall, IsSettingsCall, IsSettingsFrom};
 ghost use Rattle.audit_asked.specs.Refusals.{IsReadFault, is_told, refused};
-ghost use Rattle.audit_asked.specs.Settings.{config_at, config_in_home, known_home, settings_file, settings_from, settled};
+ghost use Rattle.audit_asked.specs.Settings.{known_home};
+ghost use Rattle.audit_asked.specs.Settings as spec;
 
 use crate::faults::RunFault;
 use crate::homes::known_home;
@@ -22,9 +23,9 @@ fn config_at<F: Files>(
     path: &str,
 ) -> Result<Option<AuditConfig>, RunFault>
     ensures ok { F.tells → IfOk result (λ config.
-        config_at (F.host files.old) path.now ≡ Ok config) }
+        spec.config_at (F.host files.old) path.now ≡ Ok config) }
     ensures refused { F.tells → IfErr result (λ e. IsTrue (is_told e)
-        → config_at (F.host files.old) path.now ≡ Err (refused e)) }
+        → spec.config_at (F.host files.old) path.now ≡ Err (refused e)) }
     ensures only { IfErr result IsReadFault }
     ensures cause { HasFileCause (F.faults files.old) (F.faults files.new) result }
     ensures failed { F.tells → AddsFailed (IsCallOn FileCall.Read path.now)
@@ -44,9 +45,10 @@ fn config_at<F: Files>(
 /// The settings of the file in cargo's home, if it is there.
 fn config_in_home<F: Files>(alloc: Global, files: &mut F) -> Result<Option<AuditConfig>, RunFault>
     ensures ok { F.tells → IfOk result (λ config.
-        config_in_home (F.host files.old) (known_home (F.host files.old)) ≡ Ok config) }
+        spec.config_in_home (F.host files.old) (known_home (F.host files.old)) ≡ Ok config) }
     ensures refused { F.tells → IfErr result (λ e. IsTrue (is_told e)
-        → config_in_home (F.host files.old) (known_home (F.host files.old)) ≡ Err (refused e)) }
+        → spec.config_in_home (F.host files.old) (known_home (F.host files.old))
+        ≡ Err (refused e)) }
     ensures only { IfErr result IsReadFault }
     ensures cause { HasFileCause (F.faults files.old) (F.faults files.new) result }
     ensures failed { F.tells → AddsFailed (IsHomeConfigCall (F.host files.old))
@@ -67,9 +69,9 @@ fn settings_from<F: Files>(
     path: &str,
 ) -> Result<AuditConfig, RunFault>
     ensures ok { F.tells → IfOk result (λ config.
-        settings_from (F.host files.old) path.now ≡ Ok config) }
+        spec.settings_from (F.host files.old) path.now ≡ Ok config) }
     ensures refused { F.tells → IfErr result (λ e. IsTrue (is_told e)
-        → settings_from (F.host files.old) path.now ≡ Err (refused e)) }
+        → spec.settings_from (F.host files.old) path.now ≡ Err (refused e)) }
     ensures only { IfErr result IsReadFault }
     ensures cause { HasFileCause (F.faults files.old) (F.faults files.new) result }
     ensures failed { F.tells → AddsFailed (IsSettingsFrom (F.host files.old) path.now)
@@ -87,9 +89,10 @@ fn settings_from<F: Files>(
 
 /// The settings, where those of the current folder come first.
 fn settings_file<F: Files>(alloc: Global, files: &mut F) -> Result<AuditConfig, RunFault>
-    ensures ok { F.tells → IfOk result (λ config. settings_file (F.host files.old) ≡ Ok config) }
+    ensures ok { F.tells → IfOk result
+        (λ config. spec.settings_file (F.host files.old) ≡ Ok config) }
     ensures refused { F.tells → IfErr result (λ e. IsTrue (is_told e)
-        → settings_file (F.host files.old) ≡ Err (refused e)) }
+        → spec.settings_file (F.host files.old) ≡ Err (refused e)) }
     ensures only { IfErr result IsReadFault }
     ensures cause { HasFileCause (F.faults files.old) (F.faults files.new) result }
     ensures failed { F.tells → AddsFailed (IsSettingsCall (F.host files.old))
@@ -106,9 +109,9 @@ pub(crate) fn settled<F: Files>(
     files: &mut F,
 ) -> Result<AuditConfig, RunFault>
     ensures ok { F.tells → IfOk result (λ config.
-        settled command.now (F.host files.old) ≡ Ok config) }
+        spec.settled command.now (F.host files.old) ≡ Ok config) }
     ensures refused { F.tells → IfErr result (λ e. IsTrue (is_told e)
-        → settled command.now (F.host files.old) ≡ Err (refused e)) }
+        → spec.settled command.now (F.host files.old) ≡ Err (refused e)) }
     ensures only { IfErr result IsReadFault }
     ensures cause { HasFileCause (F.faults files.old) (F.faults files.new) result }
     ensures failed { F.tells → AddsFailed (IsSettingsCall (F.host files.old))

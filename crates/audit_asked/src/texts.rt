@@ -4,7 +4,8 @@ ghost use Rattle.tame_names.specs.Utf8.{utf8_text};
 ghost use Rattle.tame_names.specs.declared.host.FileCall.TheVariants as FileCall;
 ghost use Rattle.audit_asked.specs.Calls.{AddsFailed, HasFileCause, IsCallOn, IsInputCall, IsLockfileCall};
 ghost use Rattle.audit_asked.specs.Refusals.{IsReadFault, is_told, refused};
-ghost use Rattle.audit_asked.specs.Texts.{input_or_text, text_at, text_of, text_there};
+ghost use Rattle.audit_asked.specs.Texts.{text_of};
+ghost use Rattle.audit_asked.specs.Texts as spec;
 
 use crate::faults::RunFault;
 use std::alloc::Global;
@@ -32,9 +33,9 @@ pub(crate) fn text_there<F: Files>(
     path: &str,
 ) -> Result<Option<Text>, RunFault>
     ensures ok { F.tells → IfOk result (λ text.
-        text_there path.now ((F.host files.old).stands path.now) ≡ Ok text) }
+        spec.text_there path.now ((F.host files.old).stands path.now) ≡ Ok text) }
     ensures refused { F.tells → IfErr result (λ e. IsTrue (is_told e)
-        → text_there path.now ((F.host files.old).stands path.now) ≡ Err (refused e)) }
+        → spec.text_there path.now ((F.host files.old).stands path.now) ≡ Err (refused e)) }
     ensures only { IfErr result IsReadFault }
     ensures cause { HasFileCause (F.faults files.old) (F.faults files.new) result }
     ensures failed { F.tells → AddsFailed (IsCallOn FileCall.Read path.now)
@@ -54,9 +55,9 @@ pub(crate) fn text_there<F: Files>(
 /// The text of the file at a path.
 pub(crate) fn text_at<F: Files>(alloc: Global, files: &mut F, path: &str) -> Result<Text, RunFault>
     ensures ok { F.tells → IfOk result (λ text.
-        text_at path.now ((F.host files.old).stands path.now) ≡ Ok text) }
+        spec.text_at path.now ((F.host files.old).stands path.now) ≡ Ok text) }
     ensures refused { F.tells → IfErr result (λ e. IsTrue (is_told e)
-        → text_at path.now ((F.host files.old).stands path.now) ≡ Err (refused e)) }
+        → spec.text_at path.now ((F.host files.old).stands path.now) ≡ Err (refused e)) }
     ensures only { IfErr result IsReadFault }
     ensures cause { HasFileCause (F.faults files.old) (F.faults files.new) result }
     ensures failed { F.tells → AddsFailed (IsCallOn FileCall.Read path.now)
@@ -99,9 +100,9 @@ pub(crate) fn input_or_text<F: Files>(
     path: &str,
 ) -> Result<Text, RunFault>
     ensures ok { F.tells → IfOk result (λ text.
-        input_or_text (F.host files.old) path.now ≡ Ok text) }
+        spec.input_or_text (F.host files.old) path.now ≡ Ok text) }
     ensures refused { F.tells → IfErr result (λ e. IsTrue (is_told e)
-        → input_or_text (F.host files.old) path.now ≡ Err (refused e)) }
+        → spec.input_or_text (F.host files.old) path.now ≡ Err (refused e)) }
     ensures only { IfErr result IsReadFault }
     ensures cause { HasFileCause (F.faults files.old) (F.faults files.new) result }
     ensures failed { F.tells → AddsFailed (IsLockfileCall path.now)

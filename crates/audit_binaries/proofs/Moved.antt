@@ -3,7 +3,7 @@ use Rattle.std.proofs.Common.{◌≡◌, inl, inr, ℕ, List, Result, Ok, Err, s
 use Rattle.tame_names.specs.Standing.{Host}
 use Rattle.audit_core.specs.declared.auditors.Auditor.{Auditor}
 use Rattle.audit_binaries.specs.Binaries.{IsAnswered, IsBegun, IsBinary, IsCutOff, IsReason, IsUnlocked, Outside, Says, Scan, Tells}
-use Rattle.audit_binaries.specs.Decoding.{Answer, Answers}
+use Rattle.audit_binaries.specs.Decoding.{Answer, DecoderAnswers}
 use Rattle.audit_binaries.specs.Opened.{IsOpened, IsSaid, IsUnopened, IsUnread, IsUnsaid, bytes_at, text_of}
 use Rattle.audit_binaries.specs.declared.answers.BinaryAnswer.{BinaryAnswer}
 use Rattle.audit_binaries.specs.declared.answers.BinaryAnswer.TheVariants as answer
@@ -13,10 +13,10 @@ use Rattle.audit_binaries.specs.declared.limits.BinaryLimits.{BinaryLimits}
 use Rattle.audit_binaries.specs.declared.opening.FoundText.{FoundText}
 
 -- the same auditor and limits, over another host and decoder
-abbrev pub With : Auditor → BinaryLimits → Host → Answers → Scan
+abbrev pub With : Auditor → BinaryLimits → Host → DecoderAnswers → Scan
 With auditor limits host answers = record { auditor = auditor; limits = limits; host = host; answers = answers }
 
-module _ (files_tell decoder_tells : Type 0) (limits : BinaryLimits) (host later : Host) (answers then : Answers)
+module _ (files_tell decoder_tells : Type 0) (limits : BinaryLimits) (host later : Host) (answers then : DecoderAnswers)
     (hosts : files_tell → later ≡ host) (same : decoder_tells → (bytes : List ℕ) (bound : ℕ) → then bytes bound ≡ answers bytes bound) where
   bytes_moved : (path : List ℕ) (r : Result (List ℕ) BinaryFault) → (files_tell → bytes_at limits.binary (later.stands path) ≡ r) → files_tell → bytes_at limits.binary (host.stands path) ≡ r
   bytes_moved path r h told = subst (λ (x : Host). bytes_at limits.binary (x.stands path) ≡ r) (hosts told) (h told)
@@ -49,7 +49,7 @@ module _ (files_tell decoder_tells : Type 0) (limits : BinaryLimits) (host later
   unopened_moved path f (inl h) = inl (unread_moved path f h)
   unopened_moved path f (inr h) = inr (h.0, bytes_moved path (Ok h.0) h.1, unsaid_moved h.0 f h.2)
 
-module _ (tells : Tells) (auditor : Auditor) (limits : BinaryLimits) (host later : Host) (answers then : Answers)
+module _ (tells : Tells) (auditor : Auditor) (limits : BinaryLimits) (host later : Host) (answers then : DecoderAnswers)
     (hosts : tells.files → later ≡ host) (same : tells.decoder → (bytes : List ℕ) (bound : ℕ) → then bytes bound ≡ answers bytes bound) where
   says_moved : (path : List ℕ) (said : FoundText) → Says tells (With auditor limits later then) path said → Says tells (With auditor limits host answers) path said
   says_moved path said h = opened_moved tells.files tells.decoder limits host later answers then hosts same path said h

@@ -2,7 +2,7 @@
 use Rattle.std.proofs.Common.{◌≡◌, ◌≤◌, ℕ, suc, List, [], ◌∷◌, ◌++◌, map, Bool, true, false, IsTrue, refl, sym, ap, ◌∙◌, subst, append_assoc, arith}
 use Rattle.std.specs.Prelude.{bytes_eq, ◌||◌}
 use Rattle.std.proofs.lemmas.List.{append-nil, map-append}
-use Rattle.tame_names.specs.Counts.{Rose}
+use Rattle.tame_names.specs.Counts.{CountRose, CountRoseBy}
 use Rattle.tame_cache.specs.Kept.{IsKept}
 use Rattle.tame_cache.proofs.KeptLemmas.{kept_after}
 use Rattle.tame_cache.proofs.FolderLemmas.{made_weaker, none_made, then_made}
@@ -18,7 +18,7 @@ use Rattle.audit_core.proofs.Exchanged.{cancel, honest_back, honest_front}
 use Rattle.audit_core.proofs.Steps.{Chains-more}
 use Rattle.audit_binaries.proofs.Chained.{Grown, grown_binary, grown_none, grown_then}
 use Rattle.audit_binaries.specs.Binaries.{AreBinaries, Outside, Scan, Tells}
-use Rattle.audit_binaries.specs.Summaries.{AddsAsked, AllHeld, RoseBy, asked_in, decodes_failed, files_failed, turns_in, with_if_decode, with_if_file}
+use Rattle.audit_binaries.specs.Summaries.{AddsAsked, AllHeld, asked_in, decodes_failed, files_failed, turns_in, with_if_decode, with_if_file}
 use Rattle.audit_binaries.specs.declared.answers.BinaryAnswer.{BinaryAnswer}
 use Rattle.audit_binaries.specs.declared.answers.BinaryAnswer.TheVariants as answer
 use Rattle.audit_binaries.specs.declared.answers.BinaryFault.{BinaryFault}
@@ -119,16 +119,16 @@ all_folders tells scan began ended (p ∷ paths) (answer.Refused f ∷ answers) 
 
 -- ---- counts
 
-rose_none : (a b : ℕ) → b ≡ a → RoseBy 0 a b
+rose_none : (a b : ℕ) → b ≡ a → CountRoseBy 0 a b
 rose_none a b same = omega (arith, same)
 
-rose_later : (n a b c : ℕ) → a ≤ b → RoseBy n b c → RoseBy n a c
+rose_later : (n a b c : ℕ) → a ≤ b → CountRoseBy n b c → CountRoseBy n a c
 rose_later n a b c later h = omega (arith, later, h)
 
-rose_more : (n a b c : ℕ) → Rose a b → RoseBy n b c → RoseBy (suc n) a c
+rose_more : (n a b c : ℕ) → CountRose a b → CountRoseBy n b c → CountRoseBy (suc n) a c
 rose_more n a b c one h = omega (arith, one, h)
 
-file_case : (f : BinaryFault) (n a b c : ℕ) → a ≤ b → (answer.Refused f ≡ answer.Refused fault.File → Rose a b) → RoseBy n b c → RoseBy (with_if_file f n) a c
+file_case : (f : BinaryFault) (n a b c : ℕ) → a ≤ b → (answer.Refused f ≡ answer.Refused fault.File → CountRose a b) → CountRoseBy n b c → CountRoseBy (with_if_file f n) a c
 file_case fault.Missing n a b c later one h = rose_later n a b c later h
 file_case fault.File n a b c later one h = rose_more n a b c (one refl) h
 file_case (fault.TooLarge x) n a b c later one h = rose_later n a b c later h
@@ -138,7 +138,7 @@ file_case fault.NoInformation n a b c later one h = rose_later n a b c later h
 file_case (fault.Lockfile x) n a b c later one h = rose_later n a b c later h
 
 pub all_files : (tells : Tells) (scan : Scan) (began ended : Outside) (paths : List (List ℕ)) (answers : List BinaryAnswer) → AreBinaries tells scan began ended paths answers
-    → RoseBy (files_failed answers) began.file_faults ended.file_faults
+    → CountRoseBy (files_failed answers) began.file_faults ended.file_faults
 all_files tells scan began ended [] [] h = rose_none began.file_faults ended.file_faults (ap (λ (o : Outside). o.file_faults) h)
 all_files tells scan began ended [] (a ∷ answers) h = absurd h
 all_files tells scan began ended (p ∷ paths) [] h = absurd h
@@ -147,7 +147,7 @@ all_files tells scan began ended (p ∷ paths) (answer.Audited found audited ∷
 all_files tells scan began ended (p ∷ paths) (answer.Refused f ∷ answers) h =
     file_case f (files_failed answers) began.file_faults h.0.file_faults ended.file_faults h.1.counted.files h.1.counted.file (all_files tells scan h.0 ended paths answers h.2)
 
-decode_case : (f : BinaryFault) (n a b c : ℕ) → a ≤ b → (answer.Refused f ≡ answer.Refused fault.Decode → Rose a b) → RoseBy n b c → RoseBy (with_if_decode f n) a c
+decode_case : (f : BinaryFault) (n a b c : ℕ) → a ≤ b → (answer.Refused f ≡ answer.Refused fault.Decode → CountRose a b) → CountRoseBy n b c → CountRoseBy (with_if_decode f n) a c
 decode_case fault.Missing n a b c later one h = rose_later n a b c later h
 decode_case fault.File n a b c later one h = rose_later n a b c later h
 decode_case (fault.TooLarge x) n a b c later one h = rose_later n a b c later h
@@ -157,7 +157,7 @@ decode_case fault.NoInformation n a b c later one h = rose_later n a b c later h
 decode_case (fault.Lockfile x) n a b c later one h = rose_later n a b c later h
 
 pub all_decodes : (tells : Tells) (scan : Scan) (began ended : Outside) (paths : List (List ℕ)) (answers : List BinaryAnswer) → AreBinaries tells scan began ended paths answers
-    → RoseBy (decodes_failed answers) began.decode_faults ended.decode_faults
+    → CountRoseBy (decodes_failed answers) began.decode_faults ended.decode_faults
 all_decodes tells scan began ended [] [] h = rose_none began.decode_faults ended.decode_faults (ap (λ (o : Outside). o.decode_faults) h)
 all_decodes tells scan began ended [] (a ∷ answers) h = absurd h
 all_decodes tells scan began ended (p ∷ paths) [] h = absurd h

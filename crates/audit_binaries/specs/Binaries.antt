@@ -1,6 +1,6 @@
 -- What is answered of binaries, one after the other (this project, after cargo-audit).
 use Rattle.std.specs.Prelude.{◌≡◌, ◌≢◌, ◌≤◌, ◌⊎◌, ℕ, List, [], ◌∷◌, ◌++◌, drop, take, Result, Ok, Err}
-use Rattle.tame_names.specs.Counts.{Rose}
+use Rattle.tame_names.specs.Counts.{CountRose}
 use Rattle.tame_names.specs.Standing.{Host}
 use Rattle.tame_names.specs.declared.host.FailedCall.{FailedCall}
 use Rattle.audit_lock.specs.Locked.{locked}
@@ -9,17 +9,17 @@ use Rattle.audit_lock.specs.declared.lockfiles.LockfileFault.TheVariants as lock
 use Rattle.audit_lock.specs.declared.resolving.Package.{Package}
 use Rattle.audit_core.specs.Audits.{IsAuditOf, KeepsOthers, MakesAskedFolders, Moment}
 use Rattle.audit_core.specs.Checks.{asked_of}
-use Rattle.audit_core.specs.Turns.{AddsPart, KeepsHonest}
+use Rattle.audit_core.specs.Turns.{AddsPart, StaysKept}
 use Rattle.audit_core.specs.declared.auditing.Audited.{Audited}
 use Rattle.audit_core.specs.declared.auditors.Auditor.{Auditor}
 use Rattle.audit_core.specs.declared.checking.Checks.TheVariants.{Online}
-use Rattle.audit_binaries.specs.Decoding.{Answers}
+use Rattle.audit_binaries.specs.Decoding.{DecoderAnswers}
 use Rattle.audit_binaries.specs.Opened.{IsOpened, IsUnopened, bytes_at, failed_reads, text_of}
 use Rattle.audit_binaries.specs.declared.answers.BinaryAnswer.{BinaryAnswer}
 use Rattle.audit_binaries.specs.declared.answers.BinaryAnswer.TheVariants as answer
 use Rattle.audit_binaries.specs.declared.answers.BinaryFault.{BinaryFault}
 use Rattle.audit_binaries.specs.declared.answers.BinaryFault.TheVariants as fault
-use Rattle.audit_binaries.specs.declared.answers.Found2.{Found2}
+use Rattle.audit_binaries.specs.declared.answers.PackagesFound.{PackagesFound}
 use Rattle.audit_binaries.specs.declared.limits.BinaryLimits.{BinaryLimits}
 use Rattle.audit_binaries.specs.declared.opening.FoundText.{FoundText}
 
@@ -32,7 +32,8 @@ pub record Tells : Type 1 where
   pub wire : Type 0
   pub disk : Type 0
 
--- at a moment: the wire and the disk, the folders that were made, the calls on files that have failed, and how often these and decodings have
+-- at a moment: the wire and the disk, the folders that were made, the calls on files that have
+-- failed, and how often these and decodings have
 pub record Outside : Type 0 where
   pub moment : Moment
   pub folders : List (List ℕ)
@@ -40,12 +41,13 @@ pub record Outside : Type 0 where
   pub file_faults : ℕ
   pub decode_faults : ℕ
 
--- what binaries are audited by: the auditor, the limits, what stands at paths, and what the decoder answers
+-- what binaries are audited by: the auditor, the limits, what stands at paths, and what the decoder
+-- answers
 pub record Scan : Type 0 where
   pub auditor : Auditor
   pub limits : BinaryLimits
   pub host : Host
-  pub answers : Answers
+  pub answers : DecoderAnswers
 
 -- the paths that the audit of these packages asks for
 abbrev pub asked_by : Scan → List Package → List (List ℕ)
@@ -53,28 +55,40 @@ asked_by scan packages = asked_of scan.auditor.checks packages
 
 -- the binary at the path says this
 abbrev pub Says : Tells → Scan → List ℕ → FoundText → Type 0
-Says tells scan path said = IsOpened tells.files tells.decoder scan.limits (scan.host.stands path) scan.answers said
+Says tells scan path said =
+    IsOpened tells.files tells.decoder scan.limits (scan.host.stands path) scan.answers said
 
 -- ---- one binary
 
--- its audit is that of the text that it says; no file changes but those of the paths that are asked for, and no folders are made but those above them; a kept disk is kept all the time where the exchanges are honest
-pub record IsAudited (tells : Tells) (scan : Scan) (began ended : Outside) (path : List ℕ) (found : Found2) (audited : Audited) : Type 0 where
+-- its audit is that of the text that it says; no file changes but those of the paths that are asked
+-- for, and no folders are made but those above them; a kept disk is kept all the time where the
+-- exchanges are honest
+pub record IsAudited (tells : Tells) (scan : Scan) (began ended : Outside) (path : List ℕ)
+    (found : PackagesFound) (audited : Audited) : Type 0 where
   pub text : List ℕ
   pub said : Says tells scan path (record { found = found; text = text })
   pub audit : IsAuditOf scan.auditor tells.wire tells.disk began.moment ended.moment text audited
   pub unasked : scan.auditor.checks ≢ Online → ended.moment.exchanges ≡ began.moment.exchanges
-  pub others : tells.disk → KeepsOthers (asked_by scan audited.lockfile) began.moment.files ended.moment.files
-  pub folders : tells.disk → MakesAskedFolders (asked_by scan audited.lockfile) began.folders ended.folders
-  pub kept : tells.wire → tells.disk → KeepsHonest began.moment.exchanges ended.moment.exchanges began.moment.files ended.moment.files
+  pub others : tells.disk → KeepsOthers
+      (asked_by scan audited.lockfile) began.moment.files ended.moment.files
+  pub folders : tells.disk → MakesAskedFolders
+      (asked_by scan audited.lockfile) began.folders ended.folders
+  pub kept : tells.wire → tells.disk
+      → StaysKept began.moment.exchanges ended.moment.exchanges began.moment.files
+      ended.moment.files
 
 -- what it says is no lockfile, for this reason
 abbrev pub IsUnlocked : Tells → Scan → List ℕ → BinaryFault → Type 0
-IsUnlocked tells scan path (fault.Lockfile f) = (f ≢ lockfile_fault.NoMemory) × (said : FoundText) × Says tells scan path said × (locked said.text ≡ Err f)
+IsUnlocked tells scan path (fault.Lockfile f) =
+    (f ≢ lockfile_fault.NoMemory) × (said : FoundText) × Says tells scan path said
+    × (locked said.text ≡ Err f)
 IsUnlocked tells scan path _ = ⊥
 
 -- why there is no audit
 abbrev pub IsReason : Tells → Scan → List ℕ → BinaryFault → Type 0
-IsReason tells scan path f = IsUnopened tells.files tells.decoder scan.limits (scan.host.stands path) scan.answers f ⊎ IsUnlocked tells scan path f
+IsReason tells scan path f =
+    IsUnopened tells.files tells.decoder scan.limits (scan.host.stands path) scan.answers f
+    ⊎ IsUnlocked tells scan path f
 
 -- wire and disk are as they were
 pub record IsUncalled (began ended : Outside) : Type 0 where
@@ -83,40 +97,51 @@ pub record IsUncalled (began ended : Outside) : Type 0 where
 
 -- an audit, or the reason why there is none, and then nothing was called
 abbrev pub IsAnswered : Tells → Scan → Outside → Outside → List ℕ → BinaryAnswer → Type 0
-IsAnswered tells scan began ended path (answer.Audited found audited) = IsAudited tells scan began ended path found audited
-IsAnswered tells scan began ended path (answer.Refused f) = IsReason tells scan path f × IsUncalled began ended
+IsAnswered tells scan began ended path (answer.Audited found audited) =
+    IsAudited tells scan began ended path found audited
+IsAnswered tells scan began ended path (answer.Refused f) =
+    IsReason tells scan path f × IsUncalled began ended
 
 abbrev pub failed_by : List ℕ → BinaryAnswer → List FailedCall
 failed_by path (answer.Audited found audited) = []
 failed_by path (answer.Refused f) = failed_reads path f
 
--- the counts of files and decoder never fall; a file that couldn't be read raised the one, and is told, and a failed decoding raised the other
-pub record IsCounted (tells : Tells) (began ended : Outside) (path : List ℕ) (a : BinaryAnswer) : Type 0 where
+-- the counts of files and decoder never fall; a file that couldn't be read raised the one, and is
+-- told, and a failed decoding raised the other
+pub record IsCounted (tells : Tells) (began ended : Outside) (path : List ℕ)
+    (a : BinaryAnswer) : Type 0 where
   pub files : began.file_faults ≤ ended.file_faults
   pub decoder : began.decode_faults ≤ ended.decode_faults
-  pub file : a ≡ answer.Refused fault.File → Rose began.file_faults ended.file_faults
-  pub decode : a ≡ answer.Refused fault.Decode → Rose began.decode_faults ended.decode_faults
+  pub file : a ≡ answer.Refused fault.File → CountRose began.file_faults ended.file_faults
+  pub decode : a ≡ answer.Refused fault.Decode → CountRose began.decode_faults ended.decode_faults
   pub failed : tells.files → ended.failed ≡ began.failed ++ failed_by path a
 
-pub record IsBinary (tells : Tells) (scan : Scan) (began ended : Outside) (path : List ℕ) (a : BinaryAnswer) : Type 0 where
+pub record IsBinary (tells : Tells) (scan : Scan) (began ended : Outside) (path : List ℕ)
+    (a : BinaryAnswer) : Type 0 where
   pub answered : IsAnswered tells scan began ended path a
   pub counted : IsCounted tells began ended path a
 
 -- ---- one in which memory ran out
 
--- a part of the audit of these packages: a part of its paths was asked for, from the front, and no other file changed
-pub record IsPart (tells : Tells) (scan : Scan) (began ended : Outside) (packages : List Package) : Type 0 where
-  pub asked : tells.wire → AddsPart (asked_by scan packages) began.moment.exchanges ended.moment.exchanges
-  pub others : tells.disk → KeepsOthers (asked_by scan packages) began.moment.files ended.moment.files
+-- a part of the audit of these packages: a part of its paths was asked for, from the front, and no
+-- other file changed
+pub record IsPart (tells : Tells) (scan : Scan) (began ended : Outside)
+    (packages : List Package) : Type 0 where
+  pub asked : tells.wire → AddsPart
+      (asked_by scan packages) began.moment.exchanges ended.moment.exchanges
+  pub others : tells.disk → KeepsOthers
+      (asked_by scan packages) began.moment.files ended.moment.files
   pub folders : tells.disk → MakesAskedFolders (asked_by scan packages) began.folders ended.folders
 
 -- wire and disk are as they were, or what the binary says was audited in part
 abbrev pub IsBegun : Tells → Scan → Outside → Outside → List ℕ → Type 0
 IsBegun tells scan began ended path =
     IsUncalled began ended
-    ⊎ ((said : FoundText) × (packages : List Package) × Says tells scan path said × (locked said.text ≡ Ok packages) × IsPart tells scan began ended packages)
+    ⊎ ((said : FoundText) × (packages : List Package) × Says tells scan path said
+    × (locked said.text ≡ Ok packages) × IsPart tells scan began ended packages)
 
-pub record IsCutOff (tells : Tells) (scan : Scan) (began ended : Outside) (path : List ℕ) : Type 0 where
+pub record IsCutOff (tells : Tells) (scan : Scan) (began ended : Outside)
+    (path : List ℕ) : Type 0 where
   pub files : began.file_faults ≤ ended.file_faults
   pub decoder : began.decode_faults ≤ ended.decode_faults
   pub failed : tells.files → ended.failed ≡ began.failed
@@ -125,21 +150,26 @@ pub record IsCutOff (tells : Tells) (scan : Scan) (began ended : Outside) (path 
 -- ---- one after the other
 
 -- one answer for each path, in their order, each from the moment where the one before ended
-abbrev pub AreBinaries : Tells → Scan → Outside → Outside → List (List ℕ) → List BinaryAnswer → Type 0
+abbrev pub AreBinaries : Tells → Scan → Outside → Outside → List (List ℕ) → List BinaryAnswer
+    → Type 0
 AreBinaries tells scan began ended [] [] = ended ≡ began
 AreBinaries tells scan began ended (path ∷ paths) (a ∷ answers) =
-    (mid : Outside) × IsBinary tells scan began mid path a × AreBinaries tells scan mid ended paths answers
+    (mid : Outside) × IsBinary tells scan began mid path a
+    × AreBinaries tells scan mid ended paths answers
 AreBinaries tells scan began ended _ _ = ⊥
 
 -- nothing more was done, or the next one was begun
 abbrev pub IsNextBegun : Tells → Scan → Outside → Outside → List (List ℕ) → Type 0
 IsNextBegun tells scan began ended [] = ended ≡ began
-IsNextBegun tells scan began ended (path ∷ paths) = (ended ≡ began) ⊎ IsCutOff tells scan began ended path
+IsNextBegun tells scan began ended (path ∷ paths) =
+    (ended ≡ began) ⊎ IsCutOff tells scan began ended path
 
 -- a part of the paths was answered, from the front, and the next one may have been begun
 abbrev pub ArePartly : Tells → Scan → Outside → Outside → List (List ℕ) → Type 0
 ArePartly tells scan began ended paths =
-    (k : ℕ) × (answers : List BinaryAnswer) × (mid : Outside) × AreBinaries tells scan began mid (take k paths) answers × IsNextBegun tells scan mid ended (drop k paths)
+    (k : ℕ) × (answers : List BinaryAnswer) × (mid : Outside)
+    × AreBinaries tells scan began mid (take k paths) answers
+    × IsNextBegun tells scan mid ended (drop k paths)
 
 -- ---- where all tell what they have
 
@@ -157,5 +187,7 @@ said_at scan path = said_of scan (bytes_at scan.limits.binary (scan.host.stands 
 -- the answer is the audit of what is said, or why there is none
 abbrev pub IsExactly : Result FoundText BinaryFault → BinaryAnswer → Type 0
 IsExactly (Err f) a = a ≡ answer.Refused f
-IsExactly (Ok said) (answer.Audited found audited) = (found ≡ said.found) × (locked said.text ≡ Ok audited.lockfile)
-IsExactly (Ok said) (answer.Refused f) = (x : LockfileFault) × (f ≡ fault.Lockfile x) × (locked said.text ≡ Err x)
+IsExactly (Ok said) (answer.Audited found audited) =
+    (found ≡ said.found) × (locked said.text ≡ Ok audited.lockfile)
+IsExactly (Ok said) (answer.Refused f) =
+    (x : LockfileFault) × (f ≡ fault.Lockfile x) × (locked said.text ≡ Err x)

@@ -1,7 +1,7 @@
 -- What a decoder makes of the bytes of a binary (this project).
 use Rattle.std.specs.Prelude.{◌≡◌, ◌≤◌, ℕ, List, length, nat_lt, Option, Some, None, if◌then◌else◌, Result, Ok, Err}
 use Rattle.std.specs.Str.{is_utf8}
-use Rattle.tame_names.specs.Counts.{Rose}
+use Rattle.tame_names.specs.Counts.{CountRose}
 use Rattle.audit_binaries.specs.Payloads.{payload_of}
 use Rattle.audit_binaries.specs.declared.decoders.DecodeFault.{DecodeFault}
 use Rattle.audit_binaries.specs.declared.decoders.DecodeFault.TheVariants as fault
@@ -15,8 +15,8 @@ abbrev pub Answer : Type 0
 Answer = Result Decoded ℕ
 
 -- one answer for each bytes and limit
-abbrev pub Answers : Type 0
-Answers = List ℕ → ℕ → Answer
+abbrev pub DecoderAnswers : Type 0
+DecoderAnswers = List ℕ → ℕ → Answer
 
 -- a call gives the answer; a fault and want of memory tell nothing of it
 abbrev pub Decodes : Answer → Result Decoded DecodeFault → Type 0
@@ -28,7 +28,7 @@ Decodes answer (Err fault.NoMemory) = Unit {0}
 -- the count never falls, and a call that failed raised it; an answer over the limit is no fault
 pub record HasDecodeCause (before now : ℕ) (result : Result Decoded DecodeFault) : Type 0 where
   pub later : before ≤ now
-  pub failed : result ≡ Err fault.Failed → Rose before now
+  pub failed : result ≡ Err fault.Failed → CountRose before now
 
 -- ---- the answers by payloads
 
@@ -38,8 +38,9 @@ text_answer payload = if is_utf8 payload then Ok (Complete payload) else Ok Noth
 
 abbrev pub payload_answer : ℕ → Option (List ℕ) → Answer
 payload_answer limit None = Ok Nothing
-payload_answer limit (Some payload) = if nat_lt limit (length payload) then Err (length payload) else text_answer payload
+payload_answer limit (Some payload) =
+    if nat_lt limit (length payload) then Err (length payload) else text_answer payload
 
 -- by the payload of the bytes: nothing without one, how long it is where it is over the limit
-abbrev pub plain_answer : Answers
+abbrev pub plain_answer : DecoderAnswers
 plain_answer bytes limit = payload_answer limit (payload_of bytes)

@@ -1,12 +1,13 @@
--- What a binary says: the text that a decoder makes of the bytes at a path (this project, after cargo-audit).
+-- What a binary says: the text that a decoder makes of the bytes at a path (this project, after
+-- cargo-audit).
 use Rattle.std.specs.Prelude.{◌≡◌, ◌<◌, ◌⊎◌, ℕ, List, [], ◌∷◌, length, nat_lt, Some, if◌then◌else◌, Result, Ok, Err}
 use Rattle.tame_names.specs.Standing.{Standing, Nothing, File, Folder, Other}
 use Rattle.tame_names.specs.declared.host.FailedCall.{FailedCall}
 use Rattle.tame_names.specs.declared.host.FileCall.TheVariants as file_call
-use Rattle.audit_binaries.specs.Decoding.{Answer, Answers}
+use Rattle.audit_binaries.specs.Decoding.{Answer, DecoderAnswers}
 use Rattle.audit_binaries.specs.declared.answers.BinaryFault.{BinaryFault}
 use Rattle.audit_binaries.specs.declared.answers.BinaryFault.TheVariants as fault
-use Rattle.audit_binaries.specs.declared.answers.Found2.TheVariants as found
+use Rattle.audit_binaries.specs.declared.answers.PackagesFound.TheVariants as found
 use Rattle.audit_binaries.specs.declared.decoders.Decoded.TheVariants as decoded
 use Rattle.audit_binaries.specs.declared.limits.BinaryLimits.{BinaryLimits}
 use Rattle.audit_binaries.specs.declared.opening.FoundText.{FoundText}
@@ -18,11 +19,13 @@ use Rattle.audit_binaries.specs.declared.opening.Unopened.TheVariants.{Refused, 
 -- the bytes of what stands at a path, or why there are none
 abbrev pub bytes_at : ℕ → Standing → Result (List ℕ) BinaryFault
 bytes_at limit Nothing = Err fault.Missing
-bytes_at limit (File bytes) = if nat_lt limit (length bytes) then Err (fault.TooLarge (length bytes)) else Ok bytes
+bytes_at limit (File bytes) =
+    if nat_lt limit (length bytes) then Err (fault.TooLarge (length bytes)) else Ok bytes
 bytes_at limit (Folder entries) = Err fault.File
 bytes_at limit Other = Err fault.File
 
--- the text of a lockfile that a decoder answers, and whether it is of all packages; or why there is none
+-- the text of a lockfile that a decoder answers, and whether it is of all packages; or why there is
+-- none
 abbrev pub text_of : Answer → Result FoundText BinaryFault
 text_of (Ok (decoded.Complete text)) = Ok (record { found = found.Complete; text = text })
 text_of (Ok (decoded.Incomplete text)) = Ok (record { found = found.Incomplete; text = text })
@@ -40,31 +43,38 @@ abbrev pub IsSaid : Type 0 → Answer → Result FoundText BinaryFault → Type 
 IsSaid told answer said = told → text_of answer ≡ said
 
 -- the bytes at the path say this
-abbrev pub IsOpened : Type 0 → Type 0 → BinaryLimits → Standing → Answers → FoundText → Type 0
+abbrev pub IsOpened : Type 0 → Type 0 → BinaryLimits → Standing → DecoderAnswers → FoundText
+    → Type 0
 IsOpened files_tell decoder_tells limits standing answers said =
-    (bytes : List ℕ) × IsRead files_tell limits.binary standing bytes × IsSaid decoder_tells (answers bytes limits.payload) (Ok said)
+    (bytes : List ℕ) × IsRead files_tell limits.binary standing bytes
+    × IsSaid decoder_tells (answers bytes limits.payload) (Ok said)
 
 -- ---- why there is none
 
 -- as the file has it: nothing is there, or it is too large; that a read failed is told by its count
 abbrev pub IsUnread : Type 0 → ℕ → Standing → BinaryFault → Type 0
 IsUnread told limit standing fault.Missing = told → bytes_at limit standing ≡ Err fault.Missing
-IsUnread told limit standing (fault.TooLarge n) = (limit < n) × (told → bytes_at limit standing ≡ Err (fault.TooLarge n))
+IsUnread told limit standing (fault.TooLarge n) =
+    (limit < n) × (told → bytes_at limit standing ≡ Err (fault.TooLarge n))
 IsUnread told limit standing fault.File = Unit {0}
 IsUnread told limit standing _ = ⊥
 
--- as the decoder's answer has it: it is over the limit, or says nothing; that decoding failed is told by its count
+-- as the decoder's answer has it: it is over the limit, or says nothing; that decoding failed is
+-- told by its count
 abbrev pub IsUnsaid : Type 0 → ℕ → Answer → BinaryFault → Type 0
-IsUnsaid told limit answer (fault.PayloadOver n) = (limit < n) × IsSaid told answer (Err (fault.PayloadOver n))
+IsUnsaid told limit answer (fault.PayloadOver n) =
+    (limit < n) × IsSaid told answer (Err (fault.PayloadOver n))
 IsUnsaid told limit answer fault.NoInformation = IsSaid told answer (Err fault.NoInformation)
 IsUnsaid told limit answer fault.Decode = Unit {0}
 IsUnsaid told limit answer _ = ⊥
 
 -- there are no bytes, or they say nothing
-abbrev pub IsUnopened : Type 0 → Type 0 → BinaryLimits → Standing → Answers → BinaryFault → Type 0
+abbrev pub IsUnopened : Type 0 → Type 0 → BinaryLimits → Standing → DecoderAnswers → BinaryFault
+    → Type 0
 IsUnopened files_tell decoder_tells limits standing answers f =
     IsUnread files_tell limits.binary standing f
-    ⊎ ((bytes : List ℕ) × IsRead files_tell limits.binary standing bytes × IsUnsaid decoder_tells limits.payload (answers bytes limits.payload) f)
+    ⊎ ((bytes : List ℕ) × IsRead files_tell limits.binary standing bytes
+    × IsUnsaid decoder_tells limits.payload (answers bytes limits.payload) f)
 
 -- want of memory needs no reason
 abbrev pub IfRefused : (BinaryFault → Type 0) → Unopened → Type 0

@@ -12,7 +12,8 @@ end_line = codes "#cargo-lock end"
 -- the lines in front of the first end line, where there is one
 abbrev pub before_end : List (List ℕ) → Option (List (List ℕ))
 before_end [] = None
-before_end (line ∷ lines) = if bytes_eq line end_line then Some [] else option_map (λ more. line ∷ more) (before_end lines)
+before_end (line ∷ lines) =
+    if bytes_eq line end_line then Some [] else option_map (λ more. line ∷ more) (before_end lines)
 
 -- the lines between the first begin line and the next end line, where there are both
 abbrev pub between : List (List ℕ) → Option (List (List ℕ))

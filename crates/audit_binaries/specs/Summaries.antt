@@ -1,15 +1,15 @@
 -- What the answers for binaries come to (this project, after cargo-audit).
-use Rattle.std.specs.Prelude.{◌≡◌, ◌≤◌, ◌+◌, ◌-◌, ◌^◌, ℕ, suc, min, List, [], ◌∷◌, ◌++◌, map, Bool, true, false, ◌||◌}
+use Rattle.std.specs.Prelude.{◌≡◌, ℕ, suc, List, [], ◌∷◌, ◌++◌, map, Bool, true, false, ◌||◌}
 use Rattle.std.specs.List.{list_any}
 use Rattle.audit_advisory.specs.Exits.{report_fails, self_fails}
 use Rattle.audit_advisory.specs.declared.outputs.DenyOption.{DenyOption}
-use Rattle.tame_entry.specs.Held.{ServerMap}
+use Rattle.tame_entry.specs.ServerMaps.{ServerMap}
 use Rattle.tame_cache.specs.Kept.{Disk, IsKept}
 use Rattle.tame_sparse.specs.Honest.{AreHonest}
 use Rattle.tame_sparse.specs.declared.network.Exchange.{Exchange}
 use Rattle.audit_core.specs.Checks.{asked_of, judged_of}
 use Rattle.audit_core.specs.Turns.{AreAddressed}
-use Rattle.audit_core.specs.Verdicts.{AreVerdicts, IsHeldAt}
+use Rattle.audit_core.specs.Verdicts.{AreVerdicts, IsVerdictByHeldAt}
 use Rattle.audit_core.specs.declared.asking.Turn.{Turn}
 use Rattle.audit_core.specs.declared.checking.Checks.{Checks}
 use Rattle.audit_binaries.specs.declared.answers.BinaryAnswer.{BinaryAnswer}
@@ -47,25 +47,32 @@ turns_in (Refused f ∷ answers) = turns_in answers
 -- the paths that the audits asked for, one after the other
 abbrev pub asked_in : Checks → List BinaryAnswer → List (List ℕ)
 asked_in checks [] = []
-asked_in checks (Audited found audited ∷ answers) = asked_of checks audited.lockfile ++ asked_in checks answers
+asked_in checks (Audited found audited ∷ answers) =
+    asked_of checks audited.lockfile ++ asked_in checks answers
 asked_in checks (Refused f ∷ answers) = asked_in checks answers
 
--- exactly these exchanges follow the list: one with the index for each of these paths, in their order
+-- exactly these exchanges follow the list: one with the index for each of these paths, in their
+-- order
 abbrev pub AddsAsked : List (List ℕ) → List Exchange → List Exchange → Type 0
-AddsAsked paths before now = (added : List Exchange) × (now ≡ before ++ added) × (map (λ e. e.path) added ≡ paths) × AreAddressed added
+AddsAsked paths before now =
+    (added : List Exchange) × (now ≡ before ++ added) × (map (λ e. e.path) added ≡ paths)
+    × AreAddressed added
 
--- of the exchanges that were added each audit has its own, in their order, and its verdicts are those of the table over what the server held when asked
+-- of the exchanges that were added each audit has its own, in their order, and its verdicts are
+-- those of the table over what the server held when asked
 abbrev pub AreHeld : Checks → List Exchange → List BinaryAnswer → Type 0
 AreHeld checks added [] = added ≡ []
 AreHeld checks added (Audited found audited ∷ answers) =
     (own : List Exchange) × (rest : List Exchange) × (added ≡ own ++ rest)
-    × AreVerdicts (IsHeldAt own audited.turns) (judged_of checks audited.lockfile) audited.verdicts × AreHeld checks rest answers
+    × AreVerdicts (IsVerdictByHeldAt own audited.turns) (judged_of checks audited.lockfile) audited.verdicts
+    × AreHeld checks rest answers
 AreHeld checks added (Refused f ∷ answers) = AreHeld checks added answers
 
 -- over an honest server, and a disk that is kept for what it held
 abbrev pub AllHeld : Checks → List Exchange → List Exchange → Disk → List BinaryAnswer → Type 0
 AllHeld checks before now disk answers =
-    (m : ServerMap) (added : List Exchange) → now ≡ before ++ added → AreHonest m added → IsKept m [] disk → AreHeld checks added answers
+    (m : ServerMap) (added : List Exchange) → now ≡ before ++ added → AreHonest m added
+    → IsKept m [] disk → AreHeld checks added answers
 
 -- nothing was audited
 abbrev pub AreRefused : List BinaryAnswer → Type 0
@@ -94,7 +101,3 @@ abbrev pub decodes_failed : List BinaryAnswer → ℕ
 decodes_failed [] = 0
 decodes_failed (Audited found audited ∷ answers) = decodes_failed answers
 decodes_failed (Refused f ∷ answers) = with_if_decode f (decodes_failed answers)
-
--- a count rose by this much, or stands at its end
-abbrev pub RoseBy : ℕ → ℕ → ℕ → Type 0
-RoseBy number before now = min (before + number) (2 ^ 64 - 1) ≤ now

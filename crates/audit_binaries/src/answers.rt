@@ -5,7 +5,7 @@ use tame_names::Items;
 
 /// How much a binary says of the packages that it was built from.
 #[derive(Clone, Copy, Debug, PartialEq, Eq)]
-pub enum Found2 {
+pub enum PackagesFound {
     Complete,
     Incomplete,
 }
@@ -33,7 +33,7 @@ pub enum BinaryFault {
 #[derive(Drop)]
 pub enum BinaryAnswer {
     /// The audit of what it says.
-    Audited(Found2, Audited),
+    Audited(PackagesFound, Audited),
     /// Why there is none.
     Refused(BinaryFault),
 }

@@ -2,10 +2,11 @@
 ghost use Rattle.std.specs.Prelude.{◌≡◌, ◌≢◌, ℕ, List, IfOk, IfErr, Ok, Err};
 ghost use Rattle.audit_core.specs.Auditors.{self_advisories};
 ghost use Rattle.audit_core.specs.Audits.{AreTurns, KeepsOthers, MakesAskedFolders};
-ghost use Rattle.audit_core.specs.Turns.{KeepsHonest};
+ghost use Rattle.audit_core.specs.Turns.{StaysKept};
 ghost use Rattle.audit_core.specs.declared.checking.Checks.TheVariants as Checks;
 ghost use Rattle.audit_binaries.specs.Binaries.{AreBinaries, ArePartly, IsBinary, IsCutOff};
-ghost use Rattle.audit_binaries.specs.Summaries.{AddsAsked, AllHeld, AreRefused, RoseBy, asked_in, decodes_failed, files_failed, summary_of, turns_in};
+ghost use Rattle.tame_names.specs.Counts.{CountRoseBy};
+ghost use Rattle.audit_binaries.specs.Summaries.{AddsAsked, AllHeld, AreRefused, asked_in, decodes_failed, files_failed, summary_of, turns_in};
 
 use crate::answers::{BinariesAudit, BinaryAnswer, BinaryFault};
 use crate::decoders::Decoder;
@@ -108,7 +109,7 @@ pub fn audit_binary<F: Files, P: Decoder, W: Wire, D: CacheDisk>(
     ensures files_same { F.tells → F.host files.new ≡ F.host files.old }
     ensures decoder_same { P.tells → (other : List ℕ) (bound : ℕ)
         → P.answers decoder.new other bound ≡ P.answers decoder.old other bound }
-    ensures kept { W.tells → D.tells → KeepsHonest (W.exchanges wire.old) (W.exchanges wire.new)
+    ensures kept { W.tells → D.tells → StaysKept (W.exchanges wire.old) (W.exchanges wire.new)
         (D.past disk.old) (D.past disk.new) }
     ensures refused { (f : BinaryFault) → result ≡ Ok (BinaryAnswer.Refused f)
         → (wire.new ≡ wire.old) × (disk.new ≡ disk.old) }
@@ -214,7 +215,7 @@ fn audit_each<F: Files, P: Decoder, W: Wire, D: CacheDisk>(
     ensures files_same { F.tells → F.host files.new ≡ F.host files.old }
     ensures decoder_same { P.tells → (other : List ℕ) (bound : ℕ)
         → P.answers decoder.new other bound ≡ P.answers decoder.old other bound }
-    ensures kept { W.tells → D.tells → KeepsHonest (W.exchanges wire.old) (W.exchanges wire.new)
+    ensures kept { W.tells → D.tells → StaysKept (W.exchanges wire.old) (W.exchanges wire.new)
         (D.past disk.old) (D.past disk.new) }
     ensures refused { IfOk result (λ answers. AreRefused answers
         → (wire.new ≡ wire.old) × (disk.new ≡ disk.old)) }
@@ -314,9 +315,9 @@ pub fn audit_binaries<F: Files, P: Decoder, W: Wire, D: CacheDisk>(
         MakesAskedFolders (asked_in auditor.now.checks b.answers)
         (D.folders disk.old) (D.folders disk.new)) }
     ensures files_failed { IfOk result (λ b.
-        RoseBy (files_failed b.answers) (F.faults files.old) (F.faults files.new)) }
+        CountRoseBy (files_failed b.answers) (F.faults files.old) (F.faults files.new)) }
     ensures decodes_failed { IfOk result (λ b.
-        RoseBy (decodes_failed b.answers) (P.faults decoder.old) (P.faults decoder.new)) }
+        CountRoseBy (decodes_failed b.answers) (P.faults decoder.old) (P.faults decoder.new)) }
     ensures refused { IfOk result (λ b. AreRefused b.answers
         → (wire.new ≡ wire.old) × (disk.new ≡ disk.old)) }
 
@@ -359,7 +360,7 @@ pub fn audit_binaries<F: Files, P: Decoder, W: Wire, D: CacheDisk>(
     ensures files_same { F.tells → F.host files.new ≡ F.host files.old }
     ensures decoder_same { P.tells → (other : List ℕ) (bound : ℕ)
         → P.answers decoder.new other bound ≡ P.answers decoder.old other bound }
-    ensures kept { W.tells → D.tells → KeepsHonest (W.exchanges wire.old) (W.exchanges wire.new)
+    ensures kept { W.tells → D.tells → StaysKept (W.exchanges wire.old) (W.exchanges wire.new)
         (D.past disk.old) (D.past disk.new) }
     ensures unasked { auditor.now.checks ≢ Checks.Online → wire.new ≡ wire.old }
     ensures unchanged { auditor.now.checks ≢ Checks.Online → D.tells

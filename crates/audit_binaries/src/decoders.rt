@@ -1,6 +1,6 @@
 //! What makes a lockfile's text of the bytes of a binary.
 ghost use Rattle.std.specs.Prelude.{◌≡◌, ◌<◌, ℕ, List, Result, Err};
-ghost use Rattle.audit_binaries.specs.Decoding.{Answers, Decodes, HasDecodeCause};
+ghost use Rattle.audit_binaries.specs.Decoding.{DecoderAnswers, Decodes, HasDecodeCause};
 
 use std::alloc::Global;
 use tame_names::{NoMemory, Text};
@@ -38,13 +38,13 @@ impl From<NoMemory> for DecodeFault {
 
 /// What decodes binaries: one answer for each bytes and limit, which no call changes.
 pub trait Decoder {
-    ghost use Rattle.audit_binaries.specs.Decoding.{Answers, Decodes, HasDecodeCause};
+    ghost use Rattle.audit_binaries.specs.Decoding.{DecoderAnswers, Decodes, HasDecodeCause};
 
     /// That it tells its answers.
     ghost tells: { Type 0 };
 
     /// Its answer for each bytes and limit, where it tells it.
-    ghost answers: { Self → Answers };
+    ghost answers: { Self → DecoderAnswers };
 
     /// How often a call has failed.
     ghost faults: { Self → ℕ };

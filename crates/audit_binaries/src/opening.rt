@@ -1,9 +1,9 @@
 //! What a binary at a path of the host says.
 ghost use Rattle.std.specs.Prelude.{◌≡◌, ◌≢◌, ◌≤◌, ◌++◌, ◌∷◌, [], ◌⊎◌, ℕ, List, Ok, Err, IfOk, IfErr, Some};
-ghost use Rattle.tame_names.specs.Counts.{Rose};
+ghost use Rattle.tame_names.specs.Counts.{CountRose};
 ghost use Rattle.audit_binaries.specs.Opened.{IfRefused, IsOpened, IsRead, IsSaid, IsUnopened, IsUnread, IsUnsaid, bytes_at, failed_reads};
 
-use crate::answers::{BinaryFault, Found2};
+use crate::answers::{BinaryFault, PackagesFound};
 use crate::decoders::{DecodeFault, Decoded, Decoder};
 use crate::limits::BinaryLimits;
 use std::alloc::Global;
@@ -12,7 +12,7 @@ use tame_names::{FileFault, Files, NoMemory, ReadAnswer, Text};
 /// The text of a lockfile that a binary says, and whether it is of all packages.
 #[derive(Drop)]
 pub struct FoundText {
-    pub found: Found2,
+    pub found: PackagesFound,
     pub text: Text,
 }
 
@@ -36,7 +36,7 @@ fn read_binary<F: Files>(
         (IsUnread F.tells limit ((F.host files.old).stands path.now))) }
     ensures later { F.faults files.old ≤ F.faults files.new }
     ensures rose { result ≡ Err (Unopened.Refused BinaryFault.File)
-        → Rose (F.faults files.old) (F.faults files.new) }
+        → CountRose (F.faults files.old) (F.faults files.new) }
     ensures failed { F.tells → IfErr result (IfRefused (λ f.
         F.failed files.new ≡ F.failed files.old ++ failed_reads path.now f)) }
     ensures unfailed { F.tells → IfOk result (λ _. F.failed files.new ≡ F.failed files.old) }
@@ -66,17 +66,17 @@ fn decode_binary<P: Decoder>(
         (IsUnsaid P.tells limit (P.answers decoder.old bytes.now limit))) }
     ensures later { P.faults decoder.old ≤ P.faults decoder.new }
     ensures rose { result ≡ Err (Unopened.Refused BinaryFault.Decode)
-        → Rose (P.faults decoder.old) (P.faults decoder.new) }
+        → CountRose (P.faults decoder.old) (P.faults decoder.new) }
     ensures same { P.tells → (other : List ℕ) (bound : ℕ)
         → P.answers decoder.new other bound ≡ P.answers decoder.old other bound }
 {
     match decoder.decode(alloc, bytes, limit) {
         Ok(Decoded::Complete(text)) => Ok(FoundText {
-            found: Found2::Complete,
+            found: PackagesFound::Complete,
             text,
         }),
         Ok(Decoded::Incomplete(text)) => Ok(FoundText {
-            found: Found2::Incomplete,
+            found: PackagesFound::Incomplete,
             text,
         }),
         Ok(Decoded::Nothing) => Err(Unopened::Refused(BinaryFault::NoInformation)),
@@ -101,9 +101,9 @@ pub(crate) fn open_binary<F: Files, P: Decoder>(
     ensures files_later { F.faults files.old ≤ F.faults files.new }
     ensures decoder_later { P.faults decoder.old ≤ P.faults decoder.new }
     ensures file { result ≡ Err (Unopened.Refused BinaryFault.File)
-        → Rose (F.faults files.old) (F.faults files.new) }
+        → CountRose (F.faults files.old) (F.faults files.new) }
     ensures decode { result ≡ Err (Unopened.Refused BinaryFault.Decode)
-        → Rose (P.faults decoder.old) (P.faults decoder.new) }
+        → CountRose (P.faults decoder.old) (P.faults decoder.new) }
     ensures failed { F.tells → IfErr result (IfRefused (λ f.
         F.failed files.new ≡ F.failed files.old ++ failed_reads path.now f)) }
     ensures unfailed { F.tells → IfOk result (λ _. F.failed files.new ≡ F.failed files.old) }

@@ -1,7 +1,8 @@
 //! The payload of bytes: what stands between two lines.
 ghost use Rattle.std.specs.Prelude.{◌≡◌, ◌≢◌, ◌<◌, ℕ, List, [], ◌∷◌, ◌++◌, length, option_map, option_and_then};
 ghost use Rattle.tame_names.specs.Pieces.{pieces};
-ghost use Rattle.audit_binaries.specs.Payloads.{before_end, between, payload_of, with_newlines};
+ghost use Rattle.audit_binaries.specs.Payloads.{between, with_newlines};
+ghost use Rattle.audit_binaries.specs.Payloads as spec;
 
 use memchr::memchr;
 
@@ -22,7 +23,7 @@ fn first_line(bytes: &[u8]) -> (&[u8], &[u8])
 
 /// What stands behind the first begin line.
 fn behind_begin(bytes: &[u8]) -> Option<&[u8]>
-    ensures { option_and_then (λ rest. before_end (pieces 10 rest.now)) result
+    ensures { option_and_then (λ rest. spec.before_end (pieces 10 rest.now)) result
         ≡ between (pieces 10 bytes.now) }
 {
     let mut left = bytes;
@@ -39,7 +40,7 @@ fn behind_begin(bytes: &[u8]) -> Option<&[u8]>
 /// What stands in front of the first end line.
 fn before_end(bytes: &[u8]) -> Option<&[u8]>
     ensures { option_map (λ front. front.now) result
-        ≡ option_map with_newlines (before_end (pieces 10 bytes.now)) }
+        ≡ option_map with_newlines (spec.before_end (pieces 10 bytes.now)) }
 {
     let mut left = bytes;
     while !left.is_empty() {
@@ -56,7 +57,7 @@ fn before_end(bytes: &[u8]) -> Option<&[u8]>
 /// behind the newline of the one up to the first byte of the other; nothing without both lines. A
 /// carriage return belongs to its line.
 pub fn payload_of(bytes: &[u8]) -> Option<&[u8]>
-    ensures { option_map (λ payload. payload.now) result ≡ payload_of bytes.now }
+    ensures { option_map (λ payload. payload.now) result ≡ spec.payload_of bytes.now }
 {
     match behind_begin(bytes) {
         Some(rest) => before_end(rest),

@@ -1,6 +1,7 @@
 //! The decoder that needs nothing outside: by the payload between two lines.
 ghost use Rattle.std.specs.Prelude.{◌≡◌, ◌<◌, ◌≢◌, ◌⊎◌, ℕ, List, Ok, Err, ⊤, IfOk, IfErr};
-ghost use Rattle.audit_binaries.specs.Decoding.{Decodes, HasDecodeCause, plain_answer};
+ghost use Rattle.audit_binaries.specs.Decoding.{Decodes, HasDecodeCause};
+ghost use Rattle.audit_binaries.specs.Decoding as spec;
 
 use crate::decoders::{DecodeFault, Decoded, Decoder};
 use crate::payloads::payload_of;
@@ -9,7 +10,7 @@ use tame_names::{Text, utf8_text};
 
 /// What bytes say by their payload, where this has no more than `limit` bytes.
 pub(crate) fn plain_answer(alloc: Global, bytes: &[u8], limit: u64) -> Result<Decoded, DecodeFault>
-    ensures answer { Decodes (plain_answer bytes.now limit) result }
+    ensures answer { Decodes (spec.plain_answer bytes.now limit) result }
     ensures above { (n : ℕ) → result ≡ Err (DecodeFault.Over n) → limit < n }
     ensures no_fault { result ≢ Err DecodeFault.Failed }
 {
@@ -34,7 +35,7 @@ pub struct PlainDecoder;
 impl Decoder for PlainDecoder {
     ghost tells = { ⊤ };
 
-    ghost answers = { λ _. plain_answer };
+    ghost answers = { λ _. spec.plain_answer };
 
     ghost faults = { λ _. 0 };
 
@@ -45,7 +46,7 @@ impl Decoder for PlainDecoder {
     fn decode(&mut self, alloc: Global, bytes: &[u8], limit: u64) -> Result<Decoded, DecodeFault>
         ensures cause { HasDecodeCause 0 0 result }
         ensures above { (n : ℕ) → result ≡ Err (DecodeFault.Over n) → limit < n }
-        ensures answer { Decodes (plain_answer bytes.now limit) result }
+        ensures answer { Decodes (spec.plain_answer bytes.now limit) result }
         ensures no_fault { result ≢ Err DecodeFault.Failed }
     {
         plain_answer(alloc, bytes, limit)

@@ -1,14 +1,15 @@
 //! What the answers for binaries come to.
 ghost use Rattle.std.specs.Prelude.{◌≡◌};
 ghost use Rattle.std.specs.List.{list_any};
-ghost use Rattle.audit_binaries.specs.Summaries.{is_found, is_refused, summary_of};
+ghost use Rattle.audit_binaries.specs.Summaries.{is_refused};
+ghost use Rattle.audit_binaries.specs.Summaries as spec;
 
 use crate::answers::{BinaryAnswer, MultiFileReportSummary};
 use audit_advisory::{DenyOption, report_fails, self_fails};
 
 /// Whether an audit of a binary fails by its report.
 fn is_found(deny: &[DenyOption], answer: &BinaryAnswer) -> bool
-    ensures { result ≡ is_found deny.now answer.now }
+    ensures { result ≡ spec.is_found deny.now answer.now }
 {
     match answer {
         BinaryAnswer::Audited(_, audited) => report_fails(&audited.report, deny),
@@ -17,7 +18,7 @@ fn is_found(deny: &[DenyOption], answer: &BinaryAnswer) -> bool
 }
 
 fn has_found(deny: &[DenyOption], answers: &[BinaryAnswer]) -> bool
-    ensures { result ≡ list_any (is_found deny.now) answers.now }
+    ensures { result ≡ list_any (spec.is_found deny.now) answers.now }
 {
     for answer in answers {
         if is_found(deny, answer) {
@@ -45,7 +46,7 @@ pub(crate) fn summary_of(
     self_advisories: &[usize],
     answers: &[BinaryAnswer],
 ) -> MultiFileReportSummary
-    ensures { result ≡ summary_of deny.now self_advisories.now answers.now }
+    ensures { result ≡ spec.summary_of deny.now self_advisories.now answers.now }
 {
     MultiFileReportSummary {
         vulnerabilities_found: has_found(deny, answers),

@@ -1,14 +1,14 @@
 -- Audits over servers that held the same agree.
 use Rattle.std.proofs.Common.{◌≡◌, ◌⊎◌, inl, inr, ◌≤◌, ◌<◌, ℕ, List, [], ◌∷◌, ◌++◌, map, Bool, true, false, cond, Option, Some, None, Result, Ok, Err, IsTrue, refl, sym, ap, ◌∙◌, subst, arith}
 use Rattle.std.specs.Prelude.{IfSome, IsSomeAnd, bytes_eq, ◌-◌, ◌^◌}
-use Rattle.tame_names.specs.Counts.{IsQuiet, Rose}
+use Rattle.tame_names.specs.Counts.{CountStayed, CountRose}
 use Rattle.tame_names.specs.Names.{path}
 use Rattle.tame_records.specs.Lines.{lines}
 use Rattle.tame_entry.specs.Entry.{read_entry}
-use Rattle.tame_entry.specs.Held.{ServerMap, body_at}
+use Rattle.tame_entry.specs.ServerMaps.{ServerMap, body_at}
 use Rattle.tame_entry.specs.Lines.{plain, valid}
 use Rattle.tame_entry.specs.Revision.{EntryRevision, Http, Commit, Unknown, is_honest_text, revision_text}
-use Rattle.tame_entry.specs.Says.{heads_of}
+use Rattle.tame_entry.specs.VersionStatuses.{version_flags}
 use Rattle.tame_entry.specs.declared.revisions.OwnedRevision.{OwnedRevision}
 use Rattle.tame_entry.proofs.EntryLemmas.{plain_valid}
 use Rattle.tame_names.specs.declared.errors.CacheError.{CacheError}
@@ -27,10 +27,10 @@ use Rattle.audit_lock.specs.declared.resolving.Package.{Package}
 use Rattle.audit_core.specs.Alike.{AreAlike, AreAlikeAnswers, AreAllAlike, IsSoundAudit}
 use Rattle.audit_core.specs.Answers.{IsHeldAnswer, body_answer, by_status, held_answer, kept_held, sent_held}
 use Rattle.audit_core.specs.Auditors.{audit_exit, audit_report}
-use Rattle.audit_core.specs.Audits.{AreTurned, IsTurned, Moment}
+use Rattle.audit_core.specs.Audits.{TurnsNameAndLeave, TurnNamesAndLeaves, Moment}
 use Rattle.audit_core.specs.Checks.{judged_of}
 use Rattle.audit_core.specs.Turns.{Chains, index_file}
-use Rattle.audit_core.specs.Verdicts.{AreVerdicts, IsHeldAt, IsVerdict, exchange_of, turn_of, verdict_by}
+use Rattle.audit_core.specs.Verdicts.{AreVerdicts, IsVerdictByHeldAt, IsVerdictByHeld, exchange_of, turn_of, verdict_by}
 use Rattle.audit_core.specs.declared.answers.PathAnswer.{PathAnswer}
 use Rattle.audit_core.specs.declared.asking.Turn.{Turn}
 use Rattle.audit_core.specs.declared.auditing.Audited.{Audited}
@@ -88,7 +88,7 @@ abbrev AreConfirmed : List Exchange → Type 0
 AreConfirmed [] = Unit {0}
 AreConfirmed (e ∷ es) = IsConfirmed e.held e.answer × AreConfirmed es
 
-all_confirmed : (m : ServerMap) (old new : Disk) (es : List Exchange) (ts : List Turn) → AreTurned old new es ts → AreHonest m es → IsKept m [] old → AreConfirmed es
+all_confirmed : (m : ServerMap) (old new : Disk) (es : List Exchange) (ts : List Turn) → TurnsNameAndLeave old new es ts → AreHonest m es → IsKept m [] old → AreConfirmed es
 all_confirmed m old new [] ts turned honest kept = tt
 all_confirmed m old new (e ∷ es) [] turned honest kept = absurd turned
 all_confirmed m old new (e ∷ es) (t ∷ ts) turned honest kept =
@@ -140,7 +140,7 @@ found_alike q (e ∷ es) (f ∷ fs) alike confirmed =
 
 abbrev AreQuiet : List Turn → Type 0
 AreQuiet [] = Unit {0}
-AreQuiet (t ∷ ts) = (Rose t.disk_asked t.disk_after → ⊥) × AreQuiet ts
+AreQuiet (t ∷ ts) = (CountRose t.disk_asked t.disk_after → ⊥) × AreQuiet ts
 
 chain_grows : (wire disk : ℕ) (ts : List Turn) (last_wire last_disk : ℕ) → Chains wire disk ts last_wire last_disk → disk ≤ last_disk
 chain_grows wire disk [] last_wire last_disk h = let same = h.1 in omega (arith, same)
@@ -151,7 +151,7 @@ chain_grows wire disk (t ∷ ts) last_wire last_disk h =
     let c = h.4 in
     omega (arith, more, a, b, c)
 
-not_rose : (asked after last : ℕ) → asked ≤ after → after ≤ last → last ≤ asked → last < 2 ^ 64 - 1 → Rose asked after → ⊥
+not_rose : (asked after last : ℕ) → asked ≤ after → after ≤ last → last ≤ asked → last < 2 ^ 64 - 1 → CountRose asked after → ⊥
 not_rose asked after last a b c low rose = omega (arith, a, b, c, low, rose)
 
 chain_quiet : (wire disk : ℕ) (ts : List Turn) (last_wire last_disk : ℕ) → Chains wire disk ts last_wire last_disk → last_disk ≡ disk → disk < 2 ^ 64 - 1 → AreQuiet ts
@@ -167,17 +167,17 @@ chain_quiet wire disk (t ∷ ts) last_wire last_disk h same low =
     let below : t.disk_after < 2 ^ 64 - 1 = omega (arith, rest, end) in
     (not_rose t.disk_asked t.disk_after last_disk after more under end, chain_quiet t.wire_after t.disk_after ts last_wire last_disk h.5 rest below)
 
-turn_case : (b : Bool) (t u : Turn) (o : Option Turn) → (Rose t.disk_asked t.disk_after → ⊥) → (o ≡ Some u → Rose u.disk_asked u.disk_after → ⊥) → cond b (Some t) o ≡ Some u → Rose u.disk_asked u.disk_after → ⊥
-turn_case true t u o mine f is = let same : t ≡ u = cc in subst (λ (k : Turn). Rose k.disk_asked k.disk_after → ⊥) same mine
+turn_case : (b : Bool) (t u : Turn) (o : Option Turn) → (CountRose t.disk_asked t.disk_after → ⊥) → (o ≡ Some u → CountRose u.disk_asked u.disk_after → ⊥) → cond b (Some t) o ≡ Some u → CountRose u.disk_asked u.disk_after → ⊥
+turn_case true t u o mine f is = let same : t ≡ u = cc in subst (λ (k : Turn). CountRose k.disk_asked k.disk_after → ⊥) same mine
 turn_case false t u o mine f is = f is
 
-quiet_turn : (q : List ℕ) (ts : List Turn) (u : Turn) → AreQuiet ts → turn_of q ts ≡ Some u → Rose u.disk_asked u.disk_after → ⊥
+quiet_turn : (q : List ℕ) (ts : List Turn) (u : Turn) → AreQuiet ts → turn_of q ts ≡ Some u → CountRose u.disk_asked u.disk_after → ⊥
 quiet_turn q [] u quiet is = cc
 quiet_turn q (t ∷ ts) u quiet is = turn_case (bytes_eq t.path q) t u _ quiet.0 (quiet_turn q ts u quiet.1) is
 
 -- ---- one verdict
 
-held_verdict : (e : Exchange) (o : Option Turn) (version : List ℕ) (v : Verdict) → ((t : Turn) → o ≡ Some t → Rose t.disk_asked t.disk_after → ⊥) → IsSomeAnd o (λ t. IsVerdict e t version v) → v ≡ verdict_by (held_answer e.held e.answer) version
+held_verdict : (e : Exchange) (o : Option Turn) (version : List ℕ) (v : Verdict) → ((t : Turn) → o ≡ Some t → CountRose t.disk_asked t.disk_after → ⊥) → IsSomeAnd o (λ t. IsVerdictByHeld e t version v) → v ≡ verdict_by (held_answer e.held e.answer) version
 held_verdict e None version v quiet is = absurd is
 held_verdict e (Some t) version v quiet is = go is.0 is.1 is.2
   where
@@ -186,8 +186,8 @@ held_verdict e (Some t) version v quiet is = go is.0 is.1 is.2
     go a (inr store) is = absurd (quiet t refl store.1)
 
 found_verdict : (o p : Option Exchange) (t u : Option Turn) (version : List ℕ) (v w : Verdict) → AreFoundAlike o p
-    → ((x : Turn) → t ≡ Some x → Rose x.disk_asked x.disk_after → ⊥) → ((x : Turn) → u ≡ Some x → Rose x.disk_asked x.disk_after → ⊥)
-    → IsSomeAnd o (λ e. IsSomeAnd t (λ x. IsVerdict e x version v)) → IsSomeAnd p (λ f. IsSomeAnd u (λ x. IsVerdict f x version w)) → v ≡ w
+    → ((x : Turn) → t ≡ Some x → CountRose x.disk_asked x.disk_after → ⊥) → ((x : Turn) → u ≡ Some x → CountRose x.disk_asked x.disk_after → ⊥)
+    → IsSomeAnd o (λ e. IsSomeAnd t (λ x. IsVerdictByHeld e x version v)) → IsSomeAnd p (λ f. IsSomeAnd u (λ x. IsVerdictByHeld f x version w)) → v ≡ w
 found_verdict None p t u version v w alike quiet quiet_too is too = absurd is
 found_verdict (Some e) None t u version v w alike quiet quiet_too is too = absurd too
 found_verdict (Some e) (Some f) t u version v w alike quiet quiet_too is too =
@@ -196,14 +196,14 @@ found_verdict (Some e) (Some f) t u version v w alike quiet quiet_too is too =
     ∙ sym (held_verdict f u version w quiet_too too)
 
 one_verdict : (es fs : List Exchange) (ts us : List Turn) (version : List ℕ) (o : Option (List ℕ)) (v w : Verdict) → AreAllAlike es fs → AreConfirmed es → AreQuiet ts → AreQuiet us
-    → IsHeldAt es ts version o v → IsHeldAt fs us version o w → v ≡ w
+    → IsVerdictByHeldAt es ts version o v → IsVerdictByHeldAt fs us version o w → v ≡ w
 one_verdict es fs ts us version None v w alike confirmed quiet quiet_too is too = is ∙ sym too
 one_verdict es fs ts us version (Some q) v w alike confirmed quiet quiet_too is too =
     found_verdict (exchange_of q es) (exchange_of q fs) (turn_of q ts) (turn_of q us) version v w (found_alike q es fs alike confirmed)
     (λ x at. quiet_turn q ts x quiet at) (λ x at. quiet_turn q us x quiet_too at) is too
 
 all_same : (es fs : List Exchange) (ts us : List Turn) (ps : List (ℕ × Package)) (js ks : List Judged) → AreAllAlike es fs → AreConfirmed es → AreQuiet ts → AreQuiet us
-    → AreVerdicts (IsHeldAt es ts) ps js → AreVerdicts (IsHeldAt fs us) ps ks → js ≡ ks
+    → AreVerdicts (IsVerdictByHeldAt es ts) ps js → AreVerdicts (IsVerdictByHeldAt fs us) ps ks → js ≡ ks
 all_same es fs ts us [] [] [] alike confirmed quiet quiet_too h k = refl
 all_same es fs ts us [] [] (x ∷ ks) alike confirmed quiet quiet_too h k = absurd k
 all_same es fs ts us [] (j ∷ js) ks alike confirmed quiet quiet_too h k = absurd h
@@ -229,7 +229,7 @@ sound_confirmed auditor began ended added text a online s =
     subst AreConfirmed (sym same) (all_confirmed s.server began.files ended.files adds.0 a.turns (adds.2.turned tt) honest s.kept)
 
 sound_verdicts : (auditor : Auditor) (began ended : Moment) (added : List Exchange) (text : List ℕ) (a : Audited) → auditor.checks ≡ Online → IsSoundAudit auditor began ended added text a
-    → AreVerdicts (IsHeldAt added a.turns) (judged_of auditor.checks a.lockfile) a.verdicts
+    → AreVerdicts (IsVerdictByHeldAt added a.turns) (judged_of auditor.checks a.lockfile) a.verdicts
 sound_verdicts auditor began ended added text a online s = s.audit.says.headline online tt tt s.server added s.follow s.honest s.kept
 
 pub audits_agree : (auditor : Auditor) (text : List ℕ) (b e b2 e2 : Moment) (added added2 : List Exchange) (a a2 : Audited) → auditor.checks ≡ Online
@@ -237,7 +237,7 @@ pub audits_agree : (auditor : Auditor) (text : List ℕ) (b e b2 e2 : Moment) (a
     → (a.verdicts ≡ a2.verdicts) × (a.report ≡ a2.report) × (a.exit ≡ a2.exit)
 audits_agree auditor text b e b2 e2 added added2 a a2 online s s2 alike =
     let packages : a.lockfile ≡ a2.lockfile = let one = s.audit.lockfile in let two = s2.audit.lockfile in cc (one, two) in
-    let P : List Package → Type 0 = λ ps. AreVerdicts (IsHeldAt added2 a2.turns) (judged_of auditor.checks ps) a2.verdicts in
+    let P : List Package → Type 0 = λ ps. AreVerdicts (IsVerdictByHeldAt added2 a2.turns) (judged_of auditor.checks ps) a2.verdicts in
     let second = subst P (sym packages) (sound_verdicts auditor b2 e2 added2 text a2 online s2) in
     let verdicts : a.verdicts ≡ a2.verdicts = all_same added added2 a.turns a2.turns (judged_of auditor.checks a.lockfile) a.verdicts a2.verdicts alike
     (sound_confirmed auditor b e added text a online s) (sound_quiet auditor b e added text a s) (sound_quiet auditor b2 e2 added2 text a2 s2) (sound_verdicts auditor b e added text a online s) second in

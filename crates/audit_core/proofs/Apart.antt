@@ -8,13 +8,13 @@ use Rattle.tame_cache.proofs.KeptLemmas.{one_file}
 use Rattle.tame_sparse.specs.Named.{NamesKept}
 use Rattle.tame_sparse.specs.declared.network.Exchange.{Exchange}
 use Rattle.audit_core.specs.Answers.{IsAnswer, IsNotModified}
-use Rattle.audit_core.specs.Audits.{AreTurned}
+use Rattle.audit_core.specs.Audits.{TurnsNameAndLeave}
 use Rattle.audit_core.specs.Paths.{distinct_after, is_among}
-use Rattle.audit_core.specs.Turns.{LeavesFile, Turned, index_file}
-use Rattle.audit_core.specs.declared.asking.Heard.{Heard}
+use Rattle.audit_core.specs.Turns.{LeavesFile, TurnsInOrder, index_file}
+use Rattle.audit_core.specs.declared.asking.AnsweredTurn.{AnsweredTurn}
 use Rattle.audit_core.proofs.Lists.{bytes_same, cons_head, cons_tail, or_left, or_right, same_bytes}
 use Rattle.audit_core.proofs.Table.{or_cases}
-use Rattle.audit_core.proofs.TakenLemmas.{answer_moved}
+use Rattle.audit_core.proofs.ResultLemmas.{answer_moved}
 
 -- ---- distinct paths
 
@@ -67,7 +67,7 @@ abbrev Placed : List Exchange → Type 0
 Placed [] = Unit {0}
 Placed (e ∷ es) = IsIndexPath e.path × Placed es
 
-pub turned_placed : (told : Type 0) (old new : Disk) (es : List Exchange) (hs : List Heard) → Turned told old es hs new → Placed es
+pub turned_placed : (told : Type 0) (old new : Disk) (es : List Exchange) (hs : List AnsweredTurn) → TurnsInOrder told old es hs new → Placed es
 turned_placed told old new [] [] x = tt
 turned_placed told old new [] (h ∷ hs) x = absurd x
 turned_placed told old new (e ∷ es) [] x = absurd x
@@ -94,7 +94,7 @@ all_apart (x ∷ ps) (e ∷ es) placed is distinct =
 pub asked_distinct : (qs : List (List ℕ)) → Distinct (distinct_after [] qs)
 asked_distinct qs = (apart [] qs).distinct
 
-pub asked_apart : (told : Type 0) (old new : Disk) (es : List Exchange) (hs : List Heard) (ps : List (List ℕ)) → Turned told old es hs new → map (λ (e : Exchange). e.path) es ≡ ps → Distinct ps → Apart es
+pub asked_apart : (told : Type 0) (old new : Disk) (es : List Exchange) (hs : List AnsweredTurn) (ps : List (List ℕ)) → TurnsInOrder told old es hs new → map (λ (e : Exchange). e.path) es ≡ ps → Distinct ps → Apart es
 asked_apart told old new es hs ps x is distinct = all_apart ps es (turned_placed told old new es hs x) is distinct
 
 -- no file of another path changes
@@ -110,26 +110,26 @@ avoids_asked q (x ∷ ps) (e ∷ es) is other =
 
 -- ---- what the turns leave
 
-pub turned_others : (told : Type 0) (t : told) (old new : Disk) (q : List ℕ) (es : List Exchange) (hs : List Heard) → Turned told old es hs new → Avoids q es → new q ≡ old q
+pub turned_others : (told : Type 0) (t : told) (old new : Disk) (q : List ℕ) (es : List Exchange) (hs : List AnsweredTurn) → TurnsInOrder told old es hs new → Avoids q es → new q ≡ old q
 turned_others told t old new q [] [] x other = x t q
 turned_others told t old new q [] (h ∷ hs) x other = absurd x
 turned_others told t old new q (e ∷ es) [] x other = absurd x
 turned_others told t old new q (e ∷ es) (h ∷ hs) x other = turned_others told t x.0 new q es hs x.2 other.1 ∙ x.1.exchanged.others t q other.0
 
 -- a turn over the files at the entry and at the exit
-pub record IsWhole (old new : Disk) (e : Exchange) (h : Heard) : Type 0 where
+pub record IsWhole (old new : Disk) (e : Exchange) (h : AnsweredTurn) : Type 0 where
   pub place : IsIndexPath e.path
   pub path : e.path ≡ h.turn.path
   pub named : NamesKept (reads (old (index_file e.path))) h.turn.disk_before h.turn.disk_asked e.named
   pub answer : IsAnswer (reads (old (index_file e.path))) e.answer h.answer
   pub leaves : LeavesFile e.answer h.turn.disk_asked h.turn.disk_after (old (index_file e.path)) (new (index_file e.path))
 
-abbrev pub Paired : (Exchange → Heard → Type 0) → List Exchange → List Heard → Type 0
+abbrev pub Paired : (Exchange → AnsweredTurn → Type 0) → List Exchange → List AnsweredTurn → Type 0
 Paired R [] [] = Unit {0}
 Paired R (e ∷ es) (h ∷ hs) = R e h × Paired R es hs
 Paired R _ _ = ⊥
 
-paired_from : (old mid new : Disk) (f : List ℕ) (es : List Exchange) (hs : List Heard) → Avoids f es → ((q : List ℕ) → q ≢ f → mid q ≡ old q) → Paired (IsWhole mid new) es hs → Paired (IsWhole old new) es hs
+paired_from : (old mid new : Disk) (f : List ℕ) (es : List Exchange) (hs : List AnsweredTurn) → Avoids f es → ((q : List ℕ) → q ≢ f → mid q ≡ old q) → Paired (IsWhole mid new) es hs → Paired (IsWhole old new) es hs
 paired_from old mid new f [] [] other same x = tt
 paired_from old mid new f [] (h ∷ hs) other same x = absurd x
 paired_from old mid new f (e ∷ es) [] other same x = absurd x
@@ -145,7 +145,7 @@ paired_from old mid new f (e ∷ es) (h ∷ hs) other same x =
       paired_from old mid new f es hs other.1 same x.1,
     )
 
-pub turned_whole : (told : Type 0) (t : told) (old new : Disk) (es : List Exchange) (hs : List Heard) → Turned told old es hs new → Apart es → Paired (IsWhole old new) es hs
+pub turned_whole : (told : Type 0) (t : told) (old new : Disk) (es : List Exchange) (hs : List AnsweredTurn) → TurnsInOrder told old es hs new → Apart es → Paired (IsWhole old new) es hs
 turned_whole told t old new [] [] x distinct = tt
 turned_whole told t old new [] (h ∷ hs) x distinct = absurd x
 turned_whole told t old new (e ∷ es) [] x distinct = absurd x
@@ -163,31 +163,31 @@ turned_whole told t old new (e ∷ es) (h ∷ hs) x distinct =
       paired_from old x.0 new f es hs distinct.0 (turn.exchanged.others t) (turned_whole told t x.0 new es hs x.2 distinct.1),
     )
 
--- what was heard in a turn, over the file at the entry
-pub record IsHeardOf (told : Type 0) (old : Disk) (e : Exchange) (h : Heard) : Type 0 where
+-- the answer of a turn, over the file at the entry
+pub record IsAnsweredOf (told : Type 0) (old : Disk) (e : Exchange) (h : AnsweredTurn) : Type 0 where
   pub path : e.path ≡ h.turn.path
   pub answer : (IsNotModified e.answer → told) → IsAnswer (reads (old (index_file e.path))) e.answer h.answer
 
-heard_from : (told : Type 0) (old mid : Disk) (f : List ℕ) (es : List Exchange) (hs : List Heard) → Avoids f es → (told → (q : List ℕ) → q ≢ f → mid q ≡ old q) → Paired (IsHeardOf told mid) es hs → Paired (IsHeardOf told old) es hs
-heard_from told old mid f [] [] other same x = tt
-heard_from told old mid f [] (h ∷ hs) other same x = absurd x
-heard_from told old mid f (e ∷ es) [] other same x = absurd x
-heard_from told old mid f (e ∷ es) (h ∷ hs) other same x = (
+answered_from : (told : Type 0) (old mid : Disk) (f : List ℕ) (es : List Exchange) (hs : List AnsweredTurn) → Avoids f es → (told → (q : List ℕ) → q ≢ f → mid q ≡ old q) → Paired (IsAnsweredOf told mid) es hs → Paired (IsAnsweredOf told old) es hs
+answered_from told old mid f [] [] other same x = tt
+answered_from told old mid f [] (h ∷ hs) other same x = absurd x
+answered_from told old mid f (e ∷ es) [] other same x = absurd x
+answered_from told old mid f (e ∷ es) (h ∷ hs) other same x = (
   record {
     path = x.0.path;
     answer = λ t. answer_moved (reads (mid (index_file e.path))) (reads (old (index_file e.path))) e.answer h.answer (λ n. ap reads (same (t n) (index_file e.path) (λ is. other.0 (sym is)))) (x.0.answer t);
   },
-  heard_from told old mid f es hs other.1 same x.1,
+  answered_from told old mid f es hs other.1 same x.1,
 )
 
-pub turned_heard : (told : Type 0) (old new : Disk) (es : List Exchange) (hs : List Heard) → Turned told old es hs new → Apart es → Paired (IsHeardOf told old) es hs
-turned_heard told old new [] [] x distinct = tt
-turned_heard told old new [] (h ∷ hs) x distinct = absurd x
-turned_heard told old new (e ∷ es) [] x distinct = absurd x
-turned_heard told old new (e ∷ es) (h ∷ hs) x distinct =
-    (record { path = x.1.path; answer = x.1.exchanged.answer }, heard_from told old x.0 (index_file e.path) es hs distinct.0 x.1.exchanged.others (turned_heard told x.0 new es hs x.2 distinct.1))
+pub turned_answered : (told : Type 0) (old new : Disk) (es : List Exchange) (hs : List AnsweredTurn) → TurnsInOrder told old es hs new → Apart es → Paired (IsAnsweredOf told old) es hs
+turned_answered told old new [] [] x distinct = tt
+turned_answered told old new [] (h ∷ hs) x distinct = absurd x
+turned_answered told old new (e ∷ es) [] x distinct = absurd x
+turned_answered told old new (e ∷ es) (h ∷ hs) x distinct =
+    (record { path = x.1.path; answer = x.1.exchanged.answer }, answered_from told old x.0 (index_file e.path) es hs distinct.0 x.1.exchanged.others (turned_answered told x.0 new es hs x.2 distinct.1))
 
-pub all_turned : (old new : Disk) (es : List Exchange) (hs : List Heard) → Paired (IsWhole old new) es hs → AreTurned old new es (map (λ (h : Heard). h.turn) hs)
+pub all_turned : (old new : Disk) (es : List Exchange) (hs : List AnsweredTurn) → Paired (IsWhole old new) es hs → TurnsNameAndLeave old new es (map (λ (h : AnsweredTurn). h.turn) hs)
 all_turned old new [] [] x = tt
 all_turned old new [] (h ∷ hs) x = absurd x
 all_turned old new (e ∷ es) [] x = absurd x

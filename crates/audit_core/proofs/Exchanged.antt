@@ -3,7 +3,7 @@ use Rattle.std.proofs.Common.{◌≡◌, ◌≢◌, inl, ℕ, List, [], ◌∷�
 use Rattle.std.specs.Prelude.{IfOk, IfSome, OnOk, IsSomeAnd}
 use Rattle.std.proofs.lemmas.List.{append-nil}
 use Rattle.tame_names.specs.declared.errors.NoMemory.{NoMemory}
-use Rattle.tame_entry.specs.Held.{Maps, ServerMap}
+use Rattle.tame_entry.specs.ServerMaps.{Maps, ServerMap}
 use Rattle.tame_entry.specs.declared.revisions.OwnedRevision.{OwnedRevision}
 use Rattle.tame_cache.specs.Disk.{reads}
 use Rattle.tame_cache.specs.Kept.{Disk, IsKept, Keeps}
@@ -14,7 +14,7 @@ use Rattle.tame_sparse.specs.declared.network.Exchange.{Exchange}
 use Rattle.tame_sparse.specs.declared.network.Held.{Held}
 use Rattle.tame_sparse.specs.declared.network.WireAnswer.{WireAnswer}
 use Rattle.audit_core.specs.Answers.{IsAnswer, IsNotModified}
-use Rattle.audit_core.specs.Turns.{AddsPart, IsExchanged, KeepsHonest, LeavesFile, index_file}
+use Rattle.audit_core.specs.Turns.{AddsPart, IsExchanged, StaysKept, LeavesFile, index_file}
 use Rattle.audit_core.specs.declared.answers.PathAnswer.{PathAnswer}
 use Rattle.audit_core.specs.declared.answers.PathAnswer.TheVariants.{Settled}
 use Rattle.audit_core.specs.declared.verdicts.Cause.TheVariants as cause
@@ -36,13 +36,13 @@ honest_back m (x ∷ xs) ys h = honest_back m xs ys h.1
 
 -- ---- kept all the time
 
-pub keeps_nothing : (before now : List Exchange) (old : Disk) → KeepsHonest before now old old
+pub keeps_nothing : (before now : List Exchange) (old : Disk) → StaysKept before now old old
 keeps_nothing before now old m added is honest kept = keeps_none m [] old kept
 
-pub keeps_unchanged : (before now : List Exchange) (old new : Disk) → ((q : List ℕ) → new q ≡ old q) → KeepsHonest before now old new
+pub keeps_unchanged : (before now : List Exchange) (old new : Disk) → ((q : List ℕ) → new q ≡ old q) → StaysKept before now old new
 keeps_unchanged before now old new same m added is honest kept = keeps_same m [] old new same kept
 
-pub keeps_more : (before mid now : List Exchange) (old between new : Disk) (es fs : List Exchange) → mid ≡ before ++ es → now ≡ mid ++ fs → KeepsHonest before mid old between → KeepsHonest mid now between new → KeepsHonest before now old new
+pub keeps_more : (before mid now : List Exchange) (old between new : Disk) (es fs : List Exchange) → mid ≡ before ++ es → now ≡ mid ++ fs → StaysKept before mid old between → StaysKept mid now between new → StaysKept before now old new
 keeps_more before mid now old between new es fs first second one two m added is honest kept =
     let whole : added ≡ es ++ fs = cancel before added (es ++ fs) (sym is ∙ second ∙ ap (λ (xs : List Exchange). xs ++ fs) first ∙ append_assoc before es fs) in
     let P : List Exchange → Type 0 = λ xs. AreHonest m xs in
@@ -69,20 +69,20 @@ honest_sent m p named held a mapped honest is = sent_body m p held a mapped (hon
 
 -- ---- one exchange
 
-pub heard_ok : (told : Type 0) (r : Result PathAnswer NoMemory) (asked after : ℕ) (old new : Disk) (before now : List Exchange) (path : List ℕ) (named : Option OwnedRevision) (e : Exchange)
+pub answered_ok : (told : Type 0) (r : Result PathAnswer NoMemory) (asked after : ℕ) (old new : Disk) (before now : List Exchange) (path : List ℕ) (named : Option OwnedRevision) (e : Exchange)
     → now ≡ before ++ e ∷ [] → e.path ≡ path → e.named ≡ named → e.url ≡ crates_io_uri e.path
     → ((IsNotModified e.answer → told) → IfOk r (IsAnswer (reads (old (index_file e.path))) e.answer))
     → (told → OnOk r (LeavesFile e.answer asked after (old (index_file e.path)) (new (index_file e.path))))
     → (told → (q : List ℕ) → q ≢ index_file e.path → new q ≡ old q)
     → (told → (m : ServerMap) → IsHonest m e → IsKept m [] old → Keeps m [] old new)
     → IfOk r (λ a. (x : Exchange) × (now ≡ before ++ x ∷ []) × (x.path ≡ path) × (x.named ≡ named) × (x.url ≡ crates_io_uri x.path) × IsExchanged told asked after old new x a)
-heard_ok told (Ok a) asked after old new before now path named e follows at names url answer leaves others keeps =
+answered_ok told (Ok a) asked after old new before now path named e follows at names url answer leaves others keeps =
     (e, follows, at, names, url, record { answer = answer; leaves = leaves; others = others; keeps = keeps })
-heard_ok told (Err x) asked after old new before now path named e follows at names url answer leaves others keeps = tt
+answered_ok told (Err x) asked after old new before now path named e follows at names url answer leaves others keeps = tt
 
 -- a failed exchange
-pub heard_none : (told : Type 0) (asked after : ℕ) (old : Disk) (e : Exchange) → e.answer ≡ None → IsExchanged told asked after old old e (Settled cause.Wire)
-heard_none told asked after old e none =
+pub answered_none : (told : Type 0) (asked after : ℕ) (old : Disk) (e : Exchange) → e.answer ≡ None → IsExchanged told asked after old old e (Settled cause.Wire)
+answered_none told asked after old e none =
     let P : Option WireAnswer → Type 0 = λ o. IsAnswer (reads (old (index_file e.path))) o (Settled cause.Wire) in
     let Q : Option WireAnswer → Type 0 = λ o. LeavesFile o asked after (old (index_file e.path)) (old (index_file e.path)) in
     record {
@@ -100,6 +100,6 @@ pub part_none : (paths : List (List ℕ)) (before now : List Exchange) → now �
 part_none paths before now same = ([], 0, same ∙ sym (append-nil before), refl, tt)
 
 -- from a disk that is the same
-pub keeps_from : (before now : List Exchange) (old mid new : Disk) → ((q : List ℕ) → mid q ≡ old q) → KeepsHonest before now mid new → KeepsHonest before now old new
+pub keeps_from : (before now : List Exchange) (old mid new : Disk) → ((q : List ℕ) → mid q ≡ old q) → StaysKept before now mid new → StaysKept before now old new
 keeps_from before now old mid new same h m added is honest kept =
     keeps_then m [] old mid new (keeps_same m [] old mid same kept) (λ k. h m added is honest k)

@@ -1,6 +1,6 @@
 -- Histories of audits keep the disk.
 use Rattle.std.proofs.Common.{[]}
-use Rattle.tame_entry.specs.Held.{ServerMap}
+use Rattle.tame_entry.specs.ServerMaps.{ServerMap}
 use Rattle.tame_cache.specs.Kept.{Disk, History, IsKept, begins, calls, crashes}
 use Rattle.tame_cache.proofs.KeptLemmas.{history_kept}
 use Rattle.audit_core.specs.Histories.{AuditHistory}

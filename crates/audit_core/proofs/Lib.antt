@@ -1,5 +1,6 @@
 pub mod Agreeing
 pub mod Apart
+pub mod EachOnce
 pub mod Exchanged
 pub mod Finished
 pub mod HistoryLemmas
@@ -10,7 +11,7 @@ pub mod Recalls
 pub mod Sound
 pub mod Steps
 pub mod Table
-pub mod TakenLemmas
+pub mod ResultLemmas
 pub mod Unasked
 pub mod Whole
 pub mod Yanked

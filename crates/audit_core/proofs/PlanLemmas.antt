@@ -6,11 +6,11 @@ use Rattle.std.specs.Option.{option_or}
 use Rattle.audit_lock.specs.declared.resolving.Package.{Package}
 use Rattle.std.proofs.lemmas.List.{append-nil}
 use Rattle.tame_names.specs.Names.{path}
-use Rattle.audit_core.specs.Heard.{IsHeardAt, heard_of}
+use Rattle.audit_core.specs.AnsweredTurns.{IsAnsweredAt, answered_turn_of}
 use Rattle.audit_core.specs.Paths.{defaults, distinct_after, is_among, is_default, place_in}
 use Rattle.audit_core.specs.Plans.{ArePlanned, IsPlanned, with_each}
 use Rattle.audit_core.specs.Verdicts.{AreVerdicts}
-use Rattle.audit_core.specs.declared.asking.Heard.{Heard}
+use Rattle.audit_core.specs.declared.asking.AnsweredTurn.{AnsweredTurn}
 use Rattle.audit_core.specs.declared.planning.Planned.{Planned}
 use Rattle.audit_core.specs.declared.planning.Planned.TheVariants.{Elsewhere, Nameless, Turn}
 use Rattle.audit_core.specs.declared.verdicts.Judged.{Judged}
@@ -97,20 +97,20 @@ left_case b i ps p is at =
     ∙ ap (λ c. cond c ((i, p) ∷ Left (i + 1) ps) (Left (i + 1) ps)) is
 
 -- with verdicts for what is left, those so far are verdicts for all
-abbrev pub IsFront : List Heard → List Package → ℕ → List Judged → Type 0
-IsFront hs ps i js = (rest : List Judged) → AreVerdicts (IsHeardAt hs) (filter (λ p. is_default p.1) (enumerate_from i (drop i ps))) rest → AreVerdicts (IsHeardAt hs) (defaults ps) (js ++ rest)
+abbrev pub IsFront : List AnsweredTurn → List Package → ℕ → List Judged → Type 0
+IsFront hs ps i js = (rest : List Judged) → AreVerdicts (IsAnsweredAt hs) (filter (λ p. is_default p.1) (enumerate_from i (drop i ps))) rest → AreVerdicts (IsAnsweredAt hs) (defaults ps) (js ++ rest)
 
-pub front_more : (hs : List Heard) (ps : List Package) (i : ℕ) (p : Package) (v : Verdict) (js : List Judged) → slice_get ps i ≡ Some p → is_default p ≡ true → IsHeardAt hs p.version (path p.name) v → IsFront hs ps i js
+pub front_more : (hs : List AnsweredTurn) (ps : List Package) (i : ℕ) (p : Package) (v : Verdict) (js : List Judged) → slice_get ps i ≡ Some p → is_default p ≡ true → IsAnsweredAt hs p.version (path p.name) v → IsFront hs ps i js
     → IsFront hs ps (i + 1) (js ++ record { «package» = i; verdict = v } ∷ [])
-front_more hs ps i p v js at is heard front rest h =
+front_more hs ps i p v js at is answered_turns front rest h =
     let j : Judged = record { «package» = i; verdict = v } in
-    let P : List (ℕ × Package) → Type 0 = λ xs. AreVerdicts (IsHeardAt hs) xs (j ∷ rest) in
-    let Q : List Judged → Type 0 = λ xs. AreVerdicts (IsHeardAt hs) (defaults ps) xs in
-    subst Q (sym (append_assoc js (j ∷ []) rest)) (front (j ∷ rest) (subst P (sym (left_case true i ps p is at)) (refl, heard, h)))
+    let P : List (ℕ × Package) → Type 0 = λ xs. AreVerdicts (IsAnsweredAt hs) xs (j ∷ rest) in
+    let Q : List Judged → Type 0 = λ xs. AreVerdicts (IsAnsweredAt hs) (defaults ps) xs in
+    subst Q (sym (append_assoc js (j ∷ []) rest)) (front (j ∷ rest) (subst P (sym (left_case true i ps p is at)) (refl, answered_turns, h)))
 
-pub front_same : (hs : List Heard) (ps : List Package) (i : ℕ) (p : Package) (js : List Judged) → slice_get ps i ≡ Some p → is_default p ≡ false → IsFront hs ps i js → IsFront hs ps (i + 1) js
+pub front_same : (hs : List AnsweredTurn) (ps : List Package) (i : ℕ) (p : Package) (js : List Judged) → slice_get ps i ≡ Some p → is_default p ≡ false → IsFront hs ps i js → IsFront hs ps (i + 1) js
 front_same hs ps i p js at is front rest h =
-    let P : List (ℕ × Package) → Type 0 = λ xs. AreVerdicts (IsHeardAt hs) xs rest in
+    let P : List (ℕ × Package) → Type 0 = λ xs. AreVerdicts (IsAnsweredAt hs) xs rest in
     front rest (subst P (sym (left_case false i ps p is at)) h)
 
 drop_all : (ps : List Package) (i : ℕ) → length ps ≤ i → drop i ps ≡ []
@@ -120,13 +120,13 @@ drop_all (p ∷ ps) zero past = absurd (omega (arith, past))
 drop_all (p ∷ ps) (suc i) past = drop_all ps i (let less : length ps ≤ i = omega (arith, past) in less)
 
 -- nothing is left
-pub front_whole : (hs : List Heard) (ps : List Package) (i : ℕ) (js : List Judged) → length ps ≤ i → IsFront hs ps i js → AreVerdicts (IsHeardAt hs) (defaults ps) js
+pub front_whole : (hs : List AnsweredTurn) (ps : List Package) (i : ℕ) (js : List Judged) → length ps ≤ i → IsFront hs ps i js → AreVerdicts (IsAnsweredAt hs) (defaults ps) js
 front_whole hs ps i js past front =
-    let P : List Package → Type 0 = λ xs. AreVerdicts (IsHeardAt hs) (filter (λ p. is_default p.1) (enumerate_from i xs)) [] in
-    let Q : List Judged → Type 0 = λ xs. AreVerdicts (IsHeardAt hs) (defaults ps) xs in
+    let P : List Package → Type 0 = λ xs. AreVerdicts (IsAnsweredAt hs) (filter (λ p. is_default p.1) (enumerate_from i xs)) [] in
+    let Q : List Judged → Type 0 = λ xs. AreVerdicts (IsAnsweredAt hs) (defaults ps) xs in
     subst Q (append-nil js) (front [] (subst P (sym (drop_all ps i past)) tt))
 
--- ---- what was heard
+-- ---- turns with their answers
 
 low_case : (b : Bool) (n i : ℕ) (more : ℕ) (o : Option ℕ) → cond b (Some n) o ≡ Some i → (o ≡ Some i → i < n + 1 + more) → i < n + suc more
 low_case true n i more o h f = let same : n ≡ i = cc in omega (arith, same)
@@ -140,14 +140,14 @@ map_length : {A B : Type 0} (f : A → B) (xs : List A) → length (map f xs) �
 map_length f [] = refl
 map_length f (x ∷ xs) = ap suc (map_length f xs)
 
--- the place of a turn is one of those that were heard
-pub heard_below : (hs : List Heard) (q : List ℕ) (i : ℕ) → place_in (map (λ h. h.turn.path) hs) q ≡ Some i → i < length hs
-heard_below hs q i at =
-    let low : i < 0 + length (map (λ (h : Heard). h.turn.path) hs) = place_below q 0 (map (λ h. h.turn.path) hs) i at in
-    let same = map_length (λ (h : Heard). h.turn.path) hs in
+-- the place of a turn is one of those that were answered
+pub answered_below : (hs : List AnsweredTurn) (q : List ℕ) (i : ℕ) → place_in (map (λ h. h.turn.path) hs) q ≡ Some i → i < length hs
+answered_below hs q i at =
+    let low : i < 0 + length (map (λ (h : AnsweredTurn). h.turn.path) hs) = place_below q 0 (map (λ h. h.turn.path) hs) i at in
+    let same = map_length (λ (h : AnsweredTurn). h.turn.path) hs in
     omega (arith, low, same)
 
--- what stands at the place of a path is what was heard of it
-pub heard_at : (hs : List Heard) (q : List ℕ) (i : ℕ) → place_in (map (λ h. h.turn.path) hs) q ≡ Some i → slice_get hs i ≡ heard_of q hs
-heard_at hs q i at =
-    ap (λ (o : Option ℕ). option_and_then (λ i. slice_get hs i) o) (sym at) ∙ get_place (λ p. bytes_eq p q) (λ (h : Heard). h.turn.path) hs
+-- what stands at the place of a path is its turn with its answer
+pub answered_turn_at : (hs : List AnsweredTurn) (q : List ℕ) (i : ℕ) → place_in (map (λ h. h.turn.path) hs) q ≡ Some i → slice_get hs i ≡ answered_turn_of q hs
+answered_turn_at hs q i at =
+    ap (λ (o : Option ℕ). option_and_then (λ i. slice_get hs i) o) (sym at) ∙ get_place (λ p. bytes_eq p q) (λ (h : AnsweredTurn). h.turn.path) hs

@@ -1,14 +1,14 @@
--- Over an honest server and a kept disk, what was heard is what the server held.
+-- Over an honest server and a kept disk, the answers are what the server held.
 use Rattle.std.proofs.Common.{◌≡◌, ◌⊎◌, inl, inr, ℕ, List, [], ◌∷◌, Bool, true, false, cond, Option, Some, None, Result, Ok, Err, IsTrue, refl, sym, ap, ◌∙◌, subst, arith}
 use Rattle.std.specs.Prelude.{IfSome, IsSomeAnd, MatchOption, flat_map}
-use Rattle.tame_names.specs.Counts.{Rose}
+use Rattle.tame_names.specs.Counts.{CountRose}
 use Rattle.tame_names.specs.declared.errors.CacheError.{CacheError}
 use Rattle.tame_records.specs.Lines.{lines}
 use Rattle.tame_entry.specs.Entry.{ReadEntry, lines_in, pair_bytes, pairs, read_entry}
-use Rattle.tame_entry.specs.Held.{ServerMap, body_at}
+use Rattle.tame_entry.specs.ServerMaps.{ServerMap, body_at}
 use Rattle.tame_entry.specs.Lines.{valid}
 use Rattle.tame_entry.specs.Revision.{EntryRevision, Http, Commit, Unknown, IsRevision, entry_text, is_honest_text, revision_text}
-use Rattle.tame_entry.specs.Says.{heads_of}
+use Rattle.tame_entry.specs.VersionStatuses.{version_flags}
 use Rattle.tame_entry.specs.declared.revisions.OwnedRevision.{OwnedRevision}
 use Rattle.tame_entry.specs.declared.revisions.OwnedRevision.TheVariants.{Etag, LastModified}
 use Rattle.tame_entry.proofs.EntryLemmas.{body_read, honest_utf8, honest_zero, lines_back}
@@ -24,13 +24,13 @@ use Rattle.tame_sparse.specs.declared.network.Held.{Held}
 use Rattle.tame_sparse.specs.declared.network.WireAnswer.{WireAnswer}
 use Rattle.tame_sparse.proofs.TrimLemmas.{honest_named}
 use Rattle.audit_core.specs.Answers.{IsAnswer, IsHeldAnswer, answer_of, body_answer, file_answer, held_answer, kept_held, read_answer, sent_held}
-use Rattle.audit_core.specs.Turns.{AreCaused, Turned, index_file}
+use Rattle.audit_core.specs.Turns.{AreCaused, TurnsInOrder, index_file}
 use Rattle.audit_core.specs.declared.answers.PathAnswer.{PathAnswer}
 use Rattle.audit_core.specs.declared.answers.PathAnswer.TheVariants.{Settled, Lines}
-use Rattle.audit_core.specs.declared.asking.Heard.{Heard}
+use Rattle.audit_core.specs.declared.asking.AnsweredTurn.{AnsweredTurn}
 use Rattle.audit_core.specs.declared.verdicts.Cause.TheVariants as cause
 use Rattle.audit_core.proofs.Apart.{Paired}
-use Rattle.audit_core.proofs.TakenLemmas.{Kind, IsAbsent, IsOther, IsSame, IsSent, choose_absent, choose_other, choose_same, choose_sent, kind_of}
+use Rattle.audit_core.proofs.ResultLemmas.{Kind, IsAbsent, IsOther, IsSame, IsSent, choose_absent, choose_other, choose_same, choose_sent, kind_of}
 
 -- ---- a kept file that was confirmed has the lines that the server held
 
@@ -63,16 +63,16 @@ under_lines m p bytes body e (Commit digits) r is good names held = cc
 under_lines m p bytes body e Unknown r is good names held = cc
 
 read_lines : (m : ServerMap) (p bytes body : List ℕ) (o : Result ReadEntry CacheError) (r : OwnedRevision) → read_entry bytes ≡ o → IsGoodRead m p bytes o → named_read o ≡ Some r → body_at m p r ≡ Some body
-    → read_answer o ≡ Lines (heads_of (lines body))
-read_lines m p bytes body (Ok e) r is good names held = ap (λ ls. Lines (heads_of ls)) (under_lines m p bytes body e e.revision r is good names held)
+    → read_answer o ≡ Lines (version_flags (lines body))
+read_lines m p bytes body (Ok e) r is good names held = ap (λ ls. Lines (version_flags ls)) (under_lines m p bytes body e e.revision r is good names held)
 read_lines m p bytes body (Err f) r is good names held = cc
 
-file_lines : (m : ServerMap) (p body : List ℕ) (file : File) (r : OwnedRevision) → IsGood m p file → named_file file ≡ Some r → body_at m p r ≡ Some body → file_answer file ≡ Lines (heads_of (lines body))
+file_lines : (m : ServerMap) (p body : List ℕ) (file : File) (r : OwnedRevision) → IsGood m p file → named_file file ≡ Some r → body_at m p r ≡ Some body → file_answer file ≡ Lines (version_flags (lines body))
 file_lines m p body None r good names held = cc
 file_lines m p body (Some bytes) r good names held = read_lines m p bytes body (read_entry bytes) r refl good names held
 
 confirmed : (m : ServerMap) (p : List ℕ) (file : File) (n : Option OwnedRevision) (h : Held) (o : Option OwnedRevision) → IsGood m p file → (n ≡ None) ⊎ (n ≡ named_file file)
-    → IfSome o (λ r. IsTrue (is_honest_text (revision_text r)) × (body_at m p r ≡ Some h.body)) → IsSomeAnd o (λ r. n ≡ Some r) → file_answer file ≡ Lines (heads_of (lines h.body))
+    → IfSome o (λ r. IsTrue (is_honest_text (revision_text r)) × (body_at m p r ≡ Some h.body)) → IsSomeAnd o (λ r. n ≡ Some r) → file_answer file ≡ Lines (version_flags (lines h.body))
 confirmed m p file n h None good names mapped is = absurd is
 confirmed m p file n h (Some r) good (inl none) mapped is = cc
 confirmed m p file n h (Some r) good (inr same) mapped is = file_lines m p h.body file r good (sym same ∙ is) mapped.1
@@ -89,7 +89,7 @@ sent_same w None is = absurd is
 sent_same w (Some h) is = ap body_answer is.1
 
 answer_sound : (m : ServerMap) (p : List ℕ) (file : File) (n : Option OwnedRevision) (held : Option Held) (came : Option WireAnswer) (a : PathAnswer) (asked after : ℕ)
-    → IsGood m p file → (n ≡ None) ⊎ (n ≡ named_file file) → IfSome held (IsMapped m p) → IfSome came (IsHonestAnswer n held) → IsAnswer file came a → (a ≡ Settled cause.Store → Rose asked after)
+    → IsGood m p file → (n ≡ None) ⊎ (n ≡ named_file file) → IfSome held (IsMapped m p) → IfSome came (IsHonestAnswer n held) → IsAnswer file came a → (a ≡ Settled cause.Store → CountRose asked after)
     → IsHeldAnswer held came asked after a
 answer_sound m p file n held None a asked after good names mapped honest (inl is) rose = inl is
 answer_sound m p file n held None a asked after good names mapped honest (inr store) rose = absurd store.0
@@ -104,11 +104,11 @@ answer_sound m p file n held (Some w) a asked after good names mapped honest (in
 
 -- ---- all of them
 
-pub record IsSound (e : Exchange) (h : Heard) : Type 0 where
+pub record IsSound (e : Exchange) (h : AnsweredTurn) : Type 0 where
   pub path : e.path ≡ h.turn.path
   pub answer : IsHeldAnswer e.held e.answer h.turn.disk_asked h.turn.disk_after h.answer
 
-pub turned_sound : (told : Type 0) (t : told) (m : ServerMap) (old new : Disk) (es : List Exchange) (hs : List Heard) → Turned told old es hs new → AreHonest m es → AreCaused hs → IsKept m [] old → Paired IsSound es hs
+pub turned_sound : (told : Type 0) (t : told) (m : ServerMap) (old new : Disk) (es : List Exchange) (hs : List AnsweredTurn) → TurnsInOrder told old es hs new → AreHonest m es → AreCaused hs → IsKept m [] old → Paired IsSound es hs
 turned_sound told t m old new [] [] x honest caused kept = tt
 turned_sound told t m old new [] (h ∷ hs) x honest caused kept = absurd x
 turned_sound told t m old new (e ∷ es) [] x honest caused kept = absurd x

@@ -9,11 +9,11 @@ use Rattle.tame_cache.specs.Disk.{Step, reads}
 use Rattle.tame_cache.specs.Kept.{Disk}
 use Rattle.tame_cache.proofs.KeptLemmas.{keeps_same, keeps_then}
 use Rattle.tame_sparse.specs.declared.network.Exchange.{Exchange}
-use Rattle.audit_core.proofs.TakenLemmas.{answer_moved}
+use Rattle.audit_core.proofs.ResultLemmas.{answer_moved}
 use Rattle.audit_core.proofs.Lists.{cons_head, cons_tail, somes}
-use Rattle.audit_core.specs.Turns.{Adds, AddsNamed, AddsPart, AreAddressed, AreCaused, Chains, IsExchanged, LeavesFile, Turned, index_file}
+use Rattle.audit_core.specs.Turns.{AddsTurns, AddsNamed, AddsPart, AreAddressed, AreCaused, Chains, IsExchanged, LeavesFile, TurnsInOrder, index_file}
 use Rattle.audit_core.specs.declared.answers.PathAnswer.{PathAnswer}
-use Rattle.audit_core.specs.declared.asking.Heard.{Heard}
+use Rattle.audit_core.specs.declared.asking.AnsweredTurn.{AnsweredTurn}
 use Rattle.audit_core.specs.declared.asking.Turn.{Turn}
 
 -- ---- from a disk that is the same
@@ -26,7 +26,7 @@ exchanged_from told asked after old mid new e a same x = record {
   keeps = λ t m honest kept. keeps_then m [] old mid new (keeps_same m [] old mid (same t) kept) (λ k. x.keeps t m honest k);
 }
 
-turned_from : (told : Type 0) (old mid new : Disk) (es : List Exchange) (hs : List Heard) → (told → (q : List ℕ) → mid q ≡ old q) → Turned told mid es hs new → Turned told old es hs new
+turned_from : (told : Type 0) (old mid new : Disk) (es : List Exchange) (hs : List AnsweredTurn) → (told → (q : List ℕ) → mid q ≡ old q) → TurnsInOrder told mid es hs new → TurnsInOrder told old es hs new
 turned_from told old mid new [] [] same x = λ t q. x t q ∙ same t q
 turned_from told old mid new [] (h ∷ hs) same x = absurd x
 turned_from told old mid new (e ∷ es) [] same x = absurd x
@@ -44,14 +44,14 @@ turned_from told old mid new (e ∷ es) (h ∷ hs) same x = (
 
 -- ---- one after another
 
-pub turned_more : (told : Type 0) (old mid new : Disk) (es fs : List Exchange) (hs ks : List Heard) → Turned told old es hs mid → Turned told mid fs ks new → Turned told old (es ++ fs) (hs ++ ks) new
+pub turned_more : (told : Type 0) (old mid new : Disk) (es fs : List Exchange) (hs ks : List AnsweredTurn) → TurnsInOrder told old es hs mid → TurnsInOrder told mid fs ks new → TurnsInOrder told old (es ++ fs) (hs ++ ks) new
 turned_more told old mid new [] fs [] ks x y = turned_from told old mid new fs ks x y
 turned_more told old mid new [] fs (h ∷ hs) ks x y = absurd x
 turned_more told old mid new (e ∷ es) fs [] ks x y = absurd x
 turned_more told old mid new (e ∷ es) fs (h ∷ hs) ks x y = (x.0, x.1, turned_more told x.0 mid new es fs hs ks x.2 y)
 
-pub Adds-more : (told : Type 0) (a b c : List Exchange) (old mid new : Disk) (hs ks : List Heard) → Adds told a b old hs mid → Adds told b c mid ks new → Adds told a c old (hs ++ ks) new
-Adds-more told a b c old mid new hs ks h k =
+pub AddsTurns-more : (told : Type 0) (a b c : List Exchange) (old mid new : Disk) (hs ks : List AnsweredTurn) → AddsTurns told a b old hs mid → AddsTurns told b c mid ks new → AddsTurns told a c old (hs ++ ks) new
+AddsTurns-more told a b c old mid new hs ks h k =
     (h.0 ++ k.0, k.1 ∙ ap (λ (xs : List Exchange). xs ++ k.0) h.1 ∙ append_assoc a h.0 k.0, turned_more told old mid new h.0 k.0 hs ks h.2 k.2)
 
 pub Chains-more : (wire disk : ℕ) (ts us : List Turn) (mid_wire mid_disk last_wire last_disk : ℕ) → Chains wire disk ts mid_wire mid_disk → Chains mid_wire mid_disk us last_wire last_disk → Chains wire disk (ts ++ us) last_wire last_disk
@@ -60,20 +60,20 @@ Chains-more wire disk [] us mw md lw ld h k =
     subst (λ (w : ℕ). P w disk) h.0 (subst (λ (d : ℕ). P mw d) h.1 k)
 Chains-more wire disk (t ∷ ts) us mw md lw ld h k = (h.0, h.1, h.2, h.3, h.4, Chains-more t.wire_after t.disk_after ts us mw md lw ld h.5 k)
 
-pub AreCaused-more : (hs ks : List Heard) → AreCaused hs → AreCaused ks → AreCaused (hs ++ ks)
+pub AreCaused-more : (hs ks : List AnsweredTurn) → AreCaused hs → AreCaused ks → AreCaused (hs ++ ks)
 AreCaused-more [] ks h k = k
 AreCaused-more (x ∷ hs) ks h k = (h.0, AreCaused-more hs ks h.1 k)
 
 -- ---- paths and names
 
-pub turned_paths : (told : Type 0) (old new : Disk) (es : List Exchange) (hs : List Heard) → Turned told old es hs new → map (λ (e : Exchange). Some e.path) es ≡ map (λ (h : Heard). Some h.turn.path) hs
+pub turned_paths : (told : Type 0) (old new : Disk) (es : List Exchange) (hs : List AnsweredTurn) → TurnsInOrder told old es hs new → map (λ (e : Exchange). Some e.path) es ≡ map (λ (h : AnsweredTurn). Some h.turn.path) hs
 turned_paths told old new [] [] x = refl
 turned_paths told old new [] (h ∷ hs) x = absurd x
 turned_paths told old new (e ∷ es) [] x = absurd x
 turned_paths told old new (e ∷ es) (h ∷ hs) x =
     ap (λ (q : List ℕ). Some q ∷ map (λ (e : Exchange). Some e.path) es) x.1.path ∙ ap (λ (qs : List (Option (List ℕ))). Some h.turn.path ∷ qs) (turned_paths told x.0 new es hs x.2)
 
-pub turned_addressed : (told : Type 0) (old new : Disk) (es : List Exchange) (hs : List Heard) → Turned told old es hs new → AreAddressed es
+pub turned_addressed : (told : Type 0) (old new : Disk) (es : List Exchange) (hs : List AnsweredTurn) → TurnsInOrder told old es hs new → AreAddressed es
 turned_addressed told old new [] [] x = tt
 turned_addressed told old new [] (h ∷ hs) x = absurd x
 turned_addressed told old new (e ∷ es) [] x = absurd x
@@ -92,11 +92,11 @@ next_names : (names : List (List ℕ)) (i : ℕ) (name : List ℕ) → i < lengt
 next_names names i name low is =
     ap (map path) (take-suc names i name low ∙ ap (λ (n : List ℕ). take i names ++ n ∷ []) (sym is)) ∙ map-append path (take i names) (name ∷ [])
 
-pub paths_more : (names : List (List ℕ)) (i : ℕ) (name : List ℕ) (hs : List Heard) (h : Heard) → i < length names → name ≡ get_or names i name → map (λ (h : Heard). Some h.turn.path) hs ≡ map path (take i names) → path name ≡ Some h.turn.path
-    → map (λ (h : Heard). Some h.turn.path) (hs ++ h ∷ []) ≡ map path (take (i + 1) names)
+pub paths_more : (names : List (List ℕ)) (i : ℕ) (name : List ℕ) (hs : List AnsweredTurn) (h : AnsweredTurn) → i < length names → name ≡ get_or names i name → map (λ (h : AnsweredTurn). Some h.turn.path) hs ≡ map path (take i names) → path name ≡ Some h.turn.path
+    → map (λ (h : AnsweredTurn). Some h.turn.path) (hs ++ h ∷ []) ≡ map path (take (i + 1) names)
 paths_more names i name hs h low is same at =
     let next : suc i ≡ i + 1 = omega arith in
-    map-append (λ (h : Heard). Some h.turn.path) hs (h ∷ []) ∙ ap (λ (qs : List (Option (List ℕ))). qs ++ Some h.turn.path ∷ []) same
+    map-append (λ (h : AnsweredTurn). Some h.turn.path) hs (h ∷ []) ∙ ap (λ (qs : List (Option (List ℕ))). qs ++ Some h.turn.path ∷ []) same
     ∙ ap (λ (q : Option (List ℕ)). map path (take i names) ++ q ∷ []) (sym at) ∙ sym (next_names names i name low is) ∙ ap (λ n. map path (take n names)) next
 
 take_none : {A : Type 0} (n : ℕ) → take n (let xs : List A = [] in xs) ≡ []
@@ -137,8 +137,8 @@ part_named name q before now at k = (k.0, k.1, k.2, go k.0 k.1 k.3, k.4)
     go es (suc n) h = some es (q ∷ take n []) h ∙ ap (λ (o : Option (List ℕ)). o ∷ map (λ q. Some q) (take n [])) (sym at) ∙ ap (λ (qs : List (Option (List ℕ))). path name ∷ qs) (map_take (λ q. Some q) n [])
 
 -- a turn that was taken
-pub Adds-named : (told : Type 0) (name : List ℕ) (h : Heard) (before now : List Exchange) (old new : Disk) → path name ≡ Some h.turn.path → Adds told before now old (h ∷ []) new → AddsNamed (name ∷ []) before now
-Adds-named told name h before now old new at x = (x.0, 1, x.1, turned_paths told old new x.0 (h ∷ []) x.2 ∙ ap (λ (o : Option (List ℕ)). o ∷ []) (sym at), turned_addressed told old new x.0 (h ∷ []) x.2)
+pub AddsTurns-named : (told : Type 0) (name : List ℕ) (h : AnsweredTurn) (before now : List Exchange) (old new : Disk) → path name ≡ Some h.turn.path → AddsTurns told before now old (h ∷ []) new → AddsNamed (name ∷ []) before now
+AddsTurns-named told name h before now old new at x = (x.0, 1, x.1, turned_paths told old new x.0 (h ∷ []) x.2 ∙ ap (λ (o : Option (List ℕ)). o ∷ []) (sym at), turned_addressed told old new x.0 (h ∷ []) x.2)
 
 -- ---- names
 
@@ -155,6 +155,6 @@ take_all [] = refl
 take_all (x ∷ xs) = ap (λ ys. x ∷ ys) (take_all xs)
 
 -- all of the paths are a part of them
-pub Adds-part : (told : Type 0) (paths : List (List ℕ)) (hs : List Heard) (before now : List Exchange) (old new : Disk) → map (λ (h : Heard). Some h.turn.path) hs ≡ map (λ q. Some q) paths → Adds told before now old hs new → AddsPart paths before now
-Adds-part told paths hs before now old new same x =
+pub AddsTurns-part : (told : Type 0) (paths : List (List ℕ)) (hs : List AnsweredTurn) (before now : List Exchange) (old new : Disk) → map (λ (h : AnsweredTurn). Some h.turn.path) hs ≡ map (λ q. Some q) paths → AddsTurns told before now old hs new → AddsPart paths before now
+AddsTurns-part told paths hs before now old new same x =
     (x.0, length paths, x.1, somes (λ (e : Exchange). e.path) x.0 paths (turned_paths told old new x.0 hs x.2 ∙ same) ∙ sym (take_all paths), turned_addressed told old new x.0 hs x.2)

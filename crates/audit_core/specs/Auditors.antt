@@ -1,6 +1,6 @@
 -- The auditor, and what it says by its advisories and settings (this project, after cargo-audit).
 use Rattle.std.specs.Prelude.{◌≢◌, ℕ, suc, codes, List, [], ◌∷◌, ◌++◌, Bool, true, false, Result, Ok, Err}
-use Rattle.toml_tables.specs.Answers.{and_then}
+use Rattle.toml_tables.specs.Results.{and_then}
 use Rattle.audit_lock.specs.declared.resolving.Package.{Package}
 use Rattle.audit_advisory.specs.Advisories.{advisory_of}
 use Rattle.audit_advisory.specs.Exits.{fails}
@@ -41,10 +41,12 @@ at_text n (Err fault) = Err (audit_error.Advisory n fault)
 abbrev pub advisories_from : ℕ → List (List ℕ) → Result (List Advisory) AuditError
 advisories_from n [] = Ok []
 advisories_from n (text ∷ texts) =
-    and_then (λ advisory. and_then (λ more. Ok (advisory ∷ more)) (advisories_from (suc n) texts)) (at_text n (advisory_of text))
+    and_then (λ advisory. and_then (λ more. Ok (advisory ∷ more)) (advisories_from (suc n) texts))
+    (at_text n (advisory_of text))
 
 abbrev pub text_auditor : AuditConfig → List (List ℕ) → Result Auditor AuditError
-text_auditor config texts = and_then (λ advisories. Ok (auditor_of config advisories)) (advisories_from 0 texts)
+text_auditor config texts =
+    and_then (λ advisories. Ok (auditor_of config advisories)) (advisories_from 0 texts)
 
 -- this tells of an advisory that is none, for a reason that isn't want of memory
 abbrev pub refuses_advisory : AuditError → Type 0
@@ -59,7 +61,9 @@ release major minor patch = record { major = major; minor = minor; patch = patch
 
 -- the places of the advisories on cargo-audit 0.22.2, and of those on rustsec 0.33.0
 abbrev pub self_advisories : List Advisory → List ℕ
-self_advisories advisories = query (codes "cargo-audit") (release 0 22 2) advisories ++ query (codes "rustsec") (release 0 33 0) advisories
+self_advisories advisories =
+    query (codes "cargo-audit") (release 0 22 2) advisories
+    ++ query (codes "rustsec") (release 0 33 0) advisories
 
 -- ---- report and exit
 
@@ -73,9 +77,11 @@ abbrev pub yanked_in : List Judged → List ℕ
 yanked_in [] = []
 yanked_in (j ∷ js) = with_if_yanked j.verdict j.«package» (yanked_in js)
 
--- by the auditor's advisories and settings, with the packages that are judged yanked behind the other warnings
+-- by the auditor's advisories and settings, with the packages that are judged yanked behind the
+-- other warnings
 abbrev pub audit_report : Auditor → List Package → List Judged → Report
-audit_report auditor packages verdicts = with_yanked (report_of auditor.settings auditor.database packages) (yanked_in verdicts)
+audit_report auditor packages verdicts =
+    with_yanked (report_of auditor.settings auditor.database packages) (yanked_in verdicts)
 
 abbrev pub exit_of : Bool → ℕ
 exit_of true = 1

@@ -1,4 +1,5 @@
--- The kinds of checks for yanked versions, and what each asks for and judges (this project, after cargo-audit).
+-- The kinds of checks for yanked versions, and what each asks for and judges (this project, after
+-- cargo-audit).
 use Rattle.std.specs.Prelude.{ℕ, List, [], not, ◌&&◌, if◌then◌else◌}
 use Rattle.audit_lock.specs.declared.resolving.Package.{Package}
 use Rattle.audit_settings.specs.declared.configs.AuditConfig.{AuditConfig}
@@ -6,7 +7,8 @@ use Rattle.audit_core.specs.Paths.{asked_paths, defaults}
 use Rattle.audit_core.specs.declared.checking.Checks.{Checks}
 use Rattle.audit_core.specs.declared.checking.Checks.TheVariants.{Online, Offline, Off}
 
--- off where they aren't enabled, online where the index may be asked and its state fetched, else by the cache alone
+-- off where they aren't enabled, online where the index may be asked and its state fetched, else by
+-- the cache alone
 abbrev pub checks_of : AuditConfig → Checks
 checks_of config =
     if not config.yanked.enabled then Off

@@ -1,14 +1,15 @@
 pub mod Alike
 pub mod Answers
+pub mod AskedPaths
 pub mod Auditors
 pub mod Audits
 pub mod Checks
-pub mod Heard
+pub mod AnsweredTurns
 pub mod Histories
 pub mod Opened
 pub mod Paths
 pub mod Plans
 pub mod Recalled
-pub mod Taken
+pub mod ResultAnswers
 pub mod Turns
 pub mod Verdicts

@@ -1,7 +1,7 @@
 -- The text of a lockfile at a path of the host (this project).
 use Rattle.std.specs.Prelude.{◌≡◌, ◌≢◌, ◌<◌, ℕ, codes, List, ◌∷◌, [], ◌++◌, length, bytes_eq, nat_lt, Option, Some, None, if◌then◌else◌, Result, Ok, Err}
 use Rattle.std.specs.Str.{is_utf8}
-use Rattle.tame_names.specs.Counts.{Rose}
+use Rattle.tame_names.specs.Counts.{CountRose}
 use Rattle.tame_names.specs.Standing.{Host, Standing, Nothing, File, Folder, Other}
 use Rattle.tame_names.specs.declared.host.FailedCall.{FailedCall}
 use Rattle.tame_names.specs.declared.host.FileCall.TheVariants as file_call
@@ -51,14 +51,17 @@ IsUnread fault.NotUtf8 = Unit {0}
 IsUnread (fault.TooLarge n) = Unit {0}
 IsUnread _ = ⊥
 
--- a reason that what stands there gives: why its text wasn't read, or why the text is no lockfile, which is never want of memory; that a count rose is said beside it
+-- a reason that what stands there gives: why its text wasn't read, or why the text is no lockfile,
+-- which is never want of memory; that a count rose is said beside it
 abbrev pub IsReason : Type 0 → Standing → FileAuditError → Type 0
 IsReason told standing fault.Missing = told → text_at standing ≡ Err fault.Missing
 IsReason told standing fault.NotUtf8 = told → text_at standing ≡ Err fault.NotUtf8
-IsReason told standing (fault.TooLarge n) = (lockfile_limit < n) × (told → text_at standing ≡ Err (fault.TooLarge n))
+IsReason told standing (fault.TooLarge n) =
+    (lockfile_limit < n) × (told → text_at standing ≡ Err (fault.TooLarge n))
 IsReason told standing fault.File = Unit {0}
 IsReason told standing (fault.Audit (audit_error.Lockfile f)) =
-    (f ≢ lockfile_fault.NoMemory) × (text : List ℕ) × (told → text_at standing ≡ Ok text) × (locked text ≡ Err f)
+    (f ≢ lockfile_fault.NoMemory) × (text : List ℕ) × (told → text_at standing ≡ Ok text)
+    × (locked text ≡ Err f)
 IsReason told standing (fault.Audit (audit_error.Advisory n f)) = ⊥
 IsReason told standing (fault.Audit audit_error.NoMemory) = Unit {0}
 

@@ -27,12 +27,14 @@ default_paths packages = filter_map default_path packages
 abbrev pub is_among : List ℕ → List (List ℕ) → Bool
 is_among q qs = list_any (λ p. bytes_eq p q) qs
 
--- each path once, at its first place
+-- each path once, at its first place; a law above it says what the list is
 abbrev pub distinct_after : List (List ℕ) → List (List ℕ) → List (List ℕ)
 distinct_after seen [] = []
-distinct_after seen (q ∷ qs) = if is_among q seen then distinct_after seen qs else q ∷ distinct_after (seen ++ q ∷ []) qs
+distinct_after seen (q ∷ qs) =
+    if is_among q seen then distinct_after seen qs else q ∷ distinct_after (seen ++ q ∷ []) qs
 
--- the paths that are asked for: each distinct path of these packages, in the order of their first packages
+-- the paths that are asked for: each distinct path of these packages, in the order of their first
+-- packages
 abbrev pub asked_paths : List Package → List (List ℕ)
 asked_paths packages = distinct_after [] (default_paths packages)
 

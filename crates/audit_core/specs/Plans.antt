@@ -10,11 +10,13 @@ use Rattle.audit_core.specs.declared.planning.Places.{Places}
 
 -- ---- plans
 
--- a package of another registry has no turn, one whose name has no path has no turn, and any other has that of its path
+-- a package of another registry has no turn, one whose name has no path has no turn, and any other
+-- has that of its path
 abbrev pub IsPlanned : List (List ℕ) → Package → Planned → Type 0
 IsPlanned paths p Elsewhere = is_default p ≡ false
 IsPlanned paths p Nameless = (is_default p ≡ true) × (path p.name ≡ None)
-IsPlanned paths p (Turn place) = (is_default p ≡ true) × (q : List ℕ) × (path p.name ≡ Some q) × (place_in paths q ≡ Some place)
+IsPlanned paths p (Turn place) =
+    (is_default p ≡ true) × (q : List ℕ) × (path p.name ≡ Some q) × (place_in paths q ≡ Some place)
 
 abbrev pub ArePlanned : List (List ℕ) → List Package → List Planned → Type 0
 ArePlanned paths [] [] = Unit {0}

@@ -1,6 +1,6 @@
 -- Verdicts by the cache alone (this project, after cargo-audit).
 use Rattle.std.specs.Prelude.{◌≡◌, ◌⊎◌, ℕ, List, [], ◌∷◌, Option, Some, None, IsSomeAnd}
-use Rattle.tame_names.specs.Counts.{Rose}
+use Rattle.tame_names.specs.Counts.{CountRose}
 use Rattle.tame_cache.specs.Disk.{File, reads}
 use Rattle.tame_cache.specs.Kept.{Disk}
 use Rattle.audit_core.specs.Answers.{file_answer}
@@ -8,7 +8,7 @@ use Rattle.audit_core.specs.Turns.{index_file}
 use Rattle.audit_core.specs.Verdicts.{turn_of, verdict_by}
 use Rattle.audit_core.specs.declared.answers.PathAnswer.{PathAnswer}
 use Rattle.audit_core.specs.declared.answers.PathAnswer.TheVariants.{Settled}
-use Rattle.audit_core.specs.declared.asking.Heard.{Heard}
+use Rattle.audit_core.specs.declared.asking.AnsweredTurn.{AnsweredTurn}
 use Rattle.audit_core.specs.declared.asking.Turn.{Turn}
 use Rattle.audit_core.specs.declared.verdicts.Cause.TheVariants as cause
 use Rattle.audit_core.specs.declared.verdicts.Verdict.{Verdict}
@@ -18,7 +18,8 @@ use Rattle.audit_core.specs.declared.verdicts.Verdict.TheVariants.{Unchecked}
 
 -- what the file says; or that it couldn't be read, where the disk's count of faults rose
 abbrev pub IsFileAnswer : File → Turn → PathAnswer → Type 0
-IsFileAnswer file t a = (a ≡ file_answer file) ⊎ (Rose t.disk_asked t.disk_after × (a ≡ Settled cause.Store))
+IsFileAnswer file t a =
+    (a ≡ file_answer file) ⊎ (CountRose t.disk_asked t.disk_after × (a ≡ Settled cause.Store))
 
 -- nothing was asked: the counts of the wire are equal, and the disk wasn't read for a request
 pub record IsUnasked (t : Turn) : Type 0 where
@@ -29,18 +30,23 @@ abbrev pub AreUnasked : List Turn → Type 0
 AreUnasked [] = Unit {0}
 AreUnasked (t ∷ ts) = IsUnasked t × AreUnasked ts
 
--- what was heard of paths is what their files say
-abbrev pub AreRecalled : Type 0 → Disk → List Heard → Type 0
+-- the answers for paths are what their files say
+abbrev pub AreRecalled : Type 0 → Disk → List AnsweredTurn → Type 0
 AreRecalled told disk [] = Unit {0}
-AreRecalled told disk (h ∷ hs) = (told → IsFileAnswer (reads (disk (index_file h.turn.path))) h.turn h.answer) × AreRecalled told disk hs
+AreRecalled told disk (h ∷ hs) =
+    (told → IsFileAnswer (reads (disk (index_file h.turn.path))) h.turn h.answer)
+    × AreRecalled told disk hs
 
 -- ---- of a version
 
 -- by the file that a read of the path gives
 abbrev pub IsFileVerdict : File → Turn → List ℕ → Verdict → Type 0
-IsFileVerdict file t version verdict = (a : PathAnswer) × IsFileAnswer file t a × (verdict ≡ verdict_by a version)
+IsFileVerdict file t version verdict =
+    (a : PathAnswer) × IsFileAnswer file t a × (verdict ≡ verdict_by a version)
 
 -- no path: nothing is read; else, where the disk tells it, by the file of the path
-abbrev pub IsRecalledAt : Type 0 → (List ℕ → File) → List Turn → List ℕ → Option (List ℕ) → Verdict → Type 0
-IsRecalledAt told files turns version None verdict = verdict ≡ Unchecked cause.Name
-IsRecalledAt told files turns version (Some q) verdict = IsSomeAnd (turn_of q turns) (λ t. told → IsFileVerdict (files q) t version verdict)
+abbrev pub IsVerdictByCacheAt : Type 0 → (List ℕ → File) → List Turn → List ℕ → Option (List ℕ)
+    → Verdict → Type 0
+IsVerdictByCacheAt told files turns version None verdict = verdict ≡ Unchecked cause.Name
+IsVerdictByCacheAt told files turns version (Some q) verdict =
+    IsSomeAnd (turn_of q turns) (λ t. told → IsFileVerdict (files q) t version verdict)

@@ -1,12 +1,12 @@
 -- The turns of an audit: one for each path, one exchange each, their counts chained (this project).
 use Rattle.std.specs.Prelude.{◌≡◌, ◌≢◌, ◌≤◌, ℕ, List, [], ◌∷◌, ◌++◌, map, take, IsTrue, Option, Some, IfSome, IsSomeAnd}
-use Rattle.tame_names.specs.Counts.{IsQuiet, Rose}
+use Rattle.tame_names.specs.Counts.{CountStayed, CountRose}
 use Rattle.tame_names.specs.Names.{IsIndexPath, path}
-use Rattle.tame_entry.specs.Held.{ServerMap}
+use Rattle.tame_entry.specs.ServerMaps.{ServerMap}
 use Rattle.tame_cache.specs.Disk.{Step, reads}
 use Rattle.tame_cache.specs.Gate.{IsStored}
 use Rattle.tame_cache.specs.Kept.{Disk, IsKept, Keeps, cache_file, cache_file_of}
-use Rattle.tame_sparse.specs.Answered.{IsToStore, entry_of}
+use Rattle.tame_sparse.specs.ResponseResults.{IsToStore, entry_of}
 use Rattle.tame_sparse.specs.Exchanges.{crates_io_uri}
 use Rattle.tame_sparse.specs.Honest.{AreHonest, IsHonest}
 use Rattle.tame_sparse.specs.Named.{NamesKept}
@@ -16,7 +16,7 @@ use Rattle.audit_core.specs.Answers.{IsAnswer, IsNotModified}
 use Rattle.audit_core.specs.Paths.{is_among}
 use Rattle.audit_core.specs.declared.answers.PathAnswer.{PathAnswer}
 use Rattle.audit_core.specs.declared.answers.PathAnswer.TheVariants.{Settled}
-use Rattle.audit_core.specs.declared.asking.Heard.{Heard}
+use Rattle.audit_core.specs.declared.asking.AnsweredTurn.{AnsweredTurn}
 use Rattle.audit_core.specs.declared.asking.Turn.{Turn}
 use Rattle.audit_core.specs.declared.verdicts.Cause.TheVariants as cause
 
@@ -35,27 +35,32 @@ IsFileOf names q = (name : List ℕ) × IsTrue (is_among name names) × (cache_f
 
 -- ---- counts
 
--- the counts of the wire and of the disk at the first turn are the first numbers, each turn goes on where the one before ended, and the last ends at the last; within a turn they never fall
+-- the counts of the wire and of the disk at the first turn are the first numbers, each turn goes on
+-- where the one before ended, and the last ends at the last; within a turn they never fall
 abbrev pub Chains : ℕ → ℕ → List Turn → ℕ → ℕ → Type 0
 Chains wire disk [] last_wire last_disk = (last_wire ≡ wire) × (last_disk ≡ disk)
 Chains wire disk (t ∷ ts) last_wire last_disk =
-    (t.wire_before ≡ wire) × (t.wire_before ≤ t.wire_after) × (t.disk_before ≡ disk) × (t.disk_before ≤ t.disk_asked) × (t.disk_asked ≤ t.disk_after)
+    (t.wire_before ≡ wire) × (t.wire_before ≤ t.wire_after) × (t.disk_before ≡ disk)
+    × (t.disk_before ≤ t.disk_asked) × (t.disk_asked ≤ t.disk_after)
     × Chains t.wire_after t.disk_after ts last_wire last_disk
 
--- a failed exchange raised the wire's count in its turn, and a file that couldn't be read the disk's after the exchange
-pub record IsCaused (h : Heard) : Type 0 where
-  pub wire : h.answer ≡ Settled cause.Wire → Rose h.turn.wire_before h.turn.wire_after
-  pub store : h.answer ≡ Settled cause.Store → Rose h.turn.disk_asked h.turn.disk_after
+-- a failed exchange raised the wire's count in its turn, and a file that couldn't be read the
+-- disk's after the exchange
+pub record IsCaused (h : AnsweredTurn) : Type 0 where
+  pub wire : h.answer ≡ Settled cause.Wire → CountRose h.turn.wire_before h.turn.wire_after
+  pub store : h.answer ≡ Settled cause.Store → CountRose h.turn.disk_asked h.turn.disk_after
 
-abbrev pub AreCaused : List Heard → Type 0
+abbrev pub AreCaused : List AnsweredTurn → Type 0
 AreCaused [] = Unit {0}
 AreCaused (h ∷ hs) = IsCaused h × AreCaused hs
 
 -- ---- what a turn keeps of an answer
 
--- where the disk's count is quiet the file is the entry of an answer that is stored, and a crash leaves no other; after any other answer it is as it was
-pub record LeavesFile (came : Option WireAnswer) (asked after : ℕ) (old new : List Step) : Type 0 where
-  pub stored : IfSome came (λ a. IsToStore a → IsQuiet asked after → IsStored (entry_of a) new)
+-- where the disk's count stayed the file is the entry of an answer that is stored, and a crash
+-- leaves no other; after any other answer it is as it was
+pub record LeavesFile (came : Option WireAnswer) (asked after : ℕ)
+    (old new : List Step) : Type 0 where
+  pub stored : IfSome came (λ a. IsToStore a → CountStayed asked after → IsStored (entry_of a) new)
   pub unstored : ¬ (IsSomeAnd came IsToStore) → new ≡ old
 
 -- ---- where it is asked
@@ -68,38 +73,52 @@ AreAddressed (e ∷ es) = (e.url ≡ crates_io_uri e.path) × AreAddressed es
 -- ---- turns with their exchanges, from one state of the cache's files to the next
 
 -- what an exchange does, by the disk's counts before it and after the response
-pub record IsExchanged (told : Type 0) (asked after : ℕ) (old new : Disk) (e : Exchange) (a : PathAnswer) : Type 0 where
-  pub answer : (IsNotModified e.answer → told) → IsAnswer (reads (old (index_file e.path))) e.answer a
-  pub leaves : told → LeavesFile e.answer asked after (old (index_file e.path)) (new (index_file e.path))
+pub record IsExchanged (told : Type 0) (asked after : ℕ) (old new : Disk) (e : Exchange)
+    (a : PathAnswer) : Type 0 where
+  pub answer : (IsNotModified e.answer → told)
+      → IsAnswer (reads (old (index_file e.path))) e.answer a
+  pub leaves : told → LeavesFile e.answer asked after (old (index_file e.path))
+      (new (index_file e.path))
   pub others : told → (q : List ℕ) → q ≢ index_file e.path → new q ≡ old q
   pub keeps : told → (m : ServerMap) → IsHonest m e → IsKept m [] old → Keeps m [] old new
 
-pub record IsTurn (told : Type 0) (old new : Disk) (e : Exchange) (h : Heard) : Type 0 where
+pub record IsTurn (told : Type 0) (old new : Disk) (e : Exchange) (h : AnsweredTurn) : Type 0 where
   pub place : IsIndexPath e.path
   pub url : e.url ≡ crates_io_uri e.path
   pub path : e.path ≡ h.turn.path
-  pub named : told → NamesKept (reads (old (index_file e.path))) h.turn.disk_before h.turn.disk_asked e.named
+  pub named : told
+      → NamesKept (reads (old (index_file e.path))) h.turn.disk_before h.turn.disk_asked e.named
   pub exchanged : IsExchanged told h.turn.disk_asked h.turn.disk_after old new e h.answer
 
-abbrev pub Turned : Type 0 → Disk → List Exchange → List Heard → Disk → Type 0
-Turned told old [] [] new = told → (q : List ℕ) → new q ≡ old q
-Turned told old (e ∷ es) (h ∷ hs) new = (mid : Disk) × IsTurn told old mid e h × Turned told mid es hs new
-Turned told old _ _ new = ⊥
+abbrev pub TurnsInOrder : Type 0 → Disk → List Exchange → List AnsweredTurn → Disk → Type 0
+TurnsInOrder told old [] [] new = told → (q : List ℕ) → new q ≡ old q
+TurnsInOrder told old (e ∷ es) (h ∷ hs) new =
+    (mid : Disk) × IsTurn told old mid e h × TurnsInOrder told mid es hs new
+TurnsInOrder told old _ _ new = ⊥
 
 -- exactly these exchanges follow the list: one for each turn
-abbrev pub Adds : Type 0 → List Exchange → List Exchange → Disk → List Heard → Disk → Type 0
-Adds told before now old hs new = (es : List Exchange) × (now ≡ before ++ es) × Turned told old es hs new
+abbrev pub AddsTurns : Type 0 → List Exchange → List Exchange → Disk → List AnsweredTurn → Disk
+    → Type 0
+AddsTurns told before now old hs new =
+    (es : List Exchange) × (now ≡ before ++ es) × TurnsInOrder told old es hs new
 
 -- exchanges for a part of these paths, from the front, follow the list
 abbrev pub AddsPart : List (List ℕ) → List Exchange → List Exchange → Type 0
-AddsPart paths before now = (es : List Exchange) × (k : ℕ) × (now ≡ before ++ es) × (map (λ e. e.path) es ≡ take k paths) × AreAddressed es
+AddsPart paths before now =
+    (es : List Exchange) × (k : ℕ) × (now ≡ before ++ es) × (map (λ e. e.path) es ≡ take k paths)
+    × AreAddressed es
 
 -- the same by the names of these paths
 abbrev pub AddsNamed : List (List ℕ) → List Exchange → List Exchange → Type 0
-AddsNamed names before now = (es : List Exchange) × (k : ℕ) × (now ≡ before ++ es) × (map (λ e. Some e.path) es ≡ take k (map path names)) × AreAddressed es
+AddsNamed names before now =
+    (es : List Exchange) × (k : ℕ) × (now ≡ before ++ es)
+    × (map (λ e. Some e.path) es ≡ take k (map path names)) × AreAddressed es
 
 -- ---- kept all the time
 
--- where the exchanges that follow the list are honest for a map for which the disk was kept, it was kept all the time
-abbrev pub KeepsHonest : List Exchange → List Exchange → Disk → Disk → Type 0
-KeepsHonest before now old new = (m : ServerMap) (added : List Exchange) → now ≡ before ++ added → AreHonest m added → IsKept m [] old → Keeps m [] old new
+-- where the exchanges that follow the list are honest for a map for which the disk was kept, it was
+-- kept all the time
+abbrev pub StaysKept : List Exchange → List Exchange → Disk → Disk → Type 0
+StaysKept before now old new =
+    (m : ServerMap) (added : List Exchange) → now ≡ before ++ added → AreHonest m added
+    → IsKept m [] old → Keeps m [] old new

@@ -3,16 +3,16 @@ ghost use Rattle.std.specs.Prelude.{◌≡◌, ◌≢◌, ℕ, List, IfOk, Ok, E
 ghost use Rattle.tame_entry.specs.declared.index_entries.IndexEntry.{IndexEntry};
 ghost use Rattle.tame_names.specs.declared.errors.Error.{Error};
 ghost use Rattle.tame_names.specs.declared.errors.InvalidJsonLines.{InvalidJsonLines};
-ghost use Rattle.tame_sparse.specs.Answered.{status_fault};
-ghost use Rattle.audit_core.specs.Answers.{entry_answer};
-ghost use Rattle.audit_core.specs.Taken.{IsAnswerTaken};
-ghost use Rattle.audit_core.specs.Verdicts.{verdict_by};
+ghost use Rattle.tame_sparse.specs.ResponseResults.{status_fault};
+ghost use Rattle.audit_core.specs.Answers as spec;
+ghost use Rattle.audit_core.specs.ResultAnswers.{IsAnswerOfResult};
+ghost use Rattle.audit_core.specs.Verdicts as verdicts_spec;
 
 use crate::verdicts::{Cause, Verdict};
 use std::alloc::Global;
-use tame_entry::{IndexEntry, Said, read_item_heads, said_of};
+use tame_entry::{IndexEntry, VersionStatus, read_item_version_flags, status_among};
 use tame_names::{Error, HttpError, IoKind, Items, NoMemory};
-use tame_records::VersionHead;
+use tame_records::VersionFlag;
 
 /// What an answer says of every version of its crate.
 #[derive(Debug, Drop)]
@@ -20,15 +20,15 @@ pub enum PathAnswer {
     /// The same cause for each version.
     Settled(Cause),
     /// Version and flag of each line; nothing where some line has no record.
-    Lines(Option<Items<VersionHead>>),
+    Lines(Option<Items<VersionFlag>>),
 }
 
 /// By the lines of an index entry; a file that is refused is as good as none.
 fn entry_answer(alloc: Global, entry: &IndexEntry<'_, '_>) -> Result<PathAnswer, NoMemory>
-    ensures { IfOk result (λ a. a ≡ entry_answer entry.now) }
+    ensures { IfOk result (λ a. a ≡ spec.entry_answer entry.now) }
 {
     match entry.iter() {
-        Ok(items) => Ok(PathAnswer::Lines(read_item_heads(alloc, items)?)),
+        Ok(items) => Ok(PathAnswer::Lines(read_item_version_flags(alloc, items)?)),
         Err(_) => Ok(PathAnswer::Settled(Cause::Absent)),
     }
 }
@@ -38,7 +38,7 @@ pub fn answer_taken(
     alloc: Global,
     taken: Result<Option<IndexEntry<'_, '_>>, Error>,
 ) -> Result<PathAnswer, NoMemory>
-    ensures { IfOk result (IsAnswerTaken taken.entry) }
+    ensures { IfOk result (IsAnswerOfResult taken.entry) }
 {
     match taken {
         Ok(Some(entry)) => entry_answer(alloc, &entry),
@@ -54,15 +54,15 @@ pub fn answer_taken(
 
 /// The verdict of a version.
 pub fn verdict_by(answer: &PathAnswer, version: &str) -> Verdict
-    ensures { result ≡ verdict_by answer.now version.now }
+    ensures { result ≡ verdicts_spec.verdict_by answer.now version.now }
 {
     match answer {
         PathAnswer::Settled(cause) => Verdict::Unchecked(*cause),
-        PathAnswer::Lines(heads) => match said_of(heads, version) {
-            Said::Unread => Verdict::Unchecked(Cause::Record),
-            Said::NoVersion => Verdict::Unchecked(Cause::NoVersion),
-            Said::Flag(true) => Verdict::Yanked,
-            Said::Flag(false) => Verdict::NotYanked,
+        PathAnswer::Lines(flags) => match status_among(flags, version) {
+            VersionStatus::Unread => Verdict::Unchecked(Cause::Record),
+            VersionStatus::NoVersion => Verdict::Unchecked(Cause::NoVersion),
+            VersionStatus::Flag(true) => Verdict::Yanked,
+            VersionStatus::Flag(false) => Verdict::NotYanked,
         },
     }
 }

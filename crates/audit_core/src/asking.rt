@@ -1,10 +1,10 @@
 //! One turn for each path: a request, one exchange, and what is kept of the answer.
 ghost use Rattle.std.specs.Prelude.{◌≡◌, ◌≢◌, ◌∷◌, [], ◌++◌, ◌≤◌, ℕ, List, codes, map, Some, IsTrue, IfOk, IfSome, OnOk, OnErr, option_map};
 ghost use Rattle.std.specs.List.{list_all};
-ghost use Rattle.tame_names.specs.Counts.{Rose};
+ghost use Rattle.tame_names.specs.Counts.{CountRose};
 ghost use Rattle.tame_names.specs.KrateNames.{text_of};
 ghost use Rattle.tame_names.specs.Names.{IsIndexPath, is_name, path};
-ghost use Rattle.tame_entry.specs.Held.{Maps, ServerMap};
+ghost use Rattle.tame_entry.specs.ServerMaps.{Maps, ServerMap};
 ghost use Rattle.tame_entry.specs.Revision.{http_value};
 ghost use Rattle.tame_cache.specs.Disk.{reads};
 ghost use Rattle.tame_cache.specs.Folders.{MakesOnly};
@@ -12,7 +12,7 @@ ghost use Rattle.tame_cache.specs.Kept.{IsKept, Keeps, cache_file_of};
 ghost use Rattle.tame_sparse.specs.declared.network.Exchange.{Exchange};
 ghost use Rattle.audit_core.specs.Answers.{IsAnswer};
 ghost use Rattle.tame_sparse.specs.Exchanges.{crates_io_uri};
-ghost use Rattle.audit_core.specs.Turns.{Adds, AddsNamed, AddsPart, AreCaused, Chains, IsExchanged, IsFileOf, IsNoFileOf, KeepsHonest, LeavesFile, index_file};
+ghost use Rattle.audit_core.specs.Turns.{AddsTurns, AddsNamed, AddsPart, AreCaused, Chains, IsExchanged, IsFileOf, IsNoFileOf, StaysKept, LeavesFile, index_file};
 
 use crate::answers::{PathAnswer, answer_taken};
 use crate::verdicts::Cause;
@@ -35,7 +35,7 @@ pub struct Turn {
 
 /// The turn of a path, with what its answer says.
 #[derive(Drop)]
-pub struct Heard {
+pub struct AnsweredTurn {
     pub turn: Turn,
     pub answer: PathAnswer,
 }
@@ -67,14 +67,22 @@ fn take_answer<D: CacheDisk>(
     answer: &WireAnswer,
 ) -> Result<PathAnswer, NoMemory>
     requires { index.now.cache.path ≡ [] }
-    ensures answer { (answer.now.status ≡ 304 → D.tells) → (q : List ℕ) → cache_file_of [] (text_of name.entry) ≡ Some q → IfOk result (IsAnswer (reads (D.past disk.old q)) (Some answer.now)) }
+    ensures answer { (answer.now.status ≡ 304 → D.tells) → (q : List ℕ)
+        → cache_file_of [] (text_of name.entry) ≡ Some q
+        → IfOk result (IsAnswer (reads (D.past disk.old q)) (Some answer.now)) }
     ensures leaves { D.tells → (q : List ℕ) → cache_file_of [] (text_of name.entry) ≡ Some q
-        → OnOk result (LeavesFile (Some answer.now) (D.faults disk.old) (D.faults disk.new) (D.past disk.old q) (D.past disk.new q)) }
-    ensures others { D.tells → (q : List ℕ) → cache_file_of [] (text_of name.entry) ≢ Some q → D.past disk.new q ≡ D.past disk.old q }
-    ensures folders { D.tells → MakesOnly (λ q. cache_file_of [] (text_of name.entry) ≡ Some q) (D.folders disk.old) (D.folders disk.new) }
-    ensures kept { D.tells → (m : ServerMap) → ((p : List ℕ) → path (text_of name.entry) ≡ Some p → answer.now.status ≡ 200 → IfSome answer.now.revision (λ r. Maps m p r answer.now.body))
+        → OnOk result (LeavesFile (Some answer.now) (D.faults disk.old) (D.faults disk.new)
+        (D.past disk.old q) (D.past disk.new q)) }
+    ensures others { D.tells → (q : List ℕ) → cache_file_of [] (text_of name.entry) ≢ Some q
+        → D.past disk.new q ≡ D.past disk.old q }
+    ensures folders { D.tells → MakesOnly (λ q. cache_file_of [] (text_of name.entry) ≡ Some q)
+        (D.folders disk.old) (D.folders disk.new) }
+    ensures kept { D.tells → (m : ServerMap)
+        → ((p : List ℕ) → path (text_of name.entry) ≡ Some p → answer.now.status ≡ 200
+        → IfSome answer.now.revision (λ r. Maps m p r answer.now.body))
         → IsKept m [] (D.past disk.old) → Keeps m [] (D.past disk.old) (D.past disk.new) }
-    ensures store { IfOk result (λ a. a ≡ PathAnswer.Settled Cause.Store → Rose (D.faults disk.old) (D.faults disk.new)) }
+    ensures store { IfOk result (λ a. a ≡ PathAnswer.Settled Cause.Store
+        → CountRose (D.faults disk.old) (D.faults disk.new)) }
     ensures not_wire { IfOk result (λ a. a ≢ PathAnswer.Settled Cause.Wire) }
     ensures later { D.faults disk.old ≤ D.faults disk.new }
 {
@@ -84,7 +92,7 @@ fn take_answer<D: CacheDisk>(
 }
 
 /// Makes the exchange of a request, and takes its answer.
-fn hear<W: Wire, D: CacheDisk>(
+fn exchange_answer<W: Wire, D: CacheDisk>(
     alloc: Global,
     index: &SparseIndex,
     lock: &FileLock,
@@ -96,16 +104,27 @@ fn hear<W: Wire, D: CacheDisk>(
     requires root { index.now.cache.path ≡ [] }
     requires place { path (text_of name) ≡ Some request.now.path }
     requires url { request.now.uri ≡ crates_io_uri request.now.path }
-    ensures heard { W.tells → IfOk result (λ a. (e : Exchange) × (W.exchanges wire.new ≡ W.exchanges wire.old ++ e ∷ []) × (e.path ≡ request.now.path) × (e.named ≡ request.now.named)
-        × (e.url ≡ crates_io_uri e.path) × IsExchanged D.tells (D.faults disk.old) (D.faults disk.new) (D.past disk.old) (D.past disk.new) e a) }
-    ensures part { W.tells → OnErr result (AddsPart (request.now.path ∷ []) (W.exchanges wire.old) (W.exchanges wire.new)) }
-    ensures kept { W.tells → D.tells → KeepsHonest (W.exchanges wire.old) (W.exchanges wire.new) (D.past disk.old) (D.past disk.new) }
-    ensures wire { IfOk result (λ a. a ≡ PathAnswer.Settled Cause.Wire → Rose (W.faults wire.old) (W.faults wire.new)) }
-    ensures store { IfOk result (λ a. a ≡ PathAnswer.Settled Cause.Store → Rose (D.faults disk.old) (D.faults disk.new)) }
+    ensures answered_turns { W.tells
+        → IfOk result (λ a. (e : Exchange) × (W.exchanges wire.new ≡ W.exchanges wire.old ++ e ∷ [])
+        × (e.path ≡ request.now.path) × (e.named ≡ request.now.named)
+        × (e.url ≡ crates_io_uri e.path)
+        × IsExchanged D.tells (D.faults disk.old) (D.faults disk.new) (D.past disk.old)
+        (D.past disk.new) e a) }
+    ensures part { W.tells → OnErr result
+        (AddsPart (request.now.path ∷ []) (W.exchanges wire.old) (W.exchanges wire.new)) }
+    ensures kept { W.tells → D.tells
+        → StaysKept (W.exchanges wire.old) (W.exchanges wire.new) (D.past disk.old)
+        (D.past disk.new) }
+    ensures wire { IfOk result (λ a. a ≡ PathAnswer.Settled Cause.Wire
+        → CountRose (W.faults wire.old) (W.faults wire.new)) }
+    ensures store { IfOk result (λ a. a ≡ PathAnswer.Settled Cause.Store
+        → CountRose (D.faults disk.old) (D.faults disk.new)) }
     ensures later_wire { W.faults wire.old ≤ W.faults wire.new }
     ensures later_disk { D.faults disk.old ≤ D.faults disk.new }
-    ensures others { D.tells → (q : List ℕ) → q ≢ index_file request.now.path → D.past disk.new q ≡ D.past disk.old q }
-    ensures folders { D.tells → MakesOnly (λ q. cache_file_of [] (text_of name.entry) ≡ Some q) (D.folders disk.old) (D.folders disk.new) }
+    ensures others { D.tells → (q : List ℕ) → q ≢ index_file request.now.path
+        → D.past disk.new q ≡ D.past disk.old q }
+    ensures folders { D.tells → MakesOnly (λ q. cache_file_of [] (text_of name.entry) ≡ Some q)
+        (D.folders disk.old) (D.folders disk.new) }
 {
     match wire.exchange(alloc, request) {
         Ok(answer) => take_answer(alloc, index, lock, disk, name, &answer),
@@ -133,18 +152,26 @@ fn take_turn<W: Wire, D: CacheDisk>(
     wire: &mut W,
     disk: &mut D,
     name: &Text,
-) -> Result<Heard, NoMemory>
+) -> Result<AnsweredTurn, NoMemory>
     requires root { index.now.cache.path ≡ [] }
     requires url { index.now.url ≡ codes "sparse+https://index.crates.io/" }
     requires named { IsTrue (is_name name.now) }
     ensures path { IfOk result (λ h. path name.now ≡ Some h.turn.path) }
-    ensures counts { IfOk result (λ h. Chains (W.faults wire.old) (D.faults disk.old) (h.turn ∷ []) (W.faults wire.new) (D.faults disk.new)) }
+    ensures counts { IfOk result (λ h. Chains (W.faults wire.old) (D.faults disk.old) (h.turn ∷ [])
+        (W.faults wire.new) (D.faults disk.new)) }
     ensures caused { IfOk result (λ h. AreCaused (h ∷ [])) }
-    ensures said { W.tells → IfOk result (λ h. Adds D.tells (W.exchanges wire.old) (W.exchanges wire.new) (D.past disk.old) (h ∷ []) (D.past disk.new)) }
-    ensures part { W.tells → OnErr result (AddsNamed (name.now ∷ []) (W.exchanges wire.old) (W.exchanges wire.new)) }
-    ensures kept { W.tells → D.tells → KeepsHonest (W.exchanges wire.old) (W.exchanges wire.new) (D.past disk.old) (D.past disk.new) }
-    ensures others { D.tells → (q : List ℕ) → cache_file_of [] name.now ≢ Some q → D.past disk.new q ≡ D.past disk.old q }
-    ensures folders { D.tells → MakesOnly (λ q. cache_file_of [] name.now ≡ Some q) (D.folders disk.old) (D.folders disk.new) }
+    ensures said { W.tells → IfOk result
+        (λ h. AddsTurns D.tells (W.exchanges wire.old) (W.exchanges wire.new) (D.past disk.old)
+        (h ∷ []) (D.past disk.new)) }
+    ensures part { W.tells → OnErr result
+        (AddsNamed (name.now ∷ []) (W.exchanges wire.old) (W.exchanges wire.new)) }
+    ensures kept { W.tells → D.tells
+        → StaysKept (W.exchanges wire.old) (W.exchanges wire.new) (D.past disk.old)
+        (D.past disk.new) }
+    ensures others { D.tells → (q : List ℕ) → cache_file_of [] name.now ≢ Some q
+        → D.past disk.new q ≡ D.past disk.old q }
+    ensures folders { D.tells → MakesOnly (λ q. cache_file_of [] name.now ≡ Some q)
+        (D.folders disk.old) (D.folders disk.new) }
 {
     let wire_before = wire.wire_faults();
     let disk_before = disk.disk_faults();
@@ -154,9 +181,9 @@ fn take_turn<W: Wire, D: CacheDisk>(
         Err(_) => return Err(NoMemory),
     };
     let disk_asked = disk.disk_faults();
-    let answer = hear(alloc, index, lock, wire, disk, krate, &request)?;
+    let answer = exchange_answer(alloc, index, lock, wire, disk, krate, &request)?;
     let Request { path, .. } = request;
-    Ok(Heard {
+    Ok(AnsweredTurn {
         turn: Turn {
             path,
             wire_before,
@@ -177,23 +204,31 @@ pub fn ask<W: Wire, D: CacheDisk>(
     wire: &mut W,
     disk: &mut D,
     names: &[Text],
-) -> Result<Items<Heard>, NoMemory>
+) -> Result<Items<AnsweredTurn>, NoMemory>
     requires root { index.now.cache.path ≡ [] }
     requires url { index.now.url ≡ codes "sparse+https://index.crates.io/" }
     requires named { IsTrue (list_all is_name names.now) }
     ensures paths { IfOk result (λ hs. map (λ h. Some h.turn.path) hs ≡ map path names.now) }
-    ensures counts { IfOk result (λ hs. Chains (W.faults wire.old) (D.faults disk.old) (map (λ h. h.turn) hs) (W.faults wire.new) (D.faults disk.new)) }
+    ensures counts { IfOk result (λ hs. Chains (W.faults wire.old) (D.faults disk.old)
+        (map (λ h. h.turn) hs) (W.faults wire.new) (D.faults disk.new)) }
     ensures caused { IfOk result AreCaused }
-    ensures said { W.tells → IfOk result (λ hs. Adds D.tells (W.exchanges wire.old) (W.exchanges wire.new) (D.past disk.old) hs (D.past disk.new)) }
-    ensures part { W.tells → OnErr result (AddsNamed names.now (W.exchanges wire.old) (W.exchanges wire.new)) }
-    ensures kept { W.tells → D.tells → KeepsHonest (W.exchanges wire.old) (W.exchanges wire.new) (D.past disk.old) (D.past disk.new) }
-    ensures others { D.tells → (q : List ℕ) → IsNoFileOf names.now q → D.past disk.new q ≡ D.past disk.old q }
-    ensures folders { D.tells → MakesOnly (IsFileOf names.now) (D.folders disk.old) (D.folders disk.new) }
+    ensures said { W.tells → IfOk result
+        (λ hs. AddsTurns D.tells (W.exchanges wire.old) (W.exchanges wire.new) (D.past disk.old) hs
+        (D.past disk.new)) }
+    ensures part { W.tells → OnErr result
+        (AddsNamed names.now (W.exchanges wire.old) (W.exchanges wire.new)) }
+    ensures kept { W.tells → D.tells
+        → StaysKept (W.exchanges wire.old) (W.exchanges wire.new) (D.past disk.old)
+        (D.past disk.new) }
+    ensures others { D.tells → (q : List ℕ) → IsNoFileOf names.now q
+        → D.past disk.new q ≡ D.past disk.old q }
+    ensures folders { D.tells → MakesOnly (IsFileOf names.now) (D.folders disk.old)
+        (D.folders disk.new) }
 {
-    let mut heard = Items::new(alloc);
+    let mut answered_turns = Items::new(alloc);
     for name in names {
         let turn = take_turn(alloc, index, lock, wire, disk, name)?;
-        heard.add(turn)?;
+        answered_turns.add(turn)?;
     }
-    Ok(heard)
+    Ok(answered_turns)
 }

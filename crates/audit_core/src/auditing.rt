@@ -28,8 +28,8 @@ pub struct Audited {
     /// One verdict for each package of the default registry, in the lockfile's order; none where
     /// checks are off.
     pub verdicts: Items<Judged>,
-    /// One turn for each distinct path of these packages, in the order of their first packages; none
-    /// where checks are off.
+    /// One turn for each distinct path of these packages, in the order of their first packages;
+    /// none where checks are off.
     pub turns: Items<Turn>,
     /// The status that a build should end with: 1 where the audit fails, else 0.
     pub exit: u8,
@@ -40,7 +40,8 @@ pub struct Audited {
 pub enum AuditError {
     /// The text is no lockfile, for this reason, which is never want of memory.
     Lockfile(LockfileFault),
-    /// The advisory of this number, from 0, is none, for this reason, which is never want of memory.
+    /// The advisory of this number, from 0, is none, for this reason, which is never want of
+    /// memory.
     Advisory { n: usize, fault: AdvisoryFault },
     NoMemory,
 }
@@ -72,7 +73,7 @@ fn yanked_places(alloc: Global, verdicts: &[Judged]) -> Result<Items<usize>, NoM
 impl Auditor {
     ghost use Rattle.audit_core.specs.Audits.{IsAuditOf, KeepsOthers, MakesAskedFolders};
     ghost use Rattle.audit_core.specs.Checks.{asked_of};
-    ghost use Rattle.audit_core.specs.Turns.{AddsPart, KeepsHonest};
+    ghost use Rattle.audit_core.specs.Turns.{AddsPart, StaysKept};
     ghost use Rattle.audit_core.specs.declared.checking.Checks.TheVariants as Checks;
 
     /// The audit of what was checked, with the report that the advisories gave.
@@ -118,37 +119,58 @@ impl Auditor {
         wire: &mut W,
         disk: &mut D,
     ) -> Result<Audited, AuditError>
-        // the packages of the text; the report and the exit by the auditor's advisories and settings; and what the audit says:
-        // online the headline over an honest server and a kept disk, and for every server and every disk what was asked and
-        // named, the verdicts by the table over what came, and what is kept; offline the verdicts by what the cache has;
-        // and counts that go on from the entry to the exit, where one fault licenses one turn
+        // the packages of the text; the report and the exit by the auditor's advisories and
+        // settings; and what the audit says: online the headline over an honest server and a kept
+        // disk, and for every server and every disk what was asked and named, the verdicts by the
+        // table over what came, and what is kept; offline the verdicts by what the cache has; and
+        // counts that go on from the entry to the exit, where one fault licenses one turn
         ensures audited { IfOk result (IsAuditOf self.now W.tells D.tells
-            (record { exchanges = W.exchanges wire.old; files = D.past disk.old; wire_faults = W.faults wire.old; disk_faults = D.faults disk.old })
-            (record { exchanges = W.exchanges wire.new; files = D.past disk.new; wire_faults = W.faults wire.new; disk_faults = D.faults disk.new })
+            (record {
+              exchanges = W.exchanges wire.old;
+              files = D.past disk.old;
+              wire_faults = W.faults wire.old;
+              disk_faults = D.faults disk.old;
+            })
+            (record {
+              exchanges = W.exchanges wire.new;
+              files = D.past disk.new;
+              wire_faults = W.faults wire.new;
+              disk_faults = D.faults disk.new;
+            })
             text.now) }
 
-        // why there is none: the text is no lockfile, for this reason, and nothing is called; no advisory is to blame
-        ensures refused { (f : LockfileFault) → result ≡ Err (AuditError.Lockfile f) → locked text.now ≡ Err f }
+        // why there is none: the text is no lockfile, for this reason, and nothing is called; no
+        // advisory is to blame
+        ensures refused { (f : LockfileFault) → result ≡ Err (AuditError.Lockfile f)
+            → locked text.now ≡ Err f }
         ensures no_memory { result ≢ Err (AuditError.Lockfile LockfileFault.NoMemory) }
         ensures no_advisory { (n : ℕ) (f : AdvisoryFault) → result ≢ Err (AuditError.Advisory n f) }
-        ensures uncalled { (f : LockfileFault) → locked text.now ≡ Err f → (wire.new ≡ wire.old) × (disk.new ≡ disk.old) }
+        ensures uncalled { (f : LockfileFault) → locked text.now ≡ Err f
+            → (wire.new ≡ wire.old) × (disk.new ≡ disk.old) }
 
         // whatever the answer, a kept disk is kept at every moment where the exchanges were honest
-        ensures kept { W.tells → D.tells → KeepsHonest (W.exchanges wire.old) (W.exchanges wire.new) (D.past disk.old) (D.past disk.new) }
+        ensures kept { W.tells → D.tells
+            → StaysKept (W.exchanges wire.old) (W.exchanges wire.new) (D.past disk.old)
+            (D.past disk.new) }
 
         // whatever the answer, a part of the paths was asked for, from the front
         ensures part { W.tells → (packages : List Package) → locked text.now ≡ Ok packages
-            → AddsPart (asked_of self.now.checks packages) (W.exchanges wire.old) (W.exchanges wire.new) }
+            → AddsPart (asked_of self.now.checks packages) (W.exchanges wire.old)
+            (W.exchanges wire.new) }
 
-        // whatever the answer, no file changes that is that of no path that is asked for, and no folders are made but those above such files
+        // whatever the answer, no file changes that is that of no path that is asked for, and no
+        // folders are made but those above such files
         ensures others { D.tells → (packages : List Package) → locked text.now ≡ Ok packages
             → KeepsOthers (asked_of self.now.checks packages) (D.past disk.old) (D.past disk.new) }
         ensures folders { D.tells → (packages : List Package) → locked text.now ≡ Ok packages
-            → MakesAskedFolders (asked_of self.now.checks packages) (D.folders disk.old) (D.folders disk.new) }
+            → MakesAskedFolders (asked_of self.now.checks packages) (D.folders disk.old)
+            (D.folders disk.new) }
 
-        // whatever the answer, the wire isn't called but online, and then alone a file may change; where checks are off the disk isn't called
+        // whatever the answer, the wire isn't called but online, and then alone a file may change;
+        // where checks are off the disk isn't called
         ensures unasked { self.now.checks ≢ Checks.Online → wire.new ≡ wire.old }
-        ensures unchanged { self.now.checks ≢ Checks.Online → D.tells → (q : List ℕ) → D.past disk.new q ≡ D.past disk.old q }
+        ensures unchanged { self.now.checks ≢ Checks.Online → D.tells → (q : List ℕ)
+            → D.past disk.new q ≡ D.past disk.old q }
         ensures off { self.now.checks ≡ Checks.Off → disk.new ≡ disk.old }
     {
         let lockfile = match Lockfile::read(alloc, text) {

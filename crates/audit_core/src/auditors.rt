@@ -2,7 +2,8 @@
 ghost use Rattle.std.specs.Prelude.{◌≡◌, ◌≢◌, IfOk, IfErr, Ok, Err};
 ghost use Rattle.audit_advisory.specs.Exits.{fails};
 ghost use Rattle.audit_advisory.specs.Points.{point_of};
-ghost use Rattle.audit_core.specs.Auditors.{advisories_from, auditor_of, refuses_advisory, release, self_advisories, text_auditor};
+ghost use Rattle.audit_core.specs.Auditors.{advisories_from, auditor_of, refuses_advisory, text_auditor};
+ghost use Rattle.audit_core.specs.Auditors as spec;
 
 use crate::auditing::AuditError;
 use crate::checking::{Checks, checks_of};
@@ -42,7 +43,7 @@ fn read_advisories(alloc: Global, texts: &[Text]) -> Result<Items<Advisory>, Aud
 
 /// A version without pre-release.
 fn release(major: u64, minor: u64, patch: u64) -> Version
-    ensures { point_of result ≡ release major minor patch }
+    ensures { point_of result ≡ spec.release major minor patch }
 {
     Version::new(major, minor, patch)
 }
@@ -105,7 +106,7 @@ impl Auditor {
     /// The places of the advisories on the auditor itself: those on `cargo-audit` 0.22.2, and then
     /// those on `rustsec` 0.33.0, the library that it ports.
     pub fn self_advisories(&self, alloc: Global) -> Result<Items<usize>, NoMemory>
-        ensures { IfOk result (λ places. places ≡ self_advisories self.now.database) }
+        ensures { IfOk result (λ places. places ≡ spec.self_advisories self.now.database) }
     {
         let program = release(0, 22, 2);
         let library = release(0, 33, 0);
@@ -119,7 +120,7 @@ impl Auditor {
     /// itself where `warnings` are denied.
     pub fn should_exit_with_failure(&self, alloc: Global, report: &Report) -> Result<bool, NoMemory>
         ensures { IfOk result (λ failed. failed
-            ≡ fails report.now self.now.deny (self_advisories self.now.database)) }
+            ≡ fails report.now self.now.deny (spec.self_advisories self.now.database)) }
     {
         let own = self.self_advisories(alloc)?;
         Ok(fails(report, self.deny.as_slice(), own.as_slice()))

@@ -1,11 +1,12 @@
 //! Checks for yanked versions: by the index, by the cache alone, or none.
 ghost use Rattle.std.specs.Prelude.{◌≡◌, ◌≢◌, [], ℕ, List, codes, map, IfOk, OnErr};
 ghost use Rattle.audit_core.specs.Audits.{AuditSays, KeepsOthers, MakesAskedFolders};
-ghost use Rattle.audit_core.specs.Checks.{asked_of, checks_of, judged_of};
+ghost use Rattle.audit_core.specs.Checks.{asked_of, judged_of};
+ghost use Rattle.audit_core.specs.Checks as spec;
 ghost use Rattle.audit_core.specs.Paths.{asked_paths, defaults};
-ghost use Rattle.audit_core.specs.Turns.{AddsPart, KeepsHonest};
+ghost use Rattle.audit_core.specs.Turns.{AddsPart, StaysKept};
 
-use crate::asking::{Heard, Turn, ask};
+use crate::asking::{AnsweredTurn, Turn, ask};
 use crate::judging::judge;
 use crate::planning::{Plan, plan_turns};
 use crate::recalling::recall_all;
@@ -30,7 +31,7 @@ pub enum Checks {
 
 /// The checks that settings ask for.
 pub fn checks_of(config: &AuditConfig) -> Checks
-    ensures { result ≡ checks_of config.now }
+    ensures { result ≡ spec.checks_of config.now }
 {
     if !config.yanked.enabled {
         Checks::Off
@@ -48,11 +49,11 @@ pub struct Checked {
     pub turns: Items<Turn>,
 }
 
-fn turns_of(alloc: Global, heard: Items<Heard>) -> Result<Items<Turn>, NoMemory>
-    ensures { IfOk result (λ ts. ts ≡ map (λ h. h.turn) heard) }
+fn turns_of(alloc: Global, answered_turns: Items<AnsweredTurn>) -> Result<Items<Turn>, NoMemory>
+    ensures { IfOk result (λ ts. ts ≡ map (λ h. h.turn) answered_turns) }
 {
     let mut turns = Items::new(alloc);
-    for h in heard.into_vec() {
+    for h in answered_turns.into_vec() {
         turns.add(h.turn)?;
     }
     Ok(turns)
@@ -78,19 +79,39 @@ fn check_online<W: Wire, D: CacheDisk>(
     disk: &mut D,
 ) -> Result<Checked, NoMemory>
     ensures says { IfOk result (λ c. AuditSays Checks.Online W.tells D.tells
-        (record { exchanges = W.exchanges wire.old; files = D.past disk.old; wire_faults = W.faults wire.old; disk_faults = D.faults disk.old })
-        (record { exchanges = W.exchanges wire.new; files = D.past disk.new; wire_faults = W.faults wire.new; disk_faults = D.faults disk.new })
+        (record {
+          exchanges = W.exchanges wire.old;
+          files = D.past disk.old;
+          wire_faults = W.faults wire.old;
+          disk_faults = D.faults disk.old;
+        })
+        (record {
+          exchanges = W.exchanges wire.new;
+          files = D.past disk.new;
+          wire_faults = W.faults wire.new;
+          disk_faults = D.faults disk.new;
+        })
         (asked_paths packages.now) (defaults packages.now) c.turns c.verdicts) }
-    ensures part { W.tells → AddsPart (asked_paths packages.now) (W.exchanges wire.old) (W.exchanges wire.new) }
-    ensures kept { W.tells → D.tells → KeepsHonest (W.exchanges wire.old) (W.exchanges wire.new) (D.past disk.old) (D.past disk.new) }
-    ensures others { D.tells → KeepsOthers (asked_paths packages.now) (D.past disk.old) (D.past disk.new) }
-    ensures folders { D.tells → MakesAskedFolders (asked_paths packages.now) (D.folders disk.old) (D.folders disk.new) }
+    ensures part { W.tells → AddsPart (asked_paths packages.now) (W.exchanges wire.old)
+        (W.exchanges wire.new) }
+    ensures kept { W.tells → D.tells
+        → StaysKept (W.exchanges wire.old) (W.exchanges wire.new) (D.past disk.old)
+        (D.past disk.new) }
+    ensures others { D.tells → KeepsOthers (asked_paths packages.now) (D.past disk.old)
+        (D.past disk.new) }
+    ensures folders { D.tells → MakesAskedFolders (asked_paths packages.now) (D.folders disk.old)
+        (D.folders disk.new) }
 {
     let index = crates_io(alloc)?;
     let plan = plan_turns(alloc, packages)?;
-    let heard = ask(alloc, &index, lock, wire, disk, plan.names.as_slice())?;
-    let verdicts = judge(alloc, heard.as_slice(), plan.turns.as_slice(), packages)?;
-    let turns = turns_of(alloc, heard)?;
+    let answered_turns = ask(alloc, &index, lock, wire, disk, plan.names.as_slice())?;
+    let verdicts = judge(
+        alloc,
+        answered_turns.as_slice(),
+        plan.turns.as_slice(),
+        packages,
+    )?;
+    let turns = turns_of(alloc, answered_turns)?;
     Ok(Checked { verdicts, turns })
 }
 
@@ -103,17 +124,32 @@ fn check_offline<W: Wire, D: CacheDisk>(
     disk: &mut D,
 ) -> Result<Checked, NoMemory>
     ensures says { IfOk result (λ c. AuditSays Checks.Offline W.tells D.tells
-        (record { exchanges = W.exchanges wire.now; files = D.past disk.old; wire_faults = W.faults wire.now; disk_faults = D.faults disk.old })
-        (record { exchanges = W.exchanges wire.now; files = D.past disk.new; wire_faults = W.faults wire.now; disk_faults = D.faults disk.new })
+        (record {
+          exchanges = W.exchanges wire.now;
+          files = D.past disk.old;
+          wire_faults = W.faults wire.now;
+          disk_faults = D.faults disk.old;
+        })
+        (record {
+          exchanges = W.exchanges wire.now;
+          files = D.past disk.new;
+          wire_faults = W.faults wire.now;
+          disk_faults = D.faults disk.new;
+        })
         (asked_paths packages.now) (defaults packages.now) c.turns c.verdicts) }
     ensures same { D.tells → (q : List ℕ) → D.past disk.new q ≡ D.past disk.old q }
     ensures folders { D.tells → D.folders disk.new ≡ D.folders disk.old }
 {
     let index = crates_io(alloc)?;
     let plan = plan_turns(alloc, packages)?;
-    let heard = recall_all(alloc, &index, lock, wire, disk, plan.names.as_slice())?;
-    let verdicts = judge(alloc, heard.as_slice(), plan.turns.as_slice(), packages)?;
-    let turns = turns_of(alloc, heard)?;
+    let answered_turns = recall_all(alloc, &index, lock, wire, disk, plan.names.as_slice())?;
+    let verdicts = judge(
+        alloc,
+        answered_turns.as_slice(),
+        plan.turns.as_slice(),
+        packages,
+    )?;
+    let turns = turns_of(alloc, answered_turns)?;
     Ok(Checked { verdicts, turns })
 }
 
@@ -127,15 +163,31 @@ pub fn check<W: Wire, D: CacheDisk>(
     disk: &mut D,
 ) -> Result<Checked, NoMemory>
     ensures says { IfOk result (λ c. AuditSays checks W.tells D.tells
-        (record { exchanges = W.exchanges wire.old; files = D.past disk.old; wire_faults = W.faults wire.old; disk_faults = D.faults disk.old })
-        (record { exchanges = W.exchanges wire.new; files = D.past disk.new; wire_faults = W.faults wire.new; disk_faults = D.faults disk.new })
+        (record {
+          exchanges = W.exchanges wire.old;
+          files = D.past disk.old;
+          wire_faults = W.faults wire.old;
+          disk_faults = D.faults disk.old;
+        })
+        (record {
+          exchanges = W.exchanges wire.new;
+          files = D.past disk.new;
+          wire_faults = W.faults wire.new;
+          disk_faults = D.faults disk.new;
+        })
         (asked_of checks packages.now) (judged_of checks packages.now) c.turns c.verdicts) }
-    ensures part { W.tells → AddsPart (asked_of checks packages.now) (W.exchanges wire.old) (W.exchanges wire.new) }
-    ensures kept { W.tells → D.tells → KeepsHonest (W.exchanges wire.old) (W.exchanges wire.new) (D.past disk.old) (D.past disk.new) }
-    ensures others { D.tells → KeepsOthers (asked_of checks packages.now) (D.past disk.old) (D.past disk.new) }
-    ensures folders { D.tells → MakesAskedFolders (asked_of checks packages.now) (D.folders disk.old) (D.folders disk.new) }
+    ensures part { W.tells → AddsPart (asked_of checks packages.now) (W.exchanges wire.old)
+        (W.exchanges wire.new) }
+    ensures kept { W.tells → D.tells
+        → StaysKept (W.exchanges wire.old) (W.exchanges wire.new) (D.past disk.old)
+        (D.past disk.new) }
+    ensures others { D.tells → KeepsOthers (asked_of checks packages.now) (D.past disk.old)
+        (D.past disk.new) }
+    ensures folders { D.tells → MakesAskedFolders (asked_of checks packages.now)
+        (D.folders disk.old) (D.folders disk.new) }
     ensures unasked { checks ≢ Checks.Online → wire.new ≡ wire.old }
-    ensures unchanged { checks ≢ Checks.Online → D.tells → (q : List ℕ) → D.past disk.new q ≡ D.past disk.old q }
+    ensures unchanged { checks ≢ Checks.Online → D.tells → (q : List ℕ)
+        → D.past disk.new q ≡ D.past disk.old q }
     ensures uncalled { checks ≡ Checks.Off → disk.new ≡ disk.old }
 {
     match checks {

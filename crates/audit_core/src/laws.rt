@@ -1,11 +1,15 @@
 //! Laws of audits.
-ghost use Rattle.std.specs.Prelude.{◌≡◌, [], ℕ, List};
-ghost use Rattle.tame_entry.specs.Held.{ServerMap};
+ghost use Rattle.std.specs.Prelude.{◌≡◌, ◌↔◌, [], ℕ, List, Some};
+ghost use Rattle.std.specs.List.{Any, Contains};
+ghost use Rattle.tame_entry.specs.ServerMaps.{ServerMap};
 ghost use Rattle.tame_cache.specs.Kept.{Disk, IsKept};
 ghost use Rattle.tame_sparse.specs.declared.network.Exchange.{Exchange};
+ghost use Rattle.audit_lock.specs.declared.resolving.Package.{Package};
 ghost use Rattle.audit_core.specs.Alike.{AreAllAlike, IsSoundAudit};
+ghost use Rattle.audit_core.specs.AskedPaths.{AreEachOnce};
 ghost use Rattle.audit_core.specs.Audits.{Moment};
 ghost use Rattle.audit_core.specs.Histories.{AuditHistory};
+ghost use Rattle.audit_core.specs.Paths.{asked_paths, default_path, default_paths};
 ghost use Rattle.audit_core.specs.declared.auditing.Audited.{Audited};
 ghost use Rattle.audit_core.specs.declared.auditors.Auditor.{Auditor};
 ghost use Rattle.audit_core.specs.declared.checking.Checks.TheVariants as Checks;
@@ -28,4 +32,13 @@ pub fn cached_audits_agree()
         → AreAllAlike added added_too
         → (audited.verdicts ≡ audited_too.verdicts) × (audited.report ≡ audited_too.report)
         × (audited.exit ≡ audited_too.exit) }
+{}
+
+/// What is asked for packages is each of their paths once: distinct paths, in the order in which
+/// each comes first, and exactly those of the packages of the default registry.
+pub fn asked_paths_are_the_distinct_paths()
+    ensures once { (packages : List Package)
+        → AreEachOnce (asked_paths packages) (default_paths packages) }
+    ensures paths { (packages : List Package) (q : List ℕ)
+        → Contains (default_paths packages) q ↔ Any (λ p. default_path p ≡ Some q) packages }
 {}

@@ -1,4 +1,16 @@
-//! The audit: which versions of a lockfile are yanked.
+//! The audit of a lockfile: its report, and which of its versions are yanked.
+//!
+//! Promises: report and exit are those of advisories, settings and verdicts; online the verdicts
+//! are the table's over what the server held, with one exchange for each distinct path; a cache
+//! that was kept stays kept.
+//! Stands on the registry's index (`tame_names` to `tame_sparse`), and on the lockfiles, advisories
+//! and settings of `audit_lock`, `audit_advisory` and `audit_settings`.
+//!
+//! ```ignore
+//! let auditor = Auditor::new(alloc, &config, &advisories)?;
+//! let audited = auditor.audit_text(alloc, text, &lock, &mut wire, &mut disk)?;
+//! let failed = auditor.should_exit_with_failure(alloc, &audited.report)?;
+//! ```
 #![tactic(auto)]
 
 mod answers;
@@ -17,6 +29,6 @@ pub use asking::Turn;
 pub use auditing::{AuditError, Audited};
 pub use auditors::Auditor;
 pub use checking::Checks;
-pub use laws::{audit_histories_keep, cached_audits_agree};
+pub use laws::{asked_paths_are_the_distinct_paths, audit_histories_keep, cached_audits_agree};
 pub use opening::{FileAuditError, LOCKFILE_LIMIT};
 pub use verdicts::{Cause, Judged, Verdict};

@@ -1,7 +1,7 @@
 //! The audit of a lockfile at a path of the host.
 ghost use Rattle.std.specs.Prelude.{◌≡◌, ◌≢◌, ◌<◌, ◌++◌, ◌∷◌, [], ◌⊎◌, ℕ, List, codes, bytes_eq, true, false, Ok, Err, IfOk, IfErr};
 ghost use Rattle.std.specs.Str.{is_utf8};
-ghost use Rattle.tame_names.specs.Counts.{HasCause, Rose};
+ghost use Rattle.tame_names.specs.Counts.{HasCause, CountRose};
 ghost use Rattle.tame_names.specs.Standing.{IsAboveLimit, Reads, failed_calls};
 ghost use Rattle.audit_lock.specs.Locked.{locked};
 ghost use Rattle.audit_lock.specs.declared.lockfiles.LockfileFault.{LockfileFault};
@@ -80,7 +80,8 @@ fn read_text<F: Files>(alloc: Global, files: &mut F, path: &str) -> Result<Text,
     ensures reason { IfErr result (IsReason F.tells (standing_at (F.host files.old) path.now)) }
     ensures only { (e : AuditError) → result ≡ Err (FileAuditError.Audit e)
         → e ≡ AuditError.NoMemory }
-    ensures rose { result ≡ Err FileAuditError.File → Rose (F.faults files.old) (F.faults files.new) }
+    ensures rose { result ≡ Err FileAuditError.File
+        → CountRose (F.faults files.old) (F.faults files.new) }
     ensures failed { F.tells → result ≡ Err FileAuditError.File
         → F.failed files.new ≡ F.failed files.old ++ reading_call path.now ∷ [] }
     ensures unfailed { F.tells → result ≢ Err FileAuditError.File
@@ -100,7 +101,7 @@ impl Auditor {
     ghost use Rattle.audit_core.specs.Audits.{IsAuditOf, KeepsOthers, MakesAskedFolders};
     ghost use Rattle.audit_core.specs.Checks.{asked_of};
     ghost use Rattle.audit_core.specs.Opened.{IsEarly, IsReason};
-    ghost use Rattle.audit_core.specs.Turns.{AddsPart, KeepsHonest};
+    ghost use Rattle.audit_core.specs.Turns.{AddsPart, StaysKept};
     ghost use Rattle.audit_core.specs.declared.checking.Checks.TheVariants as Checks;
 
     /// Audits the lockfile at a path of the host, where `-` is standard input, as `audit_text`.
@@ -119,25 +120,39 @@ impl Auditor {
         ensures audited { IfOk result (λ a. (text : List ℕ)
             × (F.tells → text_at (standing_at (F.host files.old) path.now) ≡ Ok text)
             × IsAuditOf self.now W.tells D.tells
-            (record { exchanges = W.exchanges wire.old; files = D.past disk.old; wire_faults = W.faults wire.old; disk_faults = D.faults disk.old })
-            (record { exchanges = W.exchanges wire.new; files = D.past disk.new; wire_faults = W.faults wire.new; disk_faults = D.faults disk.new })
+            (record {
+              exchanges = W.exchanges wire.old;
+              files = D.past disk.old;
+              wire_faults = W.faults wire.old;
+              disk_faults = D.faults disk.old;
+            })
+            (record {
+              exchanges = W.exchanges wire.new;
+              files = D.past disk.new;
+              wire_faults = W.faults wire.new;
+              disk_faults = D.faults disk.new;
+            })
             text a) }
 
         // why there is none
         ensures reason { IfErr result (IsReason F.tells (standing_at (F.host files.old) path.now)) }
         ensures rose { result ≡ Err FileAuditError.File
-            → Rose (F.faults files.old) (F.faults files.new) }
+            → CountRose (F.faults files.old) (F.faults files.new) }
         ensures failed { F.tells → result ≡ Err FileAuditError.File
             → F.failed files.new ≡ F.failed files.old ++ reading_call path.now ∷ [] }
         ensures unfailed { F.tells → result ≢ Err FileAuditError.File
             → F.failed files.new ≡ F.failed files.old }
-        ensures early { IfErr result (λ e. IsEarly e → (wire.new ≡ wire.old) × (disk.new ≡ disk.old)) }
+        ensures early { IfErr result (λ e. IsEarly e
+            → (wire.new ≡ wire.old) × (disk.new ≡ disk.old)) }
 
         // whatever the answer: what stays, and what is kept
         ensures same { F.tells → F.host files.new ≡ F.host files.old }
-        ensures kept { W.tells → D.tells → KeepsHonest (W.exchanges wire.old) (W.exchanges wire.new) (D.past disk.old) (D.past disk.new) }
+        ensures kept { W.tells → D.tells
+            → StaysKept (W.exchanges wire.old) (W.exchanges wire.new) (D.past disk.old)
+            (D.past disk.new) }
         ensures unasked { self.now.checks ≢ Checks.Online → wire.new ≡ wire.old }
-        ensures unchanged { self.now.checks ≢ Checks.Online → D.tells → (q : List ℕ) → D.past disk.new q ≡ D.past disk.old q }
+        ensures unchanged { self.now.checks ≢ Checks.Online → D.tells → (q : List ℕ)
+            → D.past disk.new q ≡ D.past disk.old q }
         ensures off { self.now.checks ≡ Checks.Off → disk.new ≡ disk.old }
     {
         let text = read_text(alloc, files, path)?;

@@ -1,7 +1,8 @@
 //! Which paths are asked for, and the turn of each package.
 ghost use Rattle.std.specs.Prelude.{◌≡◌, List, ℕ, [], ◌++◌, map, Some, IfOk, IfSome, OnOk};
 ghost use Rattle.tame_names.specs.Names.{path};
-ghost use Rattle.audit_core.specs.Paths.{asked_paths, default_path, is_default, place_in};
+ghost use Rattle.audit_core.specs.Paths.{asked_paths, default_path, place_in};
+ghost use Rattle.audit_core.specs.Paths as spec;
 ghost use Rattle.audit_core.specs.Plans.{ArePlanned, IsPathOf};
 
 use audit_lock::{Package, is_default_registry};
@@ -39,7 +40,7 @@ pub struct Places {
 
 /// Whether a package is of the default registry.
 fn is_default(locked: &Package) -> bool
-    ensures { result ≡ is_default locked.now }
+    ensures { result ≡ spec.is_default locked.now }
 {
     match &locked.source {
         None => false,
@@ -96,7 +97,8 @@ impl Places {
     fn plan(&mut self, alloc: Global, locked: &Package) -> Result<Planned, NoMemory>
         requires places { AreAt self.old }
         ensures places { OnOk result (AreAt self.new) }
-        ensures paths { OnOk result (self.new.paths ≡ with_each self.old.paths (default_path locked.now)) }
+        ensures paths { OnOk result (self.new.paths
+            ≡ with_each self.old.paths (default_path locked.now)) }
         ensures planned { IfOk result (IsPlanned self.new.paths locked.now) }
     {
         if !is_default(locked) {
@@ -111,8 +113,10 @@ impl Places {
 
 /// What is asked for a lockfile's packages.
 pub fn plan_turns(alloc: Global, packages: &[Package]) -> Result<Plan, NoMemory>
-    ensures named { IfOk result (λ p. map path p.names ≡ map (λ q. Some q) (asked_paths packages.now)) }
-    ensures planned { IfOk result (λ p. ArePlanned (asked_paths packages.now) packages.now p.turns) }
+    ensures named { IfOk result (λ p. map path p.names
+        ≡ map (λ q. Some q) (asked_paths packages.now)) }
+    ensures planned { IfOk result (λ p. ArePlanned
+        (asked_paths packages.now) packages.now p.turns) }
 {
     let mut places = Places::new(alloc);
     let mut turns = Items::new(alloc);

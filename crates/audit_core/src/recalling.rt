@@ -1,7 +1,7 @@
 //! One turn for each path by the cache alone: nothing is asked, and no file changes.
 ghost use Rattle.std.specs.Prelude.{◌≡◌, ◌≢◌, ◌⊎◌, ◌∷◌, [], ◌≤◌, ℕ, List, map, Some, IsTrue, IfOk};
 ghost use Rattle.std.specs.List.{list_all};
-ghost use Rattle.tame_names.specs.Counts.{Rose};
+ghost use Rattle.tame_names.specs.Counts.{CountRose};
 ghost use Rattle.tame_names.specs.KrateNames.{text_of};
 ghost use Rattle.tame_names.specs.Names.{is_name, path};
 ghost use Rattle.tame_cache.specs.Disk.{reads};
@@ -11,7 +11,7 @@ ghost use Rattle.audit_core.specs.Recalled.{AreRecalled, AreUnasked};
 ghost use Rattle.audit_core.specs.Turns.{AreCaused, Chains};
 
 use crate::answers::{PathAnswer, answer_taken};
-use crate::asking::{Heard, Turn, krate_name};
+use crate::asking::{AnsweredTurn, Turn, krate_name};
 use crate::verdicts::Cause;
 use std::alloc::Global;
 use tame_cache::CacheDisk;
@@ -31,7 +31,7 @@ fn recall<D: CacheDisk>(
         → IfOk result (λ a. (a ≡ file_answer (reads (D.past disk.old q)))
         ⊎ (a ≡ PathAnswer.Settled Cause.Store)) }
     ensures store { IfOk result (λ a. a ≡ PathAnswer.Settled Cause.Store
-        → Rose (D.faults disk.old) (D.faults disk.new)) }
+        → CountRose (D.faults disk.old) (D.faults disk.new)) }
     ensures not_wire { IfOk result (λ a. a ≢ PathAnswer.Settled Cause.Wire) }
     ensures later { D.faults disk.old ≤ D.faults disk.new }
     ensures same { D.tells → (q : List ℕ) → D.past disk.new q ≡ D.past disk.old q }
@@ -49,7 +49,7 @@ fn recall_turn<W: Wire, D: CacheDisk>(
     wire: &W,
     disk: &mut D,
     name: &Text,
-) -> Result<Heard, NoMemory>
+) -> Result<AnsweredTurn, NoMemory>
     requires root { index.now.cache.path ≡ [] }
     requires named { IsTrue (is_name name.now) }
     ensures path { IfOk result (λ h. path name.now ≡ Some h.turn.path) }
@@ -66,7 +66,7 @@ fn recall_turn<W: Wire, D: CacheDisk>(
     let krate = krate_name(name);
     let path = krate.relative_path(alloc, None)?;
     let answer = recall(alloc, index, lock, disk, krate)?;
-    Ok(Heard {
+    Ok(AnsweredTurn {
         turn: Turn {
             path,
             wire_before,
@@ -87,7 +87,7 @@ pub fn recall_all<W: Wire, D: CacheDisk>(
     wire: &W,
     disk: &mut D,
     names: &[Text],
-) -> Result<Items<Heard>, NoMemory>
+) -> Result<Items<AnsweredTurn>, NoMemory>
     requires root { index.now.cache.path ≡ [] }
     requires named { IsTrue (list_all is_name names.now) }
     ensures paths { IfOk result (λ hs. map (λ h. Some h.turn.path) hs ≡ map path names.now) }
@@ -99,10 +99,10 @@ pub fn recall_all<W: Wire, D: CacheDisk>(
     ensures same { D.tells → (q : List ℕ) → D.past disk.new q ≡ D.past disk.old q }
     ensures folders { D.tells → D.folders disk.new ≡ D.folders disk.old }
 {
-    let mut heard = Items::new(alloc);
+    let mut answered_turns = Items::new(alloc);
     for name in names {
         let turn = recall_turn(alloc, index, lock, wire, disk, name)?;
-        heard.add(turn)?;
+        answered_turns.add(turn)?;
     }
-    Ok(heard)
+    Ok(answered_turns)
 }

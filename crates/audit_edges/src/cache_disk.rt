@@ -1,6 +1,6 @@
 //! The cache on the host's disk.
 ghost use Rattle.std.specs.Prelude.{◌≡◌, ◌≤◌, []};
-ghost use Rattle.tame_names.specs.Counts.{Rose};
+ghost use Rattle.tame_names.specs.Counts.{CountRose};
 
 use crate::cache_folder::CacheFolder;
 use std::alloc::Global;
@@ -30,7 +30,7 @@ impl<'a, R: rt::Files + AllocGlobal> FileCacheDisk<'a, R> {
     }
 
     fn fail(&mut self) -> DiskFault
-        ensures rose { Rose self.old.faults self.new.faults }
+        ensures rose { CountRose self.old.faults self.new.faults }
         ensures later { self.old.faults ≤ self.new.faults }
     {
         self.faults = self.faults.saturating_add(1);

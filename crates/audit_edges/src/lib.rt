@@ -1,4 +1,15 @@
 //! The real outside: output, files, and a folder in place of a server. None tells its contents.
+//!
+//! Promises: each object meets its trait, with its counts of faults, and keeps to its limits; of
+//! what a real file or stream holds nothing is said.
+//! Stands on the traits of `tame_names`, `tame_cache` and `tame_sparse`, and on std's files.
+//!
+//! ```ignore
+//! let mut files = StdFiles::new(rt);
+//! let mut wire = MirrorWire::new(rt, "index-mirror");
+//! let mut disk = FileCacheDisk::new(rt, "index-cache");
+//! let mut out = StdSink::new(io::writer(rt));
+//! ```
 #![tactic(auto)]
 
 mod below;

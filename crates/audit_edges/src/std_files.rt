@@ -1,7 +1,7 @@
 //! The host, over std.
 ghost use Rattle.std.specs.Prelude.{◌≡◌, ◌≢◌, ◌≤◌, []};
 ghost use Rattle.audit_edges.specs.Untold.{untold};
-ghost use Rattle.tame_names.specs.Counts.{Rose};
+ghost use Rattle.tame_names.specs.Counts.{CountRose};
 
 use crate::listings::{kind_of, list_folder};
 use crate::reading::{read_file, read_within};
@@ -30,7 +30,7 @@ impl<'a, R: rt::Files + AllocGlobal> StdFiles<'a, R> {
     /// The fault of a call that gave an error of this kind, which is counted unless memory ran out.
     fn fault(&mut self, kind: ErrorKind) -> FileFault
         ensures later { self.old.faults ≤ self.new.faults }
-        ensures rose { result ≢ FileFault.NoMemory → Rose self.old.faults self.new.faults }
+        ensures rose { result ≢ FileFault.NoMemory → CountRose self.old.faults self.new.faults }
     {
         if kind == ErrorKind::OutOfMemory {
             return FileFault::NoMemory;

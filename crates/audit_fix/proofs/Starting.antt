@@ -5,7 +5,8 @@ use Rattle.std.proofs.lemmas.List.{map-append, length-append}
 use Rattle.std.proofs.lemmas.List.Sums.{sum_by-append}
 use Rattle.std.proofs.Math.Seq.{take-suc}
 use Rattle.audit_asked.specs.declared.runners.Started.{Started}
-use Rattle.audit_fix.specs.Steps.{RoseBy, StartsEach, failed_starts, started}
+use Rattle.tame_names.specs.Counts.{CountRoseBy}
+use Rattle.audit_fix.specs.Steps.{StartsEach, failed_starts, started}
 use Rattle.audit_fix.specs.declared.plans.FixStep.{FixStep}
 
 zip_more : {A B : Type 0} (xs : List A) (ys : List B) (x : A) (y : B) → length ys ≡ length xs → zip (xs ++ x ∷ []) (ys ++ y ∷ []) ≡ zip xs ys ++ (x, y) ∷ []
@@ -32,7 +33,7 @@ rose_on : (end one more before mid now : ℕ) → min (before + one) end ≤ mid
 rose_on end one more before mid now h k later = omega (arith, h, k, later)
 
 pub rose_more : (statuses : List (Option ℤ)) (status : Option ℤ) (before mid now : ℕ)
-    → RoseBy (failed_starts statuses) before mid → RoseBy (failed_starts (status ∷ [])) mid now → mid ≤ now
-    → RoseBy (failed_starts (statuses ++ status ∷ [])) before now
+    → CountRoseBy (failed_starts statuses) before mid → CountRoseBy (failed_starts (status ∷ [])) mid now → mid ≤ now
+    → CountRoseBy (failed_starts (statuses ++ status ∷ [])) before now
 rose_more statuses status before mid now h k later =
     rw sum_by-append (rose_on (2 ^ 64 - 1) (failed_starts statuses) (failed_starts (status ∷ [])) before mid now h k later)

@@ -1,5 +1,5 @@
 -- The starts of the steps of a plan (this project).
-use Rattle.std.specs.Prelude.{◌≡◌, ◌+◌, ◌-◌, ◌^◌, ◌≤◌, ℕ, ℤ, min, List, ◌++◌, length, take, map, zip, count_by, is_none, Option}
+use Rattle.std.specs.Prelude.{◌≡◌, ℕ, ℤ, List, ◌++◌, length, take, map, zip, count_by, is_none, Option}
 use Rattle.audit_asked.specs.declared.runners.Started.{Started}
 use Rattle.audit_fix.specs.declared.plans.FixStep.{FixStep}
 
@@ -21,7 +21,3 @@ StartsPart steps before now =
 -- how many couldn't be started
 abbrev pub failed_starts : List (Option ℤ) → ℕ
 failed_starts statuses = count_by (λ status. is_none status) statuses
-
--- a count rose by this much, or it stands at its end
-abbrev pub RoseBy : ℕ → ℕ → ℕ → Type 0
-RoseBy more before now = min (before + more) (2 ^ 64 - 1) ≤ now

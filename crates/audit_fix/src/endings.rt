@@ -1,6 +1,6 @@
 //! The status that `fix` ends with.
 ghost use Rattle.std.specs.Prelude.{◌≡◌};
-ghost use Rattle.audit_fix.specs.Endings.{fix_status};
+ghost use Rattle.audit_fix.specs.Endings as spec;
 
 use crate::plans::FixPlan;
 use audit_core::Audited;
@@ -10,7 +10,7 @@ use audit_core::Audited;
 /// version; else 0.
 pub fn fix_status(audited: &Audited, plan: &FixPlan, dry_run: bool, failed: u64) -> u8
     ensures { result
-        ≡ fix_status dry_run audited.now.report.vulnerabilities plan.now.unpatchable failed }
+        ≡ spec.fix_status dry_run audited.now.report.vulnerabilities plan.now.unpatchable failed }
 {
     if audited.report.vulnerabilities.as_slice().is_empty() {
         0

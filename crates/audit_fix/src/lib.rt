@@ -1,5 +1,15 @@
 //! What `cargo audit fix` plans for the vulnerabilities of an audit, starts and prints, and the
 //! status that it ends with; and errors as cargo-audit tells them.
+//!
+//! Promises: plan, lines and status are those of the definitions; each step is started once, in
+//! order, and each failed start is counted.
+//! Stands on the audits of `audit_core` and the trait `Runner` of `audit_asked`.
+//!
+//! ```ignore
+//! let plan = FixPlan::of(alloc, &audited, &database, false)?;
+//! let statuses = start_steps(alloc, &plan, &mut runner)?; // update --package old@0.1.4
+//! let status = fix_status(&audited, &plan, false, failed_starts(statuses.as_slice()));
+//! ```
 #![tactic(auto)]
 
 mod endings;

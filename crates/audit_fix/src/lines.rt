@@ -1,6 +1,7 @@
 //! The lines that `fix` puts on err.
 ghost use Rattle.std.specs.Prelude.{◌≡◌, ◌++◌, IfOk, OnOk, string_bytes};
-ghost use Rattle.audit_fix.specs.Lines.{advisory_line, behind, behind_one, dry_run_line, failed_line, fix_lines, is_failed, line_of, lines_of, step_line, unpatched_line, unpatched_title};
+ghost use Rattle.audit_fix.specs.Lines.{advisory_line, dry_run_line, failed_line, line_of, lines_of, step_line, unpatched_line, unpatched_title};
+ghost use Rattle.audit_fix.specs.Lines as spec;
 
 use crate::remedies::{patchable, unpatched};
 use audit_advisory::{Advisory, Database, Vulnerability};
@@ -46,7 +47,7 @@ fn push_failed(out: &mut String, name: &str) -> Result<(), AllocError>
 
 /// Whether the next step couldn't be started.
 fn is_failed(statuses: &[Option<i32>]) -> bool
-    ensures { result ≡ is_failed statuses.now }
+    ensures { result ≡ spec.is_failed statuses.now }
 {
     match statuses.first() {
         Some(None) => true,
@@ -56,7 +57,7 @@ fn is_failed(statuses: &[Option<i32>]) -> bool
 
 /// What is left behind the next status.
 fn behind_one(statuses: &[Option<i32>]) -> &[Option<i32>]
-    ensures { result.now ≡ behind_one statuses.now }
+    ensures { result.now ≡ spec.behind_one statuses.now }
 {
     match statuses.split_first() {
         Some((_, left)) => left,
@@ -72,7 +73,7 @@ fn behind<'a>(
     statuses: &'a [Option<i32>],
 ) -> &'a [Option<i32>]
     ensures { result.now
-        ≡ behind advisories.now packages.now vulnerability statuses.now }
+        ≡ spec.behind advisories.now packages.now vulnerability statuses.now }
 {
     match patchable(advisories, packages, vulnerability) {
         Some(_) => behind_one(statuses),
@@ -164,7 +165,7 @@ pub fn fix_lines(
     dry_run: bool,
     statuses: &[Option<i32>],
 ) -> Result<String, AllocError>
-    ensures { IfOk result (λ text. string_bytes text ≡ fix_lines dry_run database.now
+    ensures { IfOk result (λ text. string_bytes text ≡ spec.fix_lines dry_run database.now
         audited.now.lockfile audited.now.report.vulnerabilities statuses.now) }
 {
     let mut out = String::new(alloc);

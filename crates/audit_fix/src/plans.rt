@@ -1,6 +1,7 @@
 //! What `fix` plans.
 ghost use Rattle.std.specs.Prelude.{◌≡◌, IfOk, OnOk, filter_map, option_map};
-ghost use Rattle.audit_fix.specs.Plans.{IsOf, LeavesNoneOut, each_once, fix_plan, is_among, plain_words, step_of, unpatched_place, update_words, with_each, with_new};
+ghost use Rattle.audit_fix.specs.Plans.{IsOf, LeavesNoneOut, each_once, fix_plan, unpatched_place, with_each, with_new};
+ghost use Rattle.audit_fix.specs.Plans as spec;
 
 use crate::remedies::{patchable, unpatched_place};
 use audit_advisory::{Advisory, Database, Vulnerability};
@@ -29,7 +30,7 @@ pub struct FixPlan {
 
 /// The words that update a package.
 fn plain_words(alloc: Global, package: &Package) -> Result<Items<Text>, NoMemory>
-    ensures { IfOk result (λ words. words ≡ plain_words «package».now) }
+    ensures { IfOk result (λ words. words ≡ spec.plain_words «package».now) }
 {
     let mut words = Items::new(alloc);
     words.add(Text::of(alloc, "update")?)?;
@@ -41,7 +42,7 @@ fn plain_words(alloc: Global, package: &Package) -> Result<Items<Text>, NoMemory
 
 /// The words of a step that updates a package.
 fn update_words(alloc: Global, package: &Package, dry_run: bool) -> Result<Items<Text>, NoMemory>
-    ensures { IfOk result (λ words. words ≡ update_words dry_run «package».now) }
+    ensures { IfOk result (λ words. words ≡ spec.update_words dry_run «package».now) }
 {
     let mut words = plain_words(alloc, package)?;
     if dry_run {
@@ -59,7 +60,7 @@ fn step_of(
     dry_run: bool,
 ) -> Result<Option<FixStep>, NoMemory>
     ensures { IfOk result (λ step. step
-        ≡ step_of dry_run advisories.now packages.now vulnerability) }
+        ≡ spec.step_of dry_run advisories.now packages.now vulnerability) }
 {
     match patchable(advisories, packages, vulnerability) {
         None => Ok(None),
@@ -79,7 +80,7 @@ fn steps_of(
     dry_run: bool,
 ) -> Result<Items<FixStep>, NoMemory>
     ensures { IfOk result (λ steps. steps
-        ≡ filter_map (step_of dry_run advisories.now packages.now) vulnerabilities.now) }
+        ≡ filter_map (spec.step_of dry_run advisories.now packages.now) vulnerabilities.now) }
 {
     let mut steps = Items::new(alloc);
     for vulnerability in vulnerabilities {
@@ -91,7 +92,7 @@ fn steps_of(
 }
 
 fn is_among(place: usize, places: &[usize]) -> bool
-    ensures { result ≡ is_among place places.now }
+    ensures { result ≡ spec.is_among place places.now }
 {
     places.iter().any(|p| *p == place)
 }

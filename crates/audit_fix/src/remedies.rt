@@ -1,13 +1,13 @@
 //! What can be done about a vulnerability.
 ghost use Rattle.std.specs.Prelude.{◌≡◌, option_map};
-ghost use Rattle.audit_fix.specs.Plans.{is_patched, patchable, unpatched, unpatched_place};
+ghost use Rattle.audit_fix.specs.Plans as spec;
 
 use audit_advisory::{Advisory, Vulnerability};
 use audit_lock::Package;
 
 /// Whether an advisory has a patched requirement.
 fn is_patched(advisory: &Advisory) -> bool
-    ensures { result ≡ is_patched advisory.now }
+    ensures { result ≡ spec.is_patched advisory.now }
 {
     !advisory.versions.patched().is_empty()
 }
@@ -19,7 +19,7 @@ pub fn patchable<'a>(
     vulnerability: Vulnerability,
 ) -> Option<&'a Package>
     ensures { option_map (λ p. p.now) result
-        ≡ patchable advisories.now packages.now vulnerability }
+        ≡ spec.patchable advisories.now packages.now vulnerability }
 {
     match advisories.get(vulnerability.advisory) {
         None => None,
@@ -38,7 +38,7 @@ pub fn unpatched<'a>(
     advisories: &'a [Advisory],
     vulnerability: Vulnerability,
 ) -> Option<&'a Advisory>
-    ensures { option_map (λ a. a.now) result ≡ unpatched advisories.now vulnerability }
+    ensures { option_map (λ a. a.now) result ≡ spec.unpatched advisories.now vulnerability }
 {
     match advisories.get(vulnerability.advisory) {
         None => None,
@@ -54,7 +54,7 @@ pub fn unpatched<'a>(
 
 /// The place of that advisory.
 pub fn unpatched_place(advisories: &[Advisory], vulnerability: Vulnerability) -> Option<usize>
-    ensures { result ≡ unpatched_place advisories.now vulnerability }
+    ensures { result ≡ spec.unpatched_place advisories.now vulnerability }
 {
     match unpatched(advisories, vulnerability) {
         None => None,

@@ -1,7 +1,8 @@
 //! The starts of the steps of a plan.
 ghost use Rattle.std.specs.Prelude.{◌≡◌, ◌<◌, ◌≤◌, ◌++◌, ◌∷◌, [], IfOk, OnErr, length};
-ghost use Rattle.tame_names.specs.Counts.{Rose};
-ghost use Rattle.audit_fix.specs.Steps.{RoseBy, StartsEach, StartsPart, failed_starts, started};
+ghost use Rattle.tame_names.specs.Counts.{CountRose, CountRoseBy};
+ghost use Rattle.audit_fix.specs.Steps.{StartsEach, StartsPart, started};
+ghost use Rattle.audit_fix.specs.Steps as spec;
 
 use crate::plans::{FixPlan, FixStep};
 use audit_asked::{Runner, StartFault};
@@ -19,7 +20,8 @@ fn start_step<R: Runner>(
     ensures unstarted { R.tells → OnErr result (R.starts runner.new ≡ R.starts runner.old) }
     ensures later { R.faults runner.old ≤ R.faults runner.new }
     ensures rose { IfOk result (λ status.
-        RoseBy (failed_starts (status ∷ [])) (R.faults runner.old) (R.faults runner.new)) }
+        CountRoseBy (spec.failed_starts (status ∷ [])) (R.faults runner.old)
+        (R.faults runner.new)) }
 {
     match runner.start(alloc, &step.words) {
         Ok(status) => Ok(Some(status)),
@@ -45,9 +47,9 @@ pub fn start_steps<R: Runner>(
     // each start that failed was counted
     ensures later { R.faults runner.old ≤ R.faults runner.new }
     ensures rose { IfOk result (λ statuses.
-        RoseBy (failed_starts statuses) (R.faults runner.old) (R.faults runner.new)) }
-    ensures failed { IfOk result (λ statuses. 0 < failed_starts statuses
-        → Rose (R.faults runner.old) (R.faults runner.new)) }
+        CountRoseBy (spec.failed_starts statuses) (R.faults runner.old) (R.faults runner.new)) }
+    ensures failed { IfOk result (λ statuses. 0 < spec.failed_starts statuses
+        → CountRose (R.faults runner.old) (R.faults runner.new)) }
 {
     let mut statuses = Items::new(alloc);
     for step in plan.steps.as_slice() {
@@ -59,7 +61,7 @@ pub fn start_steps<R: Runner>(
 
 /// How many of these starts failed, by the statuses that they ended with.
 pub fn failed_starts(statuses: &[Option<i32>]) -> u64
-    ensures { result ≡ failed_starts statuses.now }
+    ensures { result ≡ spec.failed_starts statuses.now }
 {
     statuses.iter().filter(|status| status.is_none()).count() as u64
 }

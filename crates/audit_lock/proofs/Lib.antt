@@ -1,4 +1,5 @@
 pub mod Ahead
+pub mod InOrder
 pub mod Putting
 pub mod Reaching
 pub mod Shapes

@@ -5,7 +5,7 @@ use Rattle.std.specs.Option.{option_or}
 use Rattle.std.specs.List.{position_from}
 use Rattle.std.specs.Str.{bytes_eq}
 use Rattle.std.proofs.lemmas.Slice.Eq.{bytes_eq-Decides}
-use Rattle.toml_tables.specs.Answers.{and_then}
+use Rattle.toml_tables.specs.Results.{and_then}
 use Rattle.toml_tables.proofs.Ahead.{before}
 use Rattle.audit_lock.specs.Naming.{each_place}
 use Rattle.audit_lock.specs.Locked.{resolve_from}

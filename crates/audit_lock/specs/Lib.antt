@@ -1,4 +1,5 @@
 pub mod Defaults
+pub mod InOrder
 pub mod Listed
 pub mod Locked
 pub mod Naming

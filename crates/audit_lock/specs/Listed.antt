@@ -3,7 +3,7 @@ use Rattle.std.specs.Prelude.{ℕ, codes, List, Bool, ◌||◌, nat_eq, Option, 
 use Rattle.std.specs.List.{starts_with}
 use Rattle.toml.specs.Data.{Data, string, get, as_str}
 use Rattle.semver.specs.Parse.{version_parts}
-use Rattle.toml_tables.specs.Answers.{and_then, or_fault}
+use Rattle.toml_tables.specs.Results.{and_then, or_fault}
 use Rattle.toml_tables.specs.Members.{optional, optional_texts, required}
 use Rattle.audit_lock.specs.declared.listed.LockRule.{LockRule}
 use Rattle.audit_lock.specs.declared.listed.LockRule.TheVariants as rule
@@ -14,8 +14,10 @@ use Rattle.audit_lock.specs.declared.listed.ListingFault.TheVariants as listing_
 -- a text of one of the kinds of source
 abbrev pub has_source_kind : List ℕ → Bool
 has_source_kind s =
-    starts_with nat_eq s (codes "registry+") || starts_with nat_eq s (codes "sparse+") || starts_with nat_eq s (codes "git+")
-    || starts_with nat_eq s (codes "path+") || starts_with nat_eq s (codes "local-registry+") || starts_with nat_eq s (codes "directory+")
+    starts_with nat_eq s (codes "registry+") || starts_with nat_eq s (codes "sparse+")
+    || starts_with nat_eq s (codes "git+")
+    || starts_with nat_eq s (codes "path+") || starts_with nat_eq s (codes "local-registry+")
+    || starts_with nat_eq s (codes "directory+")
 
 -- a text of a kind of source
 abbrev pub as_source : Data → Option (List ℕ)
@@ -32,8 +34,15 @@ version_of m = option_and_then as_version (required as_str m)
 -- name, version, source, checksum, replace, dependencies, in this order
 abbrev pub listed_of : Data → Result ListedPackage LockRule
 listed_of d =
-    and_then (λ name. and_then (λ version. and_then (λ source. and_then (λ checksum. and_then (λ replaced. and_then (λ wanted.
-    Ok (record { name = name; version = version; source = source; checksum = checksum; dependencies = wanted }))
+    and_then (λ name. and_then (λ version. and_then
+    (λ source. and_then (λ checksum. and_then (λ replaced. and_then (λ wanted.
+    Ok (record {
+      name = name;
+      version = version;
+      source = source;
+      checksum = checksum;
+      dependencies = wanted;
+    }))
     (or_fault rule.Dependencies (optional_texts (get (codes "dependencies") d))))
     (or_fault rule.Replace (optional as_str (get (codes "replace") d))))
     (or_fault rule.Checksum (optional as_str (get (codes "checksum") d))))

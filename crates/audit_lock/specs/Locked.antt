@@ -2,7 +2,7 @@
 use Rattle.std.specs.Prelude.{ℕ, suc, codes, List, [], ◌∷◌, ◌++◌, length, Bool, true, false, ◌&&◌, nat_le, Option, Some, None, if◌then◌else◌, Result, Ok, Err}
 use Rattle.toml.specs.Data.{Data, array, table, Items, no_items, item, Members, get_member}
 use Rattle.toml.specs.Parse.{parse_document}
-use Rattle.toml_tables.specs.Answers.{and_then, or_fault}
+use Rattle.toml_tables.specs.Results.{and_then, or_fault}
 use Rattle.toml_tables.specs.Floats.{members_have_float}
 use Rattle.toml_tables.specs.Members.{natural, optional}
 use Rattle.audit_lock.specs.Listed.{listed_of}
@@ -49,7 +49,8 @@ at_place i (Err r) = Err (fault.Rule (Some i) r)
 -- the packages from number i on, each read whole before the next
 abbrev pub listed_from : ℕ → Items → Result (List ListedPackage) LockfileFault
 listed_from i no_items = Ok []
-listed_from i (item d ds) = and_then (λ p. and_then (λ ps. Ok (p ∷ ps)) (listed_from (suc i) ds)) (at_place i (listed_of d))
+listed_from i (item d ds) =
+    and_then (λ p. and_then (λ ps. Ok (p ∷ ps)) (listed_from (suc i) ds)) (at_place i (listed_of d))
 
 -- `[root]` is the last package
 abbrev pub with_root : Option Data → List ListedPackage → Result (List ListedPackage) LockfileFault
@@ -68,13 +69,22 @@ listed_table ms =
 
 -- a listed package with the places of its dependencies
 abbrev pub package_at : ListedPackage → List ℕ → Package
-package_at p places = record { name = p.name; version = p.version; source = p.source; checksum = p.checksum; dependencies = places }
+package_at p places = record {
+  name = p.name;
+  version = p.version;
+  source = p.source;
+  checksum = p.checksum;
+  dependencies = places;
+}
 
--- the packages from number i on with the places of their dependencies; each dependency names a listed package
-abbrev pub resolve_from : (List ℕ → Option ℕ) → ℕ → List ListedPackage → Result (List Package) LockfileFault
+-- the packages from number i on with the places of their dependencies; each dependency names a
+-- listed package
+abbrev pub resolve_from : (List ℕ → Option ℕ) → ℕ → List ListedPackage
+    → Result (List Package) LockfileFault
 resolve_from place i [] = Ok []
 resolve_from place i (p ∷ ps) =
-    and_then (λ places. and_then (λ rest. Ok (package_at p places ∷ rest)) (resolve_from place (suc i) ps))
+    and_then (λ places. and_then (λ rest. Ok (package_at p places ∷ rest))
+    (resolve_from place (suc i) ps))
     (or_fault (fault.Rule (Some i) rule.Names) (each_place place p.dependencies))
 
 -- the packages of a text, or the first rule that it breaks

@@ -17,11 +17,13 @@ before_hash source = before_first (λ c. c == 35) source
 -- the source is named whole, or as it stands before its first `#`
 abbrev pub names_source : ListedPackage → Option (List ℕ) → List ℕ → Bool
 names_source p None text = false
-names_source p (Some source) text = bytes_eq (full_name p source) text || bytes_eq (full_name p (before_hash source)) text
+names_source p (Some source) text =
+    bytes_eq (full_name p source) text || bytes_eq (full_name p (before_hash source)) text
 
 -- a text names a package: it is `name`, `name version` or `name version (source)`
 abbrev pub names_it : List ℕ → ListedPackage → Bool
-names_it text p = bytes_eq p.name text || bytes_eq (name_and_version p) text || names_source p p.source text
+names_it text p =
+    bytes_eq p.name text || bytes_eq (name_and_version p) text || names_source p p.source text
 
 -- the place of the first package that a text names
 abbrev pub place_of : List ListedPackage → List ℕ → Option ℕ
@@ -30,7 +32,8 @@ place_of packages text = position_from (names_it text) 0 packages
 -- the place of each text, where each has one
 abbrev pub each_place : (List ℕ → Option ℕ) → List (List ℕ) → Option (List ℕ)
 each_place place [] = Some []
-each_place place (text ∷ texts) = option_and_then (λ p. option_map (λ ps. p ∷ ps) (each_place place texts)) (place text)
+each_place place (text ∷ texts) =
+    option_and_then (λ p. option_map (λ ps. p ∷ ps) (each_place place texts)) (place text)
 
 -- a place, where the text is this one; where it names this package
 abbrev pub at_name : List ℕ → ℕ → List ℕ → Option ℕ

@@ -52,22 +52,32 @@ pub record Walked : Type 0 where
 
 -- lines, and then those of the walk that goes on from there
 abbrev pub and_on : Walked → (List Bool → Walked) → Walked
-and_on first rest = record { lines = first.lines ++ (rest first.met).lines; met = (rest first.met).met }
+and_on first rest = record {
+  lines = first.lines ++ (rest first.met).lines;
+  met = (rest first.met).met;
+}
 
 abbrev pub one_line : Bool → List Bool → ℕ → List Bool → Walked
-one_line opened levels place met = record { lines = record { levels = levels; place = place; opened = opened } ∷ []; met = met }
+one_line opened levels place met = record {
+  lines = record { levels = levels; place = place; opened = opened } ∷ [];
+  met = met;
+}
 
 -- each of these parents one level further, one after the other; `below` walks one
-abbrev pub each_parent : (List Bool → ℕ → List Bool → Walked) → List Bool → List ℕ → List Bool → Walked
+abbrev pub each_parent : (List Bool → ℕ → List Bool → Walked) → List Bool → List ℕ → List Bool
+    → Walked
 each_parent below levels [] met = record { lines = []; met = met }
-each_parent below levels (p ∷ ps) met = and_on (below (levels ++ not (is_empty ps) ∷ []) p met) (each_parent below levels ps)
+each_parent below levels (p ∷ ps) met =
+    and_on (below (levels ++ not (is_empty ps) ∷ []) p met) (each_parent below levels ps)
 
--- a package, and below it its parents, unless it was met before. At most `deep` packages are opened inside one another
+-- a package, and below it its parents, unless it was met before. At most `deep` packages are opened
+-- inside one another
 abbrev pub walk : List (List ℕ) → ℕ → List Bool → ℕ → List Bool → Walked
 walk tree zero levels place met = one_line false levels place met
 walk tree (suc deep) levels place met =
     if get_or met place false then one_line false levels place met
-    else and_on (one_line true levels place (set met place true)) (each_parent (walk tree deep) levels (parents_at tree place))
+    else and_on (one_line true levels place (set met place true))
+    (each_parent (walk tree deep) levels (parents_at tree place))
 
 -- how many packages were not met yet
 abbrev pub unmet : List Bool → ℕ
@@ -75,7 +85,8 @@ unmet met = count_by not met
 
 -- the lines of the tree of a package. Each package is opened once, so as many as there are suffice
 abbrev pub lines_of : List Package → ℕ → List Line
-lines_of packages place = (walk (tree_of packages) (length packages) [] place (replicate (length packages) false)).lines
+lines_of packages place =
+    (walk (tree_of packages) (length packages) [] place (replicate (length packages) false)).lines
 
 -- the tree of a package as text
 abbrev pub rendering : List Package → ℕ → List ℕ

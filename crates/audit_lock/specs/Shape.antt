@@ -8,7 +8,8 @@ use Rattle.audit_lock.specs.Rendering.{Line, is_empty}
 -- the first package depends on the second: it is that one, or depends on one that depends on it
 pub data Reaches (packages : List Package) : ℕ → ℕ → Type 0 where
   itself : (place : ℕ) → Reaches packages place place
-  over : (other next place : ℕ) → other < length packages → depends_on packages next other ≡ true → Reaches packages next place → Reaches packages other place
+  over : (other next place : ℕ) → other < length packages → depends_on packages next other ≡ true
+      → Reaches packages next place → Reaches packages other place
 
 -- whether a package has a line
 abbrev pub has_line : ℕ → List Line → Bool
@@ -17,18 +18,22 @@ has_line place lines = list_any (λ line. line.place == place) lines
 -- how often a package is opened
 abbrev pub openings : ℕ → List Line → ℕ
 openings place [] = 0
-openings place (line ∷ lines) = (if line.opened && (line.place == place) then 1 else 0) + openings place lines
+openings place (line ∷ lines) =
+    (if line.opened && (line.place == place) then 1 else 0) + openings place lines
 
 -- ---- what stands below a line
 
 -- the lines up to the first that is no further than this many levels
 abbrev pub below : ℕ → List Line → List Line
 below depth [] = []
-below depth (line ∷ lines) = if nat_lt depth (length line.levels) then line ∷ below depth lines else []
+below depth (line ∷ lines) =
+    if nat_lt depth (length line.levels) then line ∷ below depth lines else []
 
 -- those of them that are one level further
 abbrev pub next_level : ℕ → List Line → List (List Bool × ℕ)
-next_level depth lines = map (λ line. (line.levels, line.place)) (filter (λ line. length line.levels == suc depth) (below depth lines))
+next_level depth lines =
+    map (λ line. (line.levels, line.place))
+    (filter (λ line. length line.levels == suc depth) (below depth lines))
 
 -- these packages one level further; at each but the last further ones follow
 abbrev pub children : List Bool → List ℕ → List (List Bool × ℕ)
@@ -45,24 +50,30 @@ abbrev pub AllFurther : ℕ → List Line → Type 0
 AllFurther depth [] = ⊤
 AllFurther depth (line ∷ lines) = (depth < length line.levels) × AllFurther depth lines
 
--- one level below a line that is opened stand its package's parents in their order, and below another line nothing;
--- and no level is left out
+-- one level below a line that is opened stand its package's parents in their order, and below
+-- another line nothing; and no level is left out
 abbrev pub HasParents : (ℕ → List ℕ) → List Line → Type 0
 HasParents parents [] = ⊤
 HasParents parents (line ∷ lines) =
-    (next_level (length line.levels) lines ≡ (if line.opened then children line.levels (parents line.place) else []))
+    (next_level (length line.levels) lines
+    ≡ (if line.opened then children line.levels (parents line.place) else []))
     × GoesOnWithin (suc (length line.levels)) lines
     × HasParents parents lines
 
 -- a line is opened where its package has no line among the earlier ones
 abbrev pub OpensFirst : List Line → List Line → Type 0
 OpensFirst earlier [] = ⊤
-OpensFirst earlier (line ∷ lines) = (line.opened ≡ not (has_line line.place earlier)) × OpensFirst (earlier ++ line ∷ []) lines
+OpensFirst earlier (line ∷ lines) =
+    (line.opened ≡ not (has_line line.place earlier)) × OpensFirst (earlier ++ line ∷ []) lines
 
 -- the lines of the tree of a package: the first three parts determine them, the last two follow
 pub record IsTree (packages : List Package) (place : ℕ) (lines : List Line) : Type 0 where
   -- it stands first, without a mark, and all others below it
-  pub first : (more : List Line) × (lines ≡ record { levels = []; place = place; opened = true } ∷ more) × AllFurther 0 more
+  pub first : (more : List Line) × (lines ≡ record {
+    levels = [];
+    place = place;
+    opened = true;
+  } ∷ more) × AllFurther 0 more
   -- below each package stand its parents, where it was not met before
   pub parents : HasParents (parents_of packages) lines
   pub opened : OpensFirst [] lines

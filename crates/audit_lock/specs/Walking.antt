@@ -4,6 +4,7 @@ use Rattle.audit_lock.specs.declared.resolving.Package.{Package}
 use Rattle.audit_lock.specs.Rendering.{Walked, text_of}
 
 -- the lines of a walk were added to the text, and these packages were met when it ended
-pub record Shows (packages : List Package) (walked : Walked) (before now : List ℕ) (met : List Bool) : Type 0 where
+pub record Shows (packages : List Package) (walked : Walked) (before now : List ℕ)
+    (met : List Bool) : Type 0 where
   pub added : now ≡ before ++ text_of packages walked.lines
   pub marked : met ≡ walked.met

@@ -1,8 +1,34 @@
-//! What holds of every rendering.
-ghost use Rattle.std.specs.Prelude.{◌≡◌, ◌<◌, ◌↔◌, List, ℕ, length};
+//! What holds of every reading and of every rendering.
+ghost use Rattle.std.specs.Prelude.{◌≡◌, ◌<◌, ◌↔◌, List, ◌∷◌, ◌++◌, ℕ, length, Option, None, Some, Ok, Err};
+ghost use Rattle.toml.specs.Data.{Data};
+ghost use Rattle.audit_lock.specs.declared.listed.ListedPackage.{ListedPackage};
+ghost use Rattle.audit_lock.specs.declared.listed.LockRule.{LockRule};
+ghost use Rattle.audit_lock.specs.declared.listed.LockRule.TheVariants.{Names};
+ghost use Rattle.audit_lock.specs.declared.lockfiles.LockfileFault.TheVariants.{Rule};
 ghost use Rattle.audit_lock.specs.declared.resolving.Package.{Package};
+ghost use Rattle.audit_lock.specs.InOrder.{AreListed, ArePlaced, array_of, packages_at};
+ghost use Rattle.audit_lock.specs.Listed.{listed_of};
+ghost use Rattle.audit_lock.specs.Locked.{listed_from, resolve_from};
+ghost use Rattle.audit_lock.specs.Naming.{each_place};
 ghost use Rattle.audit_lock.specs.Shape.{IsTree};
 ghost use Rattle.audit_lock.specs.Rendering.{Line, lines_of};
+
+/// An array is the packages that its values are, where each is one; else the first that is none is
+/// named by its place, with the rule that it breaks. Packages have the places of their
+/// dependencies, where each names a package; else the first package of which one doesn't is named.
+pub fn first_broken_package_is_named()
+    ensures listed { (ds : List Data) (ps : List ListedPackage)
+        → AreListed ds ps → listed_from 0 (array_of ds) ≡ Ok ps }
+    ensures broken { (front back : List Data) (d : Data) (ps : List ListedPackage) (r : LockRule)
+        → AreListed front ps → listed_of d ≡ Err r
+        → listed_from 0 (array_of (front ++ d ∷ back)) ≡ Err (Rule (Some (length front)) r) }
+    ensures placed { (place : List ℕ → Option ℕ) (ps : List ListedPackage) (ats : List (List ℕ))
+        → ArePlaced place ps ats → resolve_from place 0 ps ≡ Ok (packages_at ps ats) }
+    ensures unnamed { (place : List ℕ → Option ℕ) (front back : List ListedPackage)
+        (p : ListedPackage) (ats : List (List ℕ))
+        → ArePlaced place front ats → each_place place p.dependencies ≡ None
+        → resolve_from place 0 (front ++ p ∷ back) ≡ Err (Rule (Some (length front)) Names) }
+{}
 
 /// The lines of a rendering are the only ones that have the shape of the tree.
 pub fn lines_are_the_tree()

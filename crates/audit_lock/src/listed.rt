@@ -4,7 +4,8 @@ ghost use Rattle.std.specs.List.{starts_with};
 ghost use Rattle.semver.specs.Parse.{memory_error};
 ghost use Rattle.toml.specs.View.{view};
 ghost use Rattle.toml_tables.specs.Members.{optional};
-ghost use Rattle.audit_lock.specs.Listed.{as_source, has_source_kind, listed_of, rule_of, version_of};
+ghost use Rattle.audit_lock.specs.Listed.{as_source, listed_of, rule_of};
+ghost use Rattle.audit_lock.specs.Listed as spec;
 
 use semver::Version;
 use std::alloc::{AllocError, Global};
@@ -87,7 +88,7 @@ fn begins_with(text: &str, prefix: &str) -> bool
 }
 
 fn has_source_kind(text: &str) -> bool
-    ensures { result ≡ has_source_kind text.now }
+    ensures { result ≡ spec.has_source_kind text.now }
 {
     begins_with(text, "registry+")
         || begins_with(text, "sparse+")
@@ -110,7 +111,7 @@ fn source_of<'a>(member: Option<&'a Value>) -> Option<Option<&'a str>>
 
 fn version_of<'a>(alloc: Global, member: Option<&'a Value>) -> Result<Option<&'a str>, AllocError>
     ensures { IfOk result (λ o. option_map (λ s. s.now) o
-        ≡ version_of (option_map (λ v. view v.now) member.entry)) }
+        ≡ spec.version_of (option_map (λ v. view v.now) member.entry)) }
 {
     let Some(text) = required_text(member) else {
         return Ok(None);
@@ -130,7 +131,8 @@ fn version_of<'a>(alloc: Global, member: Option<&'a Value>) -> Result<Option<&'a
 /// The package that a table is, or the first rule that it breaks.
 pub fn read_listed(alloc: Global, value: &Value) -> Result<ListedPackage, ListingFault>
     ensures ok { IfOk result (λ p. listed_of (view value.now) ≡ Ok p) }
-    ensures refused { IfErr result (λ e. IfSome (rule_of e) (λ r. listed_of (view value.now) ≡ Err r)) }
+    ensures refused { IfErr result
+        (λ e. IfSome (rule_of e) (λ r. listed_of (view value.now) ≡ Err r)) }
 {
     let Some(name) = required_text(value.get("name")) else {
         return Err(ListingFault::Rule(LockRule::Name));

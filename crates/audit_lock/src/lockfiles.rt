@@ -2,11 +2,12 @@
 ghost use Rattle.std.specs.Prelude.{◌≡◌, ◌≢◌, List, option_map, IfOk, IfErr, Ok, Err, Some, None};
 ghost use Rattle.toml.specs.View.{view, table_view, items_view};
 ghost use Rattle.toml.specs.Parse.{parse_document};
-ghost use Rattle.audit_lock.specs.Defaults.{is_default_registry};
-ghost use Rattle.toml_tables.specs.Answers.{and_then};
+ghost use Rattle.audit_lock.specs.Defaults as defaults_spec;
+ghost use Rattle.toml_tables.specs.Results.{and_then};
 ghost use Rattle.audit_lock.specs.Listed.{listed_of};
 ghost use Rattle.audit_lock.specs.declared.lockfiles.LockfileFault.TheVariants as fault;
-ghost use Rattle.audit_lock.specs.Locked.{all_tables, at_place, is_version, listed_from, listed_table, locked, package_items, root_table, with_root};
+ghost use Rattle.audit_lock.specs.Locked.{at_place, listed_from, listed_table, locked, with_root};
+ghost use Rattle.audit_lock.specs.Locked as spec;
 ghost use Rattle.audit_lock.specs.declared.resolving.Package.{Package};
 
 use crate::listed::{ListedPackage, ListingFault, LockRule, read_listed};
@@ -55,7 +56,7 @@ impl Model for Lockfile {
 }
 
 fn is_version(member: Option<&Value>) -> bool
-    ensures { result ≡ is_version (option_map (λ v. view v.now) member.entry) }
+    ensures { result ≡ spec.is_version (option_map (λ v. view v.now) member.entry) }
 {
     match optional_number(member) {
         None => false,
@@ -65,7 +66,7 @@ fn is_version(member: Option<&Value>) -> bool
 }
 
 fn all_tables(items: &[Value]) -> bool
-    ensures { result ≡ all_tables (items_view items.now) }
+    ensures { result ≡ spec.all_tables (items_view items.now) }
 {
     for item in items {
         if !item.is_table() {
@@ -77,7 +78,7 @@ fn all_tables(items: &[Value]) -> bool
 
 fn package_items<'a>(member: Option<&'a Value>) -> Option<&'a [Value]>
     ensures { option_map (λ s. items_view s.now) result
-        ≡ package_items (option_map (λ v. view v.now) member.entry) }
+        ≡ spec.package_items (option_map (λ v. view v.now) member.entry) }
 {
     match member {
         None => Some(&[]),
@@ -88,7 +89,7 @@ fn package_items<'a>(member: Option<&'a Value>) -> Option<&'a [Value]>
 
 fn root_table<'a>(member: Option<&'a Value>) -> Option<Option<&'a Value>>
     ensures { option_map (option_map (λ v. view v.now)) result
-        ≡ root_table (option_map (λ v. view v.now) member.entry) }
+        ≡ spec.root_table (option_map (λ v. view v.now) member.entry) }
 {
     match member {
         None => Some(None),
@@ -105,7 +106,8 @@ fn root_table<'a>(member: Option<&'a Value>) -> Option<Option<&'a Value>>
 /// The package of a table, the fault with its place.
 fn read_at(alloc: Global, place: usize, value: &Value) -> Result<ListedPackage, LockfileFault>
     ensures ok { IfOk result (λ p. at_place place (listed_of (view value.now)) ≡ Ok p) }
-    ensures refused { IfErr result (λ e. e ≢ LockfileFault.NoMemory → at_place place (listed_of (view value.now)) ≡ Err e) }
+    ensures refused { IfErr result
+        (λ e. e ≢ LockfileFault.NoMemory → at_place place (listed_of (view value.now)) ≡ Err e) }
 {
     match read_listed(alloc, value) {
         Ok(package) => Ok(package),
@@ -119,7 +121,8 @@ fn read_at(alloc: Global, place: usize, value: &Value) -> Result<ListedPackage, 
 
 fn read_items(alloc: Global, items: &[Value]) -> Result<Items<ListedPackage>, LockfileFault>
     ensures ok { IfOk result (λ ps. listed_from 0 (items_view items.now) ≡ Ok ps) }
-    ensures refused { IfErr result (λ e. e ≢ LockfileFault.NoMemory → listed_from 0 (items_view items.now) ≡ Err e) }
+    ensures refused { IfErr result
+        (λ e. e ≢ LockfileFault.NoMemory → listed_from 0 (items_view items.now) ≡ Err e) }
 {
     let mut packages = Items::new(alloc);
     for (i, item) in items.iter().enumerate() {
@@ -135,8 +138,12 @@ fn read_packages(
     items: &[Value],
     root: Option<&Value>,
 ) -> Result<Items<ListedPackage>, LockfileFault>
-    ensures ok { IfOk result (λ ps. and_then (with_root (option_map (λ v. view v.now) root.entry)) (listed_from 0 (items_view items.now)) ≡ Ok ps) }
-    ensures refused { IfErr result (λ e. e ≢ LockfileFault.NoMemory → and_then (with_root (option_map (λ v. view v.now) root.entry)) (listed_from 0 (items_view items.now)) ≡ Err e) }
+    ensures ok { IfOk result (λ ps. and_then (with_root (option_map (λ v. view v.now) root.entry))
+        (listed_from 0 (items_view items.now)) ≡ Ok ps) }
+    ensures refused { IfErr result
+        (λ e. e ≢ LockfileFault.NoMemory
+        → and_then (with_root (option_map (λ v. view v.now) root.entry))
+        (listed_from 0 (items_view items.now)) ≡ Err e) }
 {
     let mut packages = read_items(alloc, items)?;
     if let Some(root) = root {
@@ -150,7 +157,8 @@ fn read_packages(
 /// The listed packages of a table.
 fn read_table(alloc: Global, table: &Table) -> Result<Items<ListedPackage>, LockfileFault>
     ensures ok { IfOk result (λ ps. listed_table (table_view table.now) ≡ Ok ps) }
-    ensures refused { IfErr result (λ e. e ≢ LockfileFault.NoMemory → listed_table (table_view table.now) ≡ Err e) }
+    ensures refused { IfErr result
+        (λ e. e ≢ LockfileFault.NoMemory → listed_table (table_view table.now) ≡ Err e) }
 {
     if table_has_float(table) {
         return Err(LockfileFault::Float);
@@ -199,7 +207,9 @@ impl Lockfile {
 
 fn parse(alloc: Global, text: &str) -> Result<Table, LockfileFault>
     ensures ok { IfOk result (λ table. parse_document text.now ≡ Some (table_view table)) }
-    ensures refused { IfErr result (λ e. e ≢ LockfileFault.NoMemory → (e ≡ LockfileFault.Toml) × (parse_document text.now ≡ None)) }
+    ensures refused { IfErr result
+        (λ e. e ≢ LockfileFault.NoMemory
+        → (e ≡ LockfileFault.Toml) × (parse_document text.now ≡ None)) }
 {
     match parse_table(alloc, text) {
         Ok(table) => Ok(table),
@@ -210,7 +220,7 @@ fn parse(alloc: Global, text: &str) -> Result<Table, LockfileFault>
 
 /// Whether a source is the default registry: one of its two texts, whole.
 pub fn is_default_registry(source: &str) -> bool
-    ensures { result ≡ is_default_registry source.now }
+    ensures { result ≡ defaults_spec.is_default_registry source.now }
 {
     source == "registry+https://github.com/rust-lang/crates.io-index"
         || source == "sparse+https://index.crates.io/"

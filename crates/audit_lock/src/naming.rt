@@ -2,7 +2,8 @@
 ghost use Rattle.std.specs.Prelude.{◌≡◌, List, ℕ, OnOk, IfOk, string_bytes};
 ghost use Rattle.std.specs.Option.{option_or};
 ghost use Rattle.std.specs.BTreeMap.{get_by_text};
-ghost use Rattle.audit_lock.specs.Naming.{at_name, before_hash, each_place, full_name, name_and_version, named_at, names_it, place_of};
+ghost use Rattle.audit_lock.specs.Naming.{at_name, named_at, names_it, place_of};
+ghost use Rattle.audit_lock.specs.Naming as spec;
 
 use crate::listed::ListedPackage;
 use std::alloc::Global;
@@ -25,7 +26,7 @@ fn put_first(places: &mut Places, text: String, place: usize) -> Result<(), NoMe
 
 /// What stands before the first `#`.
 fn before_hash(source: &str) -> &str
-    ensures { result.now ≡ before_hash source.now }
+    ensures { result.now ≡ spec.before_hash source.now }
 {
     match source.split_once('#') {
         Some((front, _)) => front,
@@ -34,13 +35,13 @@ fn before_hash(source: &str) -> &str
 }
 
 fn name_and_version(alloc: Global, listed: &ListedPackage) -> Result<String, NoMemory>
-    ensures { IfOk result (λ s. string_bytes s ≡ name_and_version listed.now) }
+    ensures { IfOk result (λ s. string_bytes s ≡ spec.name_and_version listed.now) }
 {
     Ok(format!(in alloc; "{} {}", listed.name, listed.version)?)
 }
 
 fn full_name(alloc: Global, listed: &ListedPackage, source: &str) -> Result<String, NoMemory>
-    ensures { IfOk result (λ s. string_bytes s ≡ full_name listed.now source.now) }
+    ensures { IfOk result (λ s. string_bytes s ≡ spec.full_name listed.now source.now) }
 {
     Ok(format!(in alloc; "{} {} ({source})", listed.name, listed.version)?)
 }
@@ -71,7 +72,8 @@ fn put_package(
 
 /// The places of the first packages that texts name.
 pub fn places_of(alloc: Global, packages: &[ListedPackage]) -> Result<Places, NoMemory>
-    ensures { IfOk result (λ places. (q : List ℕ) → get_by_text places q ≡ place_of packages.now q) }
+    ensures { IfOk result (λ places. (q : List ℕ)
+        → get_by_text places q ≡ place_of packages.now q) }
 {
     let mut places = Places::new(alloc);
     for (i, package) in packages.iter().enumerate() {
@@ -86,7 +88,7 @@ pub fn each_place(
     places: &Places,
     texts: &[Text],
 ) -> Result<Option<Items<usize>>, NoMemory>
-    ensures { IfOk result (λ found. found ≡ each_place (get_by_text places.now) texts.now) }
+    ensures { IfOk result (λ found. found ≡ spec.each_place (get_by_text places.now) texts.now) }
 {
     let mut found = Items::new(alloc);
     for text in texts {

@@ -1,7 +1,8 @@
 //! The parents of packages.
 ghost use Rattle.std.specs.Prelude.{◌≡◌, ◌<◌, ◌==◌, ℕ, [], length, OnOk, IfOk, if◌then◌else◌};
 ghost use Rattle.audit_lock.specs.Parents.{is_among, parents_at, parents_before, tree_of};
-ghost use Rattle.audit_lock.specs.Putting.{is_last, with_parent};
+ghost use Rattle.audit_lock.specs.Putting.{with_parent};
+ghost use Rattle.audit_lock.specs.Putting as spec;
 
 use crate::resolving::Package;
 use std::alloc::Global;
@@ -9,7 +10,7 @@ use tame_names::{Items, NoMemory};
 
 /// Whether a place is the last of these.
 fn is_last(parents: &[usize], place: usize) -> bool
-    ensures { result ≡ is_last place parents.now }
+    ensures { result ≡ spec.is_last place parents.now }
 {
     match parents.last() {
         Some(last) => *last == place,

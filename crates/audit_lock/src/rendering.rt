@@ -1,7 +1,8 @@
 //! A tree as text.
 ghost use Rattle.std.specs.Prelude.{◌≡◌, ◌<◌, ◌≤◌, ◌++◌, ℕ, length, OnOk, IfOk, string_bytes};
 ghost use Rattle.audit_lock.specs.Parents.{tree_of};
-ghost use Rattle.audit_lock.specs.Rendering.{mark, marks, rendering, shown_at, unmet, walk};
+ghost use Rattle.audit_lock.specs.Rendering.{marks, rendering, shown_at, unmet, walk};
+ghost use Rattle.audit_lock.specs.Rendering as spec;
 ghost use Rattle.audit_lock.specs.Walking.{Shows};
 
 use crate::resolving::Package;
@@ -10,7 +11,7 @@ use tame_names::Items;
 
 /// The mark of a line's own level, and that of a level above.
 fn mark(is_own: bool, follows: bool) -> &'static str
-    ensures { result.now ≡ mark is_own follows }
+    ensures { result.now ≡ spec.mark is_own follows }
 {
     match (is_own, follows) {
         (true, true) => "├── ",

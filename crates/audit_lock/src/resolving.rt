@@ -26,7 +26,9 @@ fn resolve_each(
     listed: Vec<ListedPackage>,
 ) -> Result<Items<Package>, LockfileFault>
     ensures ok { IfOk result (λ ps. resolve_from (get_by_text places.now) 0 listed.items ≡ Ok ps) }
-    ensures refused { IfErr result (λ e. e ≢ LockfileFault.NoMemory → resolve_from (get_by_text places.now) 0 listed.items ≡ Err e) }
+    ensures refused { IfErr result
+        (λ e. e ≢ LockfileFault.NoMemory
+        → resolve_from (get_by_text places.now) 0 listed.items ≡ Err e) }
 {
     let mut packages = Items::new(alloc);
     for package in listed {
@@ -51,7 +53,8 @@ fn resolve_each(
 /// The packages, each dependency found at its first place.
 pub fn resolve(alloc: Global, listed: Items<ListedPackage>) -> Result<Items<Package>, LockfileFault>
     ensures ok { IfOk result (λ ps. resolve_from (place_of listed) 0 listed ≡ Ok ps) }
-    ensures refused { IfErr result (λ e. e ≢ LockfileFault.NoMemory → resolve_from (place_of listed) 0 listed ≡ Err e) }
+    ensures refused { IfErr result
+        (λ e. e ≢ LockfileFault.NoMemory → resolve_from (place_of listed) 0 listed ≡ Err e) }
 {
     let places = places_of(alloc, listed.as_slice())?;
     resolve_each(alloc, &places, listed.into_vec())

@@ -1,6 +1,6 @@
 //! The inverse dependency tree of a lockfile.
 ghost use Rattle.std.specs.Prelude.{◌≡◌, ◌<◌, ◌≤◌, ◌++◌, List, ℕ, length, IfOk, OnOk, IsErrOf};
-ghost use Rattle.tame_names.specs.Counts.{Rose};
+ghost use Rattle.tame_names.specs.Counts.{CountRose};
 ghost use Rattle.tame_names.specs.Output.{AddsPrefix};
 ghost use Rattle.audit_lock.specs.Shape.{IsTree};
 ghost use Rattle.audit_lock.specs.Parents.{tree_of};
@@ -46,9 +46,9 @@ impl Tree {
 
     /// Puts the tree of the package at a place: a line for it, and below it the packages that
     /// depend on it, each with those that depend on it in turn. A package that has a line already
-    /// gets another one, with nothing below it. The text is made whole and put in one piece. `Io` where
-    /// the sink failed, which then holds a part of the text from the front; at `NoMemory` it wasn't
-    /// called. The depth of the recursion is that of the tree.
+    /// gets another one, with nothing below it. The text is made whole and put in one piece. `Io`
+    /// where the sink failed, which then holds a part of the text from the front; at `NoMemory` it
+    /// wasn't called. The depth of the recursion is that of the tree.
     pub fn render<S: Sink>(
         &self,
         alloc: Global,
@@ -65,7 +65,7 @@ impl Tree {
             → AddsPrefix (S.holds sink.old) (rendering lockfile.now node) (S.holds sink.new) }
         ensures later { S.faults sink.old ≤ S.faults sink.new }
         ensures failed { IsErrOf result RenderFault.Io
-            → Rose (S.faults sink.old) (S.faults sink.new) }
+            → CountRose (S.faults sink.old) (S.faults sink.new) }
         ensures unput { IsErrOf result RenderFault.NoMemory → sink.new ≡ sink.old }
     {
         let Ok(text) = tree_text(alloc, lockfile.packages(), self.parents.as_slice(), node) else {

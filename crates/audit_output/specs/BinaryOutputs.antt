@@ -6,8 +6,8 @@ use Rattle.audit_binaries.specs.declared.answers.BinaryAnswer.{BinaryAnswer}
 use Rattle.audit_binaries.specs.declared.answers.BinaryAnswer.TheVariants as answer
 use Rattle.audit_binaries.specs.declared.answers.BinaryFault.{BinaryFault}
 use Rattle.audit_binaries.specs.declared.answers.BinaryFault.TheVariants as fault
-use Rattle.audit_binaries.specs.declared.answers.Found2.{Found2}
-use Rattle.audit_binaries.specs.declared.answers.Found2.TheVariants.{Complete, Incomplete}
+use Rattle.audit_binaries.specs.declared.answers.PackagesFound.{PackagesFound}
+use Rattle.audit_binaries.specs.declared.answers.PackagesFound.TheVariants.{Complete, Incomplete}
 use Rattle.audit_report.specs.Printed.{Printed, printed}
 use Rattle.audit_report.specs.StatusLines.{binary_line_in}
 use Rattle.audit_report.specs.declared.binaries.Found.{Found}
@@ -52,7 +52,7 @@ refused_line path f = codes "error: " ++ path ++ codes ": " ++ binary_words f ++
 
 -- ---- status lines
 
-abbrev pub found_of : Found2 → Found
+abbrev pub found_of : PackagesFound → Found
 found_of Complete = found.Complete
 found_of Incomplete = found.Incomplete
 

@@ -1,13 +1,14 @@
 //! The lines of a binary.
 ghost use Rattle.std.specs.Prelude.{◌≡◌, ◌++◌, codes, decimal, length, IfOk, OnOk, string_bytes};
 ghost use Rattle.audit_report.specs.StatusLines.{binary_line_in};
-ghost use Rattle.audit_output.specs.BinaryOutputs.{binary_status_lines, binary_words, found_of, refused_line, refused_status_line};
+ghost use Rattle.audit_output.specs.BinaryOutputs.{binary_words};
+ghost use Rattle.audit_output.specs.BinaryOutputs as spec;
 ghost use Rattle.audit_output.specs.Outputs.{unchecked_lines};
 
 use crate::fault_lines::{push_lockfile_words, push_number, push_two};
 use crate::outputs::push_unchecked_lines;
 use audit_advisory::OutputConfig;
-use audit_binaries::{BinaryAnswer, BinaryFault, Found2};
+use audit_binaries::{BinaryAnswer, BinaryFault, PackagesFound};
 use audit_core::Audited;
 use audit_report::{Found, binary_line_in};
 use std::alloc::{AllocError, Global};
@@ -39,7 +40,7 @@ fn push_binary_words(alloc: Global, out: &mut String, fault: BinaryFault) -> Res
 
 /// The line that tells why there is no audit of the binary at a path.
 pub fn refused_line(alloc: Global, path: &str, fault: BinaryFault) -> Result<String, AllocError>
-    ensures { IfOk result (λ line. string_bytes line ≡ refused_line path.now fault) }
+    ensures { IfOk result (λ line. string_bytes line ≡ spec.refused_line path.now fault) }
 {
     let mut out = String::from_str(alloc, "error: ")?;
     push_two(&mut out, path, ": ")?;
@@ -48,12 +49,12 @@ pub fn refused_line(alloc: Global, path: &str, fault: BinaryFault) -> Result<Str
     Ok(out)
 }
 
-fn found_of(found: Found2) -> Found
-    ensures { result ≡ found_of found }
+fn found_of(found: PackagesFound) -> Found
+    ensures { result ≡ spec.found_of found }
 {
     match found {
-        Found2::Complete => Found::Complete,
-        Found2::Incomplete => Found::Incomplete,
+        PackagesFound::Complete => Found::Complete,
+        PackagesFound::Incomplete => Found::Incomplete,
     }
 }
 
@@ -62,11 +63,11 @@ fn audited_lines(
     alloc: Global,
     config: &OutputConfig,
     path: &str,
-    found: Found2,
+    found: PackagesFound,
     audited: &Audited,
 ) -> Result<String, AllocError>
     ensures { IfOk result (λ lines. string_bytes lines
-        ≡ binary_line_in config.now (found_of found) (length audited.now.lockfile) path.now
+        ≡ binary_line_in config.now (spec.found_of found) (length audited.now.lockfile) path.now
         ++ unchecked_lines audited.now.lockfile audited.now.verdicts) }
 {
     let packages = audited.lockfile.packages();
@@ -83,7 +84,7 @@ fn refused_status_line(
     fault: BinaryFault,
 ) -> Result<String, AllocError>
     ensures { IfOk result (λ line. string_bytes line
-        ≡ refused_status_line config.now path.now fault) }
+        ≡ spec.refused_status_line config.now path.now fault) }
 {
     match fault {
         BinaryFault::NoInformation => binary_line_in(alloc, config, Found::Nothing, 0, path),
@@ -99,7 +100,7 @@ pub fn binary_status_lines(
     answer: &BinaryAnswer,
 ) -> Result<String, AllocError>
     ensures { IfOk result (λ lines. string_bytes lines
-        ≡ binary_status_lines config.now path.now answer.now) }
+        ≡ spec.binary_status_lines config.now path.now answer.now) }
 {
     match answer {
         BinaryAnswer::Audited(found, audited) => {

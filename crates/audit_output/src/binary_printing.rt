@@ -1,6 +1,6 @@
 //! The output of the audits of binaries.
 ghost use Rattle.std.specs.Prelude.{◌≡◌, ◌≤◌, ◌⊎◌, false, Err, IfErr, OnOk};
-ghost use Rattle.tame_names.specs.Counts.{Rose};
+ghost use Rattle.tame_names.specs.Counts.{CountRose};
 ghost use Rattle.audit_report.specs.Outputs.{IsPut};
 ghost use Rattle.audit_output.specs.BinaryOutputs.{AreReportsOf, IsAnswerOf, answer_printed, answers_output, binaries_output, binaries_printed, binaries_shown_on, binary_printed, binary_report, binary_status_lines, binary_verdicts, refused_line, reports_output, with_trees};
 ghost use Rattle.audit_output.specs.Outputs.{IsPrintFault, loaded_by, presenter_of};
@@ -40,7 +40,7 @@ fn print_loaded<E: Sink>(
     ensures err { E.tells → IsPut (E.holds err.old) (loaded_by (binaries_shown_on sheet.now))
         (E.holds err.new) result }
     ensures later { E.faults err.old ≤ E.faults err.new }
-    ensures failed { result ≡ Err RunFault.Print → Rose (E.faults err.old) (E.faults err.new) }
+    ensures failed { result ≡ Err RunFault.Print → CountRose (E.faults err.old) (E.faults err.new) }
     ensures only { IfErr result IsPrintFault }
 {
     let count = sheet.auditor.database().advisories().len();
@@ -62,7 +62,7 @@ fn print_status<E: Sink>(
     ensures err { E.tells → IsPut (E.holds err.old)
         (binary_status_lines config.now path.now answer.now) (E.holds err.new) result }
     ensures later { E.faults err.old ≤ E.faults err.new }
-    ensures failed { result ≡ Err RunFault.Print → Rose (E.faults err.old) (E.faults err.new) }
+    ensures failed { result ≡ Err RunFault.Print → CountRose (E.faults err.old) (E.faults err.new) }
     ensures only { IfErr result IsPrintFault }
 {
     match binary_status_lines(alloc, config, path, answer) {
@@ -81,7 +81,7 @@ fn print_refused<E: Sink>(
     ensures err { E.tells → IsPut (E.holds err.old) (refused_line path.now fault)
         (E.holds err.new) result }
     ensures later { E.faults err.old ≤ E.faults err.new }
-    ensures failed { result ≡ Err RunFault.Print → Rose (E.faults err.old) (E.faults err.new) }
+    ensures failed { result ≡ Err RunFault.Print → CountRose (E.faults err.old) (E.faults err.new) }
     ensures only { IfErr result IsPrintFault }
 {
     match refused_line(alloc, path, fault) {
@@ -104,8 +104,8 @@ fn print_binary_verdicts<O: Sink, E: Sink>(
         (binary_verdicts path.now answer.now).err (E.holds err.new) result }
     ensures out_later { O.faults out.old ≤ O.faults out.new }
     ensures err_later { E.faults err.old ≤ E.faults err.new }
-    ensures failed { result ≡ Err RunFault.Print → Rose (O.faults out.old) (O.faults out.new)
-        ⊎ Rose (E.faults err.old) (E.faults err.new) }
+    ensures failed { result ≡ Err RunFault.Print → CountRose (O.faults out.old) (O.faults out.new)
+        ⊎ CountRose (E.faults err.old) (E.faults err.new) }
     ensures only { IfErr result IsPrintFault }
 {
     match answer {
@@ -133,8 +133,8 @@ fn print_binary_report<O: Sink, E: Sink>(
         (E.holds err.new) result }
     ensures out_later { O.faults out.old ≤ O.faults out.new }
     ensures err_later { E.faults err.old ≤ E.faults err.new }
-    ensures failed { result ≡ Err RunFault.Print → Rose (O.faults out.old) (O.faults out.new)
-        ⊎ Rose (E.faults err.old) (E.faults err.new) }
+    ensures failed { result ≡ Err RunFault.Print → CountRose (O.faults out.old) (O.faults out.new)
+        ⊎ CountRose (E.faults err.old) (E.faults err.new) }
     ensures only { IfErr result IsPrintFault }
     ensures shown { OnOk result (presenter.new ≡ with_trees presenter.old
         (binary_report auditor.now.database presenter.old path.now answer.now).trees) }
@@ -166,8 +166,8 @@ fn print_answer<O: Sink, E: Sink>(
         (E.holds err.new) result }
     ensures out_later { O.faults out.old ≤ O.faults out.new }
     ensures err_later { E.faults err.old ≤ E.faults err.new }
-    ensures failed { result ≡ Err RunFault.Print → Rose (O.faults out.old) (O.faults out.new)
-        ⊎ Rose (E.faults err.old) (E.faults err.new) }
+    ensures failed { result ≡ Err RunFault.Print → CountRose (O.faults out.old) (O.faults out.new)
+        ⊎ CountRose (E.faults err.old) (E.faults err.new) }
     ensures only { IfErr result IsPrintFault }
     ensures shown { OnOk result (presenter.new ≡ with_trees presenter.old
         (answer_printed (binaries_shown_on sheet.now) presenter.old path.now answer.now).trees) }
@@ -196,8 +196,8 @@ fn print_binary<O: Sink, E: Sink>(
         answer.now).err (E.holds err.new) result }
     ensures out_later { O.faults out.old ≤ O.faults out.new }
     ensures err_later { E.faults err.old ≤ E.faults err.new }
-    ensures failed { result ≡ Err RunFault.Print → Rose (O.faults out.old) (O.faults out.new)
-        ⊎ Rose (E.faults err.old) (E.faults err.new) }
+    ensures failed { result ≡ Err RunFault.Print → CountRose (O.faults out.old) (O.faults out.new)
+        ⊎ CountRose (E.faults err.old) (E.faults err.new) }
     ensures only { IfErr result IsPrintFault }
     ensures shown { OnOk result (presenter.new ≡ with_trees presenter.old
         (binary_printed verdicts (binaries_shown_on sheet.now) presenter.old path.now
@@ -228,8 +228,8 @@ fn print_each<O: Sink, E: Sink>(
         sheet.now.paths.now sheet.now.answers.now).err (E.holds err.new) result }
     ensures out_later { O.faults out.old ≤ O.faults out.new }
     ensures err_later { E.faults err.old ≤ E.faults err.new }
-    ensures failed { result ≡ Err RunFault.Print → Rose (O.faults out.old) (O.faults out.new)
-        ⊎ Rose (E.faults err.old) (E.faults err.new) }
+    ensures failed { result ≡ Err RunFault.Print → CountRose (O.faults out.old) (O.faults out.new)
+        ⊎ CountRose (E.faults err.old) (E.faults err.new) }
     ensures only { IfErr result IsPrintFault }
     ensures config { OnOk result (presenter.new.config ≡ presenter.old.config) }
 {
@@ -274,8 +274,8 @@ fn print_reports<O: Sink, E: Sink>(
         sheet.now.answers.now)).err (E.holds err.new) result }
     ensures out_later { O.faults out.old ≤ O.faults out.new }
     ensures err_later { E.faults err.old ≤ E.faults err.new }
-    ensures failed { result ≡ Err RunFault.Print → Rose (O.faults out.old) (O.faults out.new)
-        ⊎ Rose (E.faults err.old) (E.faults err.new) }
+    ensures failed { result ≡ Err RunFault.Print → CountRose (O.faults out.old) (O.faults out.new)
+        ⊎ CountRose (E.faults err.old) (E.faults err.new) }
     ensures only { IfErr result IsPrintFault }
 {
     print_loaded(alloc, sheet, err)?;
@@ -302,8 +302,8 @@ pub fn print_binaries<O: Sink, E: Sink>(
         sheet.now.answers.now).err (E.holds err.new) result }
     ensures out_later { O.faults out.old ≤ O.faults out.new }
     ensures err_later { E.faults err.old ≤ E.faults err.new }
-    ensures failed { result ≡ Err RunFault.Print → Rose (O.faults out.old) (O.faults out.new)
-        ⊎ Rose (E.faults err.old) (E.faults err.new) }
+    ensures failed { result ≡ Err RunFault.Print → CountRose (O.faults out.old) (O.faults out.new)
+        ⊎ CountRose (E.faults err.old) (E.faults err.new) }
     ensures only { IfErr result IsPrintFault }
 {
     let mut presenter = new_presenter(alloc, sheet.config)?;

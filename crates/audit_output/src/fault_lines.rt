@@ -1,7 +1,8 @@
 //! The line that tells why a run ended without its output.
 ghost use Rattle.std.specs.Prelude.{◌≡◌, ◌++◌, codes, decimal, IfOk, OnOk, string_bytes};
 ghost use Rattle.std.specs.Fmt.{signed_decimal};
-ghost use Rattle.audit_output.specs.FaultLines.{fault_line, fault_words, lockfile_kind, lockfile_words, of_package, rule_word, settings_words};
+ghost use Rattle.audit_output.specs.FaultLines.{fault_words, lockfile_words, of_package, settings_words};
+ghost use Rattle.audit_output.specs.FaultLines as spec;
 
 use audit_asked::RunFault;
 use audit_lock::{LockRule, LockfileFault};
@@ -65,7 +66,7 @@ fn push_settings(out: &mut String, reason: &SettingsFault) -> Result<(), AllocEr
 }
 
 fn rule_word(rule: LockRule) -> &'static str
-    ensures { result.now ≡ rule_word rule }
+    ensures { result.now ≡ spec.rule_word rule }
 {
     match rule {
         LockRule::Version => "version",
@@ -97,7 +98,7 @@ fn push_rule(
     rule: LockRule,
 ) -> Result<(), AllocError>
     ensures { OnOk result (string_bytes out.new
-        ≡ string_bytes out.old ++ (codes "rule " ++ rule_word rule ++ of_package locked)) }
+        ≡ string_bytes out.old ++ (codes "rule " ++ spec.rule_word rule ++ of_package locked)) }
 {
     push_two(out, "rule ", rule_word(rule))?;
     push_package(alloc, out, locked)
@@ -120,7 +121,7 @@ pub fn push_lockfile_words(
 }
 
 fn lockfile_kind(reason: LockfileFault) -> &'static str
-    ensures { result.now ≡ lockfile_kind reason }
+    ensures { result.now ≡ spec.lockfile_kind reason }
 {
     match reason {
         LockfileFault::Rule {
@@ -137,7 +138,7 @@ fn push_lockfile(
     place: &str,
     reason: LockfileFault,
 ) -> Result<(), AllocError>
-    ensures { OnOk result (string_bytes out.new ≡ string_bytes out.old ++ (lockfile_kind reason
+    ensures { OnOk result (string_bytes out.new ≡ string_bytes out.old ++ (spec.lockfile_kind reason
         ++ codes ": couldn't load " ++ place.now ++ codes ": " ++ lockfile_words reason)) }
 {
     push_two(out, lockfile_kind(reason), ": couldn't load ")?;
@@ -207,7 +208,7 @@ fn push_fault(
 
 /// The line that tells a fault; that of a lockfile names the lockfile's path.
 pub fn fault_line(alloc: Global, place: &str, fault: &RunFault) -> Result<String, AllocError>
-    ensures { IfOk result (λ line. string_bytes line ≡ fault_line place.now fault.now) }
+    ensures { IfOk result (λ line. string_bytes line ≡ spec.fault_line place.now fault.now) }
 {
     let mut out = String::from_str(alloc, "error: ")?;
     push_fault(alloc, &mut out, place, fault)?;

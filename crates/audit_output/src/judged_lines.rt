@@ -1,7 +1,8 @@
 //! The lines of verdicts.
 ghost use Rattle.std.specs.Prelude.{◌≡◌, ◌++◌, IfOk, OnOk, string_bytes, option_copied, slice_get};
 ghost use Rattle.json.specs.Print.{quoted};
-ghost use Rattle.audit_output.specs.Printed.{cause_word, line_at, verdict_line, verdict_lines, verdict_word};
+ghost use Rattle.audit_output.specs.Printed.{cause_word, line_at, verdict_line, verdict_word};
+ghost use Rattle.audit_output.specs.Printed as spec;
 
 use audit_core::{Cause, Judged, Verdict};
 use audit_lock::Package;
@@ -91,7 +92,8 @@ pub fn verdict_lines(
     packages: &[Package],
     verdicts: &[Judged],
 ) -> Result<String, AllocError>
-    ensures { IfOk result (λ lines. string_bytes lines ≡ verdict_lines packages.now verdicts.now) }
+    ensures { IfOk result (λ lines. string_bytes lines
+        ≡ spec.verdict_lines packages.now verdicts.now) }
 {
     let mut out = String::new(alloc);
     for judged in verdicts {

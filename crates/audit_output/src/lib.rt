@@ -1,6 +1,15 @@
 //! What a run prints: the output of the audit of a lockfile and of those of binaries, on `out` and
-//! on `err`, the lines of verdicts, and the line of a fault. What is put is a function of what is
-//! shown and how; where a put fails, a part of it from the front.
+//! on `err`, the lines of verdicts, and the line of a fault.
+//!
+//! Promises: out and err gain exactly the text that the definition makes of what is shown and how,
+//! or a part of it from the front where a put failed.
+//! Stands on the presenter of `audit_report`, the audits of `audit_core` and `audit_binaries`, and
+//! the faults of `audit_asked`.
+//!
+//! ```ignore
+//! print(alloc, verdicts, &sheet, &mut out, &mut err)?;
+//! fault_line(alloc, "Cargo.lock", &fault)?; // error: ..
+//! ```
 #![tactic(auto)]
 
 mod binary_lines;

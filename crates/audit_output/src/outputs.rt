@@ -1,6 +1,7 @@
 //! The status lines of an audit.
 ghost use Rattle.std.specs.Prelude.{◌≡◌, ◌++◌, slice_get, string_bytes, IfOk, OnOk};
-ghost use Rattle.audit_output.specs.Outputs.{loaded_lines, loaded_lines_in, unchecked_at, unchecked_lines};
+ghost use Rattle.audit_output.specs.Outputs.{loaded_lines, unchecked_at, unchecked_lines};
+ghost use Rattle.audit_output.specs.Outputs as spec;
 ghost use Rattle.audit_output.specs.Printed.{cause_word};
 
 use crate::judged_lines::{package_at, push_cause};
@@ -36,7 +37,7 @@ pub fn loaded_lines_in(
     checks: Checks,
 ) -> Result<String, AllocError>
     ensures { IfOk result (λ lines. string_bytes lines
-        ≡ loaded_lines_in config.now count database.now checks) }
+        ≡ spec.loaded_lines_in config.now count database.now checks) }
 {
     let mut out = String::new(alloc);
     if !config.is_quiet() {

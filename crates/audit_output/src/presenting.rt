@@ -1,6 +1,6 @@
 //! What a presenter puts of an audit.
 ghost use Rattle.std.specs.Prelude.{◌≡◌, ◌≢◌, ◌≤◌, ◌⊎◌, Err, IfOk, IfErr, OnOk, option_map};
-ghost use Rattle.tame_names.specs.Counts.{Rose};
+ghost use Rattle.tame_names.specs.Counts.{CountRose};
 ghost use Rattle.audit_core.specs.Auditors.{self_advisories};
 ghost use Rattle.audit_report.specs.Outputs.{IsPut};
 ghost use Rattle.audit_report.specs.Printed.{printed};
@@ -54,8 +54,8 @@ pub fn print_report<O: Sink, E: Sink>(
         audited.now.lockfile audited.now.report).err (E.holds err.new) result }
     ensures out_later { O.faults out.old ≤ O.faults out.new }
     ensures err_later { E.faults err.old ≤ E.faults err.new }
-    ensures failed { result ≡ Err RunFault.Print → Rose (O.faults out.old) (O.faults out.new)
-        ⊎ Rose (E.faults err.old) (E.faults err.new) }
+    ensures failed { result ≡ Err RunFault.Print → CountRose (O.faults out.old) (O.faults out.new)
+        ⊎ CountRose (E.faults err.old) (E.faults err.new) }
     ensures only { IfErr result IsPrintFault }
     ensures config { presenter.new.config ≡ presenter.old.config }
     // the trees that it showed count as shown
@@ -87,8 +87,8 @@ pub fn print_self<O: Sink, E: Sink>(
         (E.holds err.new) result }
     ensures out_later { O.faults out.old ≤ O.faults out.new }
     ensures err_later { E.faults err.old ≤ E.faults err.new }
-    ensures failed { result ≡ Err RunFault.Print → Rose (O.faults out.old) (O.faults out.new)
-        ⊎ Rose (E.faults err.old) (E.faults err.new) }
+    ensures failed { result ≡ Err RunFault.Print → CountRose (O.faults out.old) (O.faults out.new)
+        ⊎ CountRose (E.faults err.old) (E.faults err.new) }
     ensures only { IfErr result IsPrintFault }
 {
     let own = auditor.self_advisories(alloc)?;

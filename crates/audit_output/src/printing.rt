@@ -1,8 +1,9 @@
 //! The output of the audit of a lockfile.
 ghost use Rattle.std.specs.Prelude.{◌≡◌, ◌≤◌, ◌⊎◌, Err, IfOk, IfErr, string_bytes};
-ghost use Rattle.tame_names.specs.Counts.{Rose};
+ghost use Rattle.tame_names.specs.Counts.{CountRose};
 ghost use Rattle.audit_report.specs.Outputs.{IsPut};
-ghost use Rattle.audit_output.specs.Outputs.{IsPrintFault, IsReportOf, output_of, report_output, shown_on, status_lines};
+ghost use Rattle.audit_output.specs.Outputs.{IsPrintFault, IsReportOf, output_of, report_output, shown_on};
+ghost use Rattle.audit_output.specs.Outputs as spec;
 ghost use Rattle.audit_output.specs.Printed.{verdict_lines};
 
 use crate::judged_lines::verdict_lines;
@@ -31,7 +32,7 @@ pub struct Sheet<'a> {
 /// The status lines of an audit.
 fn status_lines(alloc: Global, sheet: &Sheet<'_>) -> Result<String, AllocError>
     ensures { IfOk result (λ lines. string_bytes lines
-        ≡ status_lines (shown_on sheet.now) sheet.now.place.now sheet.now.audited.now) }
+        ≡ spec.status_lines (shown_on sheet.now) sheet.now.place.now sheet.now.audited.now) }
 {
     let audited = sheet.audited;
     let packages = audited.lockfile.packages();
@@ -47,10 +48,10 @@ fn status_lines(alloc: Global, sheet: &Sheet<'_>) -> Result<String, AllocError>
 /// Puts the status lines.
 fn print_status<E: Sink>(alloc: Global, sheet: &Sheet<'_>, err: &mut E) -> Result<(), RunFault>
     ensures err { E.tells → IsPut (E.holds err.old)
-        (status_lines (shown_on sheet.now) sheet.now.place.now sheet.now.audited.now)
+        (spec.status_lines (shown_on sheet.now) sheet.now.place.now sheet.now.audited.now)
         (E.holds err.new) result }
     ensures later { E.faults err.old ≤ E.faults err.new }
-    ensures failed { result ≡ Err RunFault.Print → Rose (E.faults err.old) (E.faults err.new) }
+    ensures failed { result ≡ Err RunFault.Print → CountRose (E.faults err.old) (E.faults err.new) }
     ensures only { IfErr result IsPrintFault }
 {
     match status_lines(alloc, sheet) {
@@ -76,8 +77,8 @@ fn print_all<O: Sink, E: Sink>(
         (E.holds err.new) result }
     ensures out_later { O.faults out.old ≤ O.faults out.new }
     ensures err_later { E.faults err.old ≤ E.faults err.new }
-    ensures failed { result ≡ Err RunFault.Print → Rose (O.faults out.old) (O.faults out.new)
-        ⊎ Rose (E.faults err.old) (E.faults err.new) }
+    ensures failed { result ≡ Err RunFault.Print → CountRose (O.faults out.old) (O.faults out.new)
+        ⊎ CountRose (E.faults err.old) (E.faults err.new) }
     ensures only { IfErr result IsPrintFault }
 {
     print_status(alloc, sheet, err)?;
@@ -103,7 +104,7 @@ pub fn print_verdicts<O: Sink>(
     ensures out { O.tells → IsPut (O.holds out.old)
         (verdict_lines audited.now.lockfile audited.now.verdicts) (O.holds out.new) result }
     ensures later { O.faults out.old ≤ O.faults out.new }
-    ensures failed { result ≡ Err RunFault.Print → Rose (O.faults out.old) (O.faults out.new) }
+    ensures failed { result ≡ Err RunFault.Print → CountRose (O.faults out.old) (O.faults out.new) }
     ensures only { IfErr result IsPrintFault }
 {
     match verdict_lines(
@@ -133,8 +134,8 @@ pub fn print<O: Sink, E: Sink>(
         (E.holds err.new) result }
     ensures out_later { O.faults out.old ≤ O.faults out.new }
     ensures err_later { E.faults err.old ≤ E.faults err.new }
-    ensures failed { result ≡ Err RunFault.Print → Rose (O.faults out.old) (O.faults out.new)
-        ⊎ Rose (E.faults err.old) (E.faults err.new) }
+    ensures failed { result ≡ Err RunFault.Print → CountRose (O.faults out.old) (O.faults out.new)
+        ⊎ CountRose (E.faults err.old) (E.faults err.new) }
     ensures only { IfErr result IsPrintFault }
 {
     if verdicts {

@@ -1,6 +1,6 @@
 //! Putting texts.
 ghost use Rattle.std.specs.Prelude.{◌≡◌, ◌≤◌, ◌++◌, codes, Err, IfOk, IfErr, string_bytes};
-ghost use Rattle.tame_names.specs.Counts.{Rose};
+ghost use Rattle.tame_names.specs.Counts.{CountRose};
 ghost use Rattle.audit_report.specs.Outputs.{IsPut};
 ghost use Rattle.audit_output.specs.Outputs.{IsPrintFault};
 
@@ -12,7 +12,7 @@ use tame_names::{Sink, put_counted};
 pub fn put_text<S: Sink>(sink: &mut S, text: &[u8]) -> Result<(), RunFault>
     ensures put { S.tells → IsPut (S.holds sink.old) text.now (S.holds sink.new) result }
     ensures later { S.faults sink.old ≤ S.faults sink.new }
-    ensures failed { IfErr result (λ _. Rose (S.faults sink.old) (S.faults sink.new)) }
+    ensures failed { IfErr result (λ _. CountRose (S.faults sink.old) (S.faults sink.new)) }
     ensures only { IfErr result IsPrintFault }
 {
     if text.is_empty() {
@@ -29,7 +29,7 @@ pub fn print_text<O: Sink>(alloc: Global, text: &str, out: &mut O) -> Result<(),
     ensures out { O.tells → IsPut (O.holds out.old) (text.now ++ codes "\n")
         (O.holds out.new) result }
     ensures later { O.faults out.old ≤ O.faults out.new }
-    ensures failed { result ≡ Err RunFault.Print → Rose (O.faults out.old) (O.faults out.new) }
+    ensures failed { result ≡ Err RunFault.Print → CountRose (O.faults out.old) (O.faults out.new) }
     ensures only { IfErr result IsPrintFault }
 {
     match with_newline(alloc, text) {

@@ -16,7 +16,7 @@ use Rattle.audit_asked.specs.Texts.{go_on, input_or_text}
 use Rattle.audit_asked.specs.declared.asking.Asked.{Asked}
 use Rattle.audit_asked.specs.declared.binaries.AskedForBinaries.{AskedForBinaries}
 use Rattle.audit_asked.specs.declared.runners.Started.{Started}
-use Rattle.audit_fix.specs.Steps.{RoseBy}
+use Rattle.tame_names.specs.Counts.{CountRoseBy}
 
 -- where all is accepted, the first part is, and the rest goes on with it
 part : {A B : Type 0} (p : Result A Refused) (next : A → Result B Refused) (b : B) → go_on p next ≡ Ok b → (a : A) × (p ≡ Ok a) × (next a ≡ Ok b)
@@ -55,7 +55,7 @@ generated_as true given before now h = h
 generated_as false given before now h = h
 
 -- from an earlier moment
-pub rose_from : (failed a b c : ℕ) → a ≤ b → RoseBy failed b c → RoseBy failed a c
+pub rose_from : (failed a b c : ℕ) → a ≤ b → CountRoseBy failed b c → CountRoseBy failed a c
 rose_from failed a b c low rose = omega (arith, low, rose)
 
 pub if_some : {T : Type 0} (o : Option T) (P Q : T → Type 0) → ((x : T) → P x → Q x) → IfSome o P → IfSome o Q

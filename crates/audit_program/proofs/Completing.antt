@@ -1,7 +1,7 @@
 -- A run over a host that has all that is asked for, and of which no call fails, has no fault but want of memory.
 use Rattle.std.proofs.Common.{◌≡◌, ◌⊎◌, ◌<◌, inl, inr, ℕ, List, Option, Some, None, Ok, Err, IsTrue, refl, sym, ap, subst, arith}
 use Rattle.std.specs.Prelude.{IfSome, pos}
-use Rattle.tame_names.specs.Counts.{IsQuiet, Rose}
+use Rattle.tame_names.specs.Counts.{CountRose, CountRoseBy, CountStayed}
 use Rattle.tame_names.specs.Standing.{Host}
 use Rattle.audit_lock.specs.declared.lockfiles.LockfileFault.{LockfileFault}
 use Rattle.audit_settings.specs.declared.commands.AuditCommand.{AuditCommand}
@@ -11,7 +11,6 @@ use Rattle.audit_asked.specs.Refusals.{is_told}
 use Rattle.audit_asked.specs.declared.binaries.AskedForBinaries.{AskedForBinaries}
 use Rattle.audit_asked.specs.declared.faults.RunFault.{RunFault}
 use Rattle.audit_asked.specs.declared.faults.RunFault.TheVariants as fault
-use Rattle.audit_fix.specs.Steps.{RoseBy}
 use Rattle.audit_program.specs.Causes.{BinariesCause, CommandCause, HasNoLockfile, Refuses, RefusesBinaries}
 use Rattle.audit_words.specs.Reading.{command_of}
 use Rattle.audit_program.specs.Completes.{AreQuiet, FaultCounts, IsReady, IsTaskReady}
@@ -19,18 +18,18 @@ use Rattle.audit_program.specs.Tasks.{task_of}
 use Rattle.audit_program.specs.declared.tasks.Task.{Task}
 use Rattle.audit_program.proofs.Ended.{not_both}
 
-neither : (a b c d : ℕ) → IsQuiet a b → IsQuiet c d → Rose a b ⊎ Rose c d → ⊥
+neither : (a b c d : ℕ) → CountStayed a b → CountStayed c d → CountRose a b ⊎ CountRose c d → ⊥
 neither a b c d out err (inl rose) = not_both a b out rose
 neither a b c d out err (inr rose) = not_both c d err rose
 
-none_failed : (failed before now : ℕ) → 0 < failed → IsQuiet before now → RoseBy failed before now → ⊥
+none_failed : (failed before now : ℕ) → 0 < failed → CountStayed before now → CountRoseBy failed before now → ⊥
 none_failed failed before now some quiet rose = let same = quiet.0 in let low = quiet.1 in omega (arith, some, same, low, rose)
 
 -- what a fault tells of a count that rose
 pub record HasRose (before now : FaultCounts) (o : Option RunFault) : Type 0 where
-  pub print : o ≡ Some fault.Print → Rose before.out now.out ⊎ Rose before.err now.err
-  pub file : (path : List ℕ) → o ≡ Some (fault.File path) → Rose before.files now.files
-  pub start : (failed : ℕ) → o ≡ Some (fault.Start failed) → RoseBy failed before.starts now.starts
+  pub print : o ≡ Some fault.Print → CountRose before.out now.out ⊎ CountRose before.err now.err
+  pub file : (path : List ℕ) → o ≡ Some (fault.File path) → CountRose before.files now.files
+  pub start : (failed : ℕ) → o ≡ Some (fault.Start failed) → CountRoseBy failed before.starts now.starts
 
 abbrev IsComplete : Option RunFault → Type 0
 IsComplete o = (o ≡ None) ⊎ (o ≡ Some fault.NoMemory)

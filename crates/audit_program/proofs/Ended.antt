@@ -1,27 +1,27 @@
 -- The line of a fault behind what was put.
 use Rattle.std.proofs.Common.{◌≡◌, ◌⊎◌, ◌≤◌, inl, inr, ℕ, List, ◌++◌, Option, Some, None, Result, Ok, Err, sym, subst, arith}
 use Rattle.std.specs.Prelude.{OnOk, IfErr}
-use Rattle.tame_names.specs.Counts.{IsQuiet, Rose}
+use Rattle.tame_names.specs.Counts.{CountStayed, CountRose}
 use Rattle.tame_names.specs.Output.{AddsPrefix}
 use Rattle.audit_asked.specs.declared.faults.RunFault.{RunFault}
 use Rattle.audit_asked.specs.declared.faults.RunFault.TheVariants as fault
 use Rattle.audit_output.specs.FaultLines.{fault_line}
 use Rattle.audit_program.specs.Outputs.{IsEnded, IsLinePut, IsPutBy}
 
-pub not_both : (before now : ℕ) → IsQuiet before now → Rose before now → ⊥
+pub not_both : (before now : ℕ) → CountStayed before now → CountRose before now → ⊥
 not_both before now quiet rose = let same = quiet.0 in let low = quiet.1 in omega (arith, same, low, rose)
 
 -- a line that was put as an answer tells
 pub line_put : {T E : Type 0} (r : Result T E) (before line now : List ℕ) (faults faults_now : ℕ) → OnOk r (now ≡ before ++ line) → AddsPrefix before line now
-    → IfErr r (λ e. Rose faults faults_now) → IsLinePut before line now faults faults_now
+    → IfErr r (λ e. CountRose faults faults_now) → IsLinePut before line now faults faults_now
 line_put (Ok x) before line now faults faults_now whole part failed = record { part = part; whole = λ quiet. whole }
 line_put (Err e) before line now faults faults_now whole part failed = record { part = part; whole = λ quiet. absurd (not_both faults faults_now quiet failed) }
 
-pub rose_of : {T E : Type 0} (P : E → Type 0) (r : Result T E) (f g : ℕ) → IfErr r (λ e. P e × Rose f g) → IfErr r (λ e. Rose f g)
+pub rose_of : {T E : Type 0} (P : E → Type 0) (r : Result T E) (f g : ℕ) → IfErr r (λ e. P e × CountRose f g) → IfErr r (λ e. CountRose f g)
 rose_of P (Ok x) f g h = tt
 rose_of P (Err e) f g h = h.1
 
-narrow : (a b c : ℕ) → a ≤ b → b ≤ c → IsQuiet a c → IsQuiet b c
+narrow : (a b c : ℕ) → a ≤ b → b ≤ c → CountStayed a c → CountStayed b c
 narrow a b c low high quiet = let same = quiet.0 in let end = quiet.1 in (omega (arith, low, high, same), omega (arith, low, high, same, end))
 
 -- the same from an earlier moment

@@ -13,9 +13,10 @@ use Rattle.audit_core.specs.Checks.{checks_of}
 use Rattle.audit_core.specs.declared.checking.Checks.{Checks}
 use Rattle.audit_core.specs.declared.checking.Checks.TheVariants.{Online}
 use Rattle.audit_binaries.specs.Binaries.{AreBinaries, ArePartly, Outside, Scan, Tells}
-use Rattle.audit_binaries.specs.Decoding.{Answers}
+use Rattle.audit_binaries.specs.Decoding.{DecoderAnswers}
 use Rattle.audit_binaries.specs.Limits.{limits_of}
-use Rattle.audit_binaries.specs.Summaries.{AddsAsked, AllHeld, RoseBy, asked_in, decodes_failed, files_failed, summary_of, turns_in}
+use Rattle.tame_names.specs.Counts.{CountRoseBy}
+use Rattle.audit_binaries.specs.Summaries.{AddsAsked, AllHeld, asked_in, decodes_failed, files_failed, summary_of, turns_in}
 use Rattle.audit_binaries.specs.declared.answers.BinariesAudit.{BinariesAudit}
 use Rattle.audit_binaries.specs.declared.answers.BinaryAnswer.{BinaryAnswer}
 use Rattle.audit_output.specs.BinaryOutputs.{binaries_output}
@@ -44,7 +45,7 @@ tells_of tells = record {
 }
 
 -- by an auditor of the settings and advisories that were asked for, within the limits of the words
-abbrev pub scan_of : AskedForBinaries → BinCommand → Host → Answers → Scan
+abbrev pub scan_of : AskedForBinaries → BinCommand → Host → DecoderAnswers → Scan
 scan_of given more host answers = record {
   auditor = auditor_of given.config given.advisories;
   limits = limits_of more.max_binary_size more.audit_data_size_limit;
@@ -63,12 +64,10 @@ pub record IsAsked (told : Type 0) (began now : Outside) : Type 0 where
 -- ---- all together
 
 -- online, over an honest server and a disk that is kept for what it held, the verdicts of each
--- audit
--- are the table's over what the server held when asked; the turns go on from the entry to the exit,
--- and the wire's list grows by their exchanges alone, in that order; no file changes but those of
--- the paths that are asked for, and no folders are made but those above them; one fault licenses
--- one
--- refusal
+-- audit are the table's over what the server held when asked; the turns go on from the entry to the
+-- exit, and the wire's list grows by their exchanges alone, in that order; no file changes but
+-- those of the paths that are asked for, and no folders are made but those above them; one fault
+-- licenses one refusal
 pub record AreTogether (tells : BinariesTelling) (checks : Checks) (began ended : Outside)
     (answers : List BinaryAnswer) : Type 0 where
   pub headline : checks ≡ Online → tells.wire → tells.disk
@@ -82,8 +81,8 @@ pub record AreTogether (tells : BinariesTelling) (checks : Checks) (began ended 
       → KeepsOthers (asked_in checks answers) began.moment.files ended.moment.files
   pub folders : tells.disk
       → MakesAskedFolders (asked_in checks answers) began.folders ended.folders
-  pub files_failed : RoseBy (files_failed answers) began.file_faults ended.file_faults
-  pub decodes_failed : RoseBy (decodes_failed answers) began.decode_faults ended.decode_faults
+  pub files_failed : CountRoseBy (files_failed answers) began.file_faults ended.file_faults
+  pub decodes_failed : CountRoseBy (decodes_failed answers) began.decode_faults ended.decode_faults
 
 -- ---- the run
 
@@ -102,11 +101,10 @@ bin_output command more given b =
     binaries_output command.verdicts (binaries_shown given) more.binary_paths b.answers
 
 -- once they have what they asked for: there is one answer for each path of the words, in order,
--- each
--- audit by an auditor of the settings and advisories that were asked for, from the moment where the
--- one before ended; and their output was put
+-- each audit by an auditor of the settings and advisories that were asked for, from the moment
+-- where the one before ended; and their output was put
 pub record IsGivenBinariesRun (tells : BinariesTelling) (command : AuditCommand) (more : BinCommand)
-    (given : AskedForBinaries) (host : Host) (decodes : Answers) (began ended : Outside)
+    (given : AskedForBinaries) (host : Host) (decodes : DecoderAnswers) (began ended : Outside)
     (sinks : Sinks) (ending : Ending) (b : BinariesAudit) : Type 0 where
   pub answered : AreBinaries (tells_of tells) (scan_of given more host decodes) began ended
       more.binary_paths b.answers
@@ -121,7 +119,8 @@ pub record IsGivenBinariesRun (tells : BinariesTelling) (command : AuditCommand)
 
 -- what the host has gives what was asked, and neither wire nor disk nor decoder is called for it
 pub record IsBinariesRunOf (tells : BinariesTelling) (command : AuditCommand) (more : BinCommand)
-    (host : Host) (decodes : Answers) (began ended : Outside) (sinks : Sinks) (ending : Ending)
+    (host : Host) (decodes : DecoderAnswers) (began ended : Outside) (sinks : Sinks)
+    (ending : Ending)
     (b : BinariesAudit) : Type 0 where
   pub given : AskedForBinaries
   pub gives : tells.files → asked_for_binaries command host ≡ Ok given
@@ -132,7 +131,9 @@ pub record IsBinariesRunOf (tells : BinariesTelling) (command : AuditCommand) (m
   pub run : IsGivenBinariesRun tells command more given there decodes begun ended sinks ending b
 
 -- and the words are those of these audits
-abbrev pub IsBinariesRun : BinariesTelling → List (List ℕ) → Host → Answers → Outside → Outside → Sinks
+abbrev pub IsBinariesRun : BinariesTelling → List (List ℕ) → Host → DecoderAnswers → Outside
+    → Outside
+    → Sinks
     → Ending → BinariesAudit → Type 0
 IsBinariesRun tells words host decodes began ended sinks ending b =
     (command : AuditCommand) × (more : BinCommand) × (command_of words ≡ Ok (Bin command more))
@@ -141,10 +142,9 @@ IsBinariesRun tells words host decodes began ended sinks ending b =
 -- ---- without an answer for all of them
 
 -- where memory ran out: what the host has gave what was asked, and a part of the paths was
--- answered,
--- from the front, and the next one may have been begun
+-- answered, from the front, and the next one may have been begun
 pub record ArePartlyRun (tells : BinariesTelling) (command : AuditCommand) (more : BinCommand)
-    (host : Host) (decodes : Answers) (began ended : Outside) : Type 0 where
+    (host : Host) (decodes : DecoderAnswers) (began ended : Outside) : Type 0 where
   pub given : AskedForBinaries
   pub gives : tells.files → asked_for_binaries command host ≡ Ok given
   pub there : Host

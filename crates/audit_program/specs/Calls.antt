@@ -77,9 +77,8 @@ words_generate _ host = false
 -- ---- starts
 
 -- without an audit, where a lockfile is generated: the start that generates it, as it ended; where
--- a
--- call on the files failed it may have been made or not, and where memory ran out it may have ended
--- in any way
+-- a call on the files failed it may have been made or not, and where memory ran out it may have
+-- ended in any way
 abbrev pub StartsBy : List Started → List Started → Option RunFault → Type 0
 StartsBy before now (Some (fault.Generate status)) = AddsStart (Some status) before now
 StartsBy before now (Some (fault.Start failed)) = AddsStart None before now

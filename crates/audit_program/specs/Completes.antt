@@ -1,6 +1,6 @@
 -- When a run has no fault but want of memory (this project).
 use Rattle.std.specs.Prelude.{◌≡◌, ◌⊎◌, ℕ, ℤ, List, Some, Ok}
-use Rattle.tame_names.specs.Counts.{IsQuiet}
+use Rattle.tame_names.specs.Counts.{CountStayed}
 use Rattle.tame_names.specs.Standing.{Host}
 use Rattle.audit_lock.specs.Locked.{locked}
 use Rattle.audit_lock.specs.declared.resolving.Package.{Package}
@@ -45,7 +45,7 @@ pub record FaultCounts : Type 0 where
 
 -- none of them failed from one moment to another
 pub record AreQuiet (before now : FaultCounts) : Type 0 where
-  pub files : IsQuiet before.files now.files
-  pub starts : IsQuiet before.starts now.starts
-  pub out : IsQuiet before.out now.out
-  pub err : IsQuiet before.err now.err
+  pub files : CountStayed before.files now.files
+  pub starts : CountStayed before.starts now.starts
+  pub out : CountStayed before.out now.out
+  pub err : CountStayed before.err now.err

@@ -1,6 +1,6 @@
 -- What a run puts on its two outputs (this project).
-use Rattle.std.specs.Prelude.{◌≡◌, ◌++◌, ℕ, ℤ, codes, List, [], Bool, true, false, Option, Some, None, Result, Ok}
-use Rattle.tame_names.specs.Counts.{IsQuiet}
+use Rattle.std.specs.Prelude.{◌≡◌, ◌++◌, ℕ, ℤ, codes, List, [], Bool, true, false, Option, Some, None, Result, Ok, Err}
+use Rattle.tame_names.specs.Counts.{CountStayed}
 use Rattle.tame_names.specs.Output.{AddsPrefix}
 use Rattle.audit_advisory.specs.declared.advisories.Advisory.{Advisory}
 use Rattle.audit_words.specs.declared.commands.Command.{Command}
@@ -25,6 +25,13 @@ abbrev pub plain_text : Result Command WordsFault → List ℕ
 plain_text (Ok command.Help) = HELP_TEXT.now ++ codes "\n"
 plain_text (Ok command.Version) = VERSION_TEXT.now ++ codes "\n"
 plain_text _ = []
+
+-- the words are those for help or of the version, or they break a rule
+abbrev pub AsksForNoAudit : Result Command WordsFault → Type 0
+AsksForNoAudit (Ok command.Help) = Unit {0}
+AsksForNoAudit (Ok command.Version) = Unit {0}
+AsksForNoAudit (Ok _) = ⊥
+AsksForNoAudit (Err reason) = Unit {0}
 
 -- the lockfile's place by the words, for a fault that tells it
 abbrev pub words_place : Result Command WordsFault → List ℕ
@@ -59,11 +66,11 @@ pub record IsPutBy (before text : List ℕ) (reason : Option RunFault) (now : Li
   pub part : AddsPrefix before text now
   pub whole : IsWhole reason → now ≡ before ++ text
 
--- a line was put: a part of it from the front, and all of it where the output's count of faults is
--- quiet
+-- a line was put: a part of it from the front, and all of it where the output's count of faults
+-- stayed
 pub record IsLinePut (before line now : List ℕ) (faults faults_now : ℕ) : Type 0 where
   pub part : AddsPrefix before line now
-  pub whole : IsQuiet faults faults_now → now ≡ before ++ line
+  pub whole : CountStayed faults faults_now → now ≡ before ++ line
 
 -- the fault's line stands behind what was put
 abbrev pub IsEnded : List ℕ → List ℕ → List ℕ → Option RunFault → List ℕ → ℕ → ℕ → Type 0

@@ -81,9 +81,8 @@ given_telling tells = record {
 }
 
 -- once it has what it asked for: the audit is that by an auditor of the settings and advisories
--- that
--- were asked for, of the lockfile's text; its output was put, and then the lines of `fix`, whose
--- steps were started
+-- that were asked for, of the lockfile's text; its output was put, and then the lines of `fix`,
+-- whose steps were started
 pub record IsGivenRun (tells : GivenTelling) (task : Task) (given : Asked) (began ended : Moment)
     (starts : Starts) (sinks : Sinks) (ending : Ending) (audited : Audited) : Type 0 where
   pub audit : IsAuditOf (auditor_of given.config given.advisories) tells.wire tells.disk

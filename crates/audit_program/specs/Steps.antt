@@ -13,8 +13,8 @@ pub record FailedBy (statuses : List (Option ℤ)) (reason : Option RunFault) : 
   pub some : (failed : ℕ) → reason ≡ Some (fault.Start failed)
       → (failed ≡ failed_starts statuses) × (0 < failed)
 
--- the starts grew by steps from the front, in order, each once; these are their statuses where there
--- is one for each, which is so where all was done
+-- the starts grew by steps from the front, in order, each once; these are their statuses where
+-- there is one for each, which is so where all was done
 pub record AreStarted (told : Type 0) (steps : List FixStep) (before now : List Started)
     (statuses : List (Option ℤ)) (reason : Option RunFault) : Type 0 where
   pub part : told → StartsPart steps before now

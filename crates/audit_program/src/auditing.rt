@@ -5,7 +5,7 @@ ghost use Rattle.audit_lock.specs.declared.lockfiles.LockfileFault.{LockfileFaul
 ghost use Rattle.audit_lock.specs.declared.resolving.Package.{Package};
 ghost use Rattle.audit_core.specs.Audits.{IsAuditOf, KeepsOthers, MakesAskedFolders};
 ghost use Rattle.audit_core.specs.Checks.{asked_of};
-ghost use Rattle.audit_core.specs.Turns.{AddsPart, KeepsHonest};
+ghost use Rattle.audit_core.specs.Turns.{AddsPart, StaysKept};
 ghost use Rattle.audit_core.specs.declared.checking.Checks.TheVariants as Checks;
 ghost use Rattle.audit_program.specs.Causes.{IsAuditFault};
 ghost use Rattle.audit_output.specs.Outputs.{IsReportOf};
@@ -46,7 +46,7 @@ pub fn audit<W: Wire, D: CacheDisk>(
     ensures only { IfErr result IsAuditFault }
     ensures uncalled { (f : LockfileFault) → locked text.now ≡ Err f → (wire.new ≡ wire.old)
         × (disk.new ≡ disk.old) }
-    ensures kept { W.tells → D.tells → KeepsHonest (W.exchanges wire.old) (W.exchanges wire.new)
+    ensures kept { W.tells → D.tells → StaysKept (W.exchanges wire.old) (W.exchanges wire.new)
         (D.past disk.old) (D.past disk.new) }
     ensures part { W.tells → (packages : List Package) → locked text.now ≡ Ok packages
         → AddsPart (asked_of auditor.now.checks packages) (W.exchanges wire.old)

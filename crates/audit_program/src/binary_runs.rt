@@ -1,18 +1,19 @@
 //! Runs of audits of binaries: `bin`.
 ghost use Rattle.std.specs.Prelude.{◌≡◌, ◌≢◌, ◌⊎◌, ◌≤◌, [], ℕ, List, Ok, Some, None, IsSome, IfSome, IfNone, IsTrue};
-ghost use Rattle.tame_names.specs.Counts.{Rose};
+ghost use Rattle.tame_names.specs.Counts.{CountRose};
 ghost use Rattle.audit_settings.specs.declared.configs.AuditConfig.{AuditConfig};
 ghost use Rattle.audit_asked.specs.Settings.{settled};
 ghost use Rattle.audit_core.specs.Auditors.{auditor_of};
 ghost use Rattle.audit_core.specs.Checks.{checks_of};
-ghost use Rattle.audit_core.specs.Turns.{KeepsHonest};
+ghost use Rattle.audit_core.specs.Turns.{StaysKept};
 ghost use Rattle.audit_core.specs.declared.checking.Checks.TheVariants as Checks;
 ghost use Rattle.audit_binaries.specs.Binaries.{ArePartly};
 ghost use Rattle.audit_program.specs.BinaryRuns.{ArePartlyRun, IsBinariesRunOf, IsGivenBinariesRun, scan_of};
 ghost use Rattle.audit_program.specs.Calls.{AddsBinCalls};
 ghost use Rattle.audit_program.specs.Causes.{BinariesCause};
 ghost use Rattle.audit_program.specs.Outputs.{IsEnded, IsPutBy};
-ghost use Rattle.audit_program.specs.Statuses.{fault_status, is_early, summary_status};
+ghost use Rattle.audit_program.specs.Statuses.{fault_status, is_early};
+ghost use Rattle.audit_program.specs.Statuses as spec;
 ghost use Rattle.audit_output.specs.Outputs.{IsPrintFault};
 
 use crate::ending::{Outcome, failed};
@@ -30,7 +31,7 @@ use tame_sparse::Wire;
 /// The status of audits of binaries: 1 where vulnerabilities were found, else 2 where errors were,
 /// else 0.
 fn summary_status(summary: MultiFileReportSummary) -> u8
-    ensures { result ≡ summary_status summary }
+    ensures { result ≡ spec.summary_status summary }
 {
     if summary.vulnerabilities_found {
         1
@@ -134,10 +135,11 @@ fn run_given<F: Files, P: Decoder, W: Wire, D: CacheDisk, O: Sink, E: Sink>(
           decode_faults = P.faults decoder.new;
         })
         more.now.binary_paths) }
-    ensures rose { result.fault ≡ Some RunFault.Print → Rose (O.faults out.old) (O.faults out.new)
-        ⊎ Rose (E.faults err.old) (E.faults err.new) }
+    ensures rose { result.fault ≡ Some RunFault.Print
+        → CountRose (O.faults out.old) (O.faults out.new)
+        ⊎ CountRose (E.faults err.old) (E.faults err.new) }
     ensures files_same { F.tells → F.host files.new ≡ F.host files.old }
-    ensures kept { W.tells → D.tells → KeepsHonest (W.exchanges wire.old) (W.exchanges wire.new)
+    ensures kept { W.tells → D.tells → StaysKept (W.exchanges wire.old) (W.exchanges wire.new)
         (D.past disk.old) (D.past disk.new) }
     ensures unasked { checks_of given.config ≢ Checks.Online → wire.new ≡ wire.old }
     ensures unchanged { checks_of given.config ≢ Checks.Online → D.tells
@@ -285,17 +287,18 @@ pub fn run_binaries<F: Files, P: Decoder, W: Wire, D: CacheDisk, O: Sink, E: Sin
           decode_faults = P.faults decoder.new;
         })) }
     ensures cause { IfSome result.fault (BinariesCause F.tells command.now (F.host files.old)) }
-    ensures rose { result.fault ≡ Some RunFault.Print → Rose (O.faults out.old) (O.faults out.new)
-        ⊎ Rose (E.faults err.old) (E.faults err.new) }
+    ensures rose { result.fault ≡ Some RunFault.Print
+        → CountRose (O.faults out.old) (O.faults out.new)
+        ⊎ CountRose (E.faults err.old) (E.faults err.new) }
     ensures file_rose { (path : List ℕ) → result.fault ≡ Some (RunFault.File path)
-        → Rose (F.faults files.old) (F.faults files.new) }
+        → CountRose (F.faults files.old) (F.faults files.new) }
     ensures unstarted { (failed : ℕ) → result.fault ≢ Some (RunFault.Start failed) }
     ensures failed { F.tells → AddsBinCalls command.now more.now.binary_paths (F.host files.old)
         (F.failed files.old) (F.failed files.new) result.fault }
     ensures files_same { F.tells → F.host files.new ≡ F.host files.old }
     ensures early { IfNone result.binaries (result.fault ≢ Some RunFault.NoMemory
         → (wire.new ≡ wire.old) × (disk.new ≡ disk.old)) }
-    ensures kept { W.tells → D.tells → KeepsHonest (W.exchanges wire.old) (W.exchanges wire.new)
+    ensures kept { W.tells → D.tells → StaysKept (W.exchanges wire.old) (W.exchanges wire.new)
         (D.past disk.old) (D.past disk.new) }
     ensures unasked { F.tells → (config : AuditConfig)
         → settled command.now (F.host files.old) ≡ Ok config

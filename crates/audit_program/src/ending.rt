@@ -2,7 +2,7 @@
 ghost use Rattle.std.specs.Prelude.{◌≡◌, ◌≤◌, ◌⊎◌, ℕ, List, Some};
 ghost use Rattle.audit_output.specs.FaultLines.{fault_line};
 ghost use Rattle.audit_program.specs.Outputs.{IsEnded, IsLinePut, IsPutBy};
-ghost use Rattle.audit_program.specs.Statuses.{fault_status};
+ghost use Rattle.audit_program.specs.Statuses as spec;
 
 use audit_asked::RunFault;
 use audit_binaries::BinariesAudit;
@@ -26,7 +26,7 @@ pub struct Outcome {
 }
 
 fn fault_status(fault: &RunFault) -> u8
-    ensures { result ≡ fault_status fault.now }
+    ensures { result ≡ spec.fault_status fault.now }
 {
     match fault {
         RunFault::NoMemory => 3,
@@ -76,7 +76,7 @@ pub fn failed<E: Sink>(
     ensures fault { (result.fault ≡ Some fault) ⊎ (result.fault ≡ Some RunFault.NoMemory) }
     ensures audited { result.audited ≡ audited }
     ensures binaries { result.binaries ≡ binaries }
-    ensures status { (f : RunFault) → result.fault ≡ Some f → result.status ≡ fault_status f }
+    ensures status { (f : RunFault) → result.fault ≡ Some f → result.status ≡ spec.fault_status f }
     // the line stands behind what was put before
     ensures ended { E.tells → (before text : List ℕ)
         → IsPutBy before text (Some fault) (E.holds err.old)

@@ -1,7 +1,6 @@
 //! What is done once an audit of a lockfile stands: its output, and the steps and lines of `fix`.
 ghost use Rattle.std.specs.Prelude.{◌≡◌, ◌≤◌, ◌⊎◌, ◌++◌, ℕ, [], Err, IfOk, IfErr, string_bytes};
-ghost use Rattle.tame_names.specs.Counts.{Rose};
-ghost use Rattle.audit_fix.specs.Steps.{RoseBy};
+ghost use Rattle.tame_names.specs.Counts.{CountRose, CountRoseBy};
 ghost use Rattle.audit_output.specs.Outputs.{IsPrintFault, IsReportOf, output_of, shown_on};
 ghost use Rattle.audit_report.specs.Outputs.{IsPut};
 ghost use Rattle.audit_program.specs.Finishes.{IsFinishFault, IsFinished, end_of};
@@ -31,7 +30,7 @@ fn put_lines<E: Sink>(
         (remedy_lines_in verdicts (Remedy.Fix dry_run) sheet.now.auditor.now.database
         sheet.now.audited.now statuses.now) (E.holds err.new) result }
     ensures later { E.faults err.old ≤ E.faults err.new }
-    ensures failed { result ≡ Err RunFault.Print → Rose (E.faults err.old) (E.faults err.new) }
+    ensures failed { result ≡ Err RunFault.Print → CountRose (E.faults err.old) (E.faults err.new) }
     ensures only { IfErr result IsPrintFault }
 {
     if verdicts {
@@ -84,9 +83,9 @@ fn fix<R: Runner, E: Sink>(
     ensures later { E.faults err.old ≤ E.faults err.new }
     ensures starts_later { R.faults runner.old ≤ R.faults runner.new }
     ensures print_rose { result ≡ Err RunFault.Print
-        → Rose (E.faults err.old) (E.faults err.new) }
+        → CountRose (E.faults err.old) (E.faults err.new) }
     ensures start_rose { (failed : ℕ) → result ≡ Err (RunFault.Start failed)
-        → RoseBy failed (R.faults runner.old) (R.faults runner.new) }
+        → CountRoseBy failed (R.faults runner.old) (R.faults runner.new) }
     ensures only { IfErr result IsFinishFault }
 {
     let plan = FixPlan::of(alloc, sheet.audited, sheet.auditor.database(), dry_run)?;
@@ -125,10 +124,10 @@ pub fn finish<R: Runner, O: Sink, E: Sink>(
     ensures err_later { E.faults err.old ≤ E.faults err.new }
     ensures starts_later { R.faults runner.old ≤ R.faults runner.new }
     ensures print_rose { result ≡ Err RunFault.Print
-        → Rose (O.faults out.old) (O.faults out.new)
-        ⊎ Rose (E.faults err.old) (E.faults err.new) }
+        → CountRose (O.faults out.old) (O.faults out.new)
+        ⊎ CountRose (E.faults err.old) (E.faults err.new) }
     ensures start_rose { (failed : ℕ) → result ≡ Err (RunFault.Start failed)
-        → RoseBy failed (R.faults runner.old) (R.faults runner.new) }
+        → CountRoseBy failed (R.faults runner.old) (R.faults runner.new) }
     ensures only { IfErr result IsFinishFault }
 {
     print(alloc, task.command.verdicts, sheet, out, err)?;

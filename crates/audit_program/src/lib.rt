@@ -1,5 +1,18 @@
 //! The program: from its words, the host, and a server's answers to what is printed, a status and
 //! an updated cache.
+//!
+//! Promises: the audits are those of the words and of what the host has; out and err gain exactly
+//! their output; the steps of `fix` were started in order; each fault has its cause and its line.
+//! Stands on every crate below it, and on no real host: files, decoder, runner, wire, disk and
+//! sinks are traits.
+//!
+//! ```ignore
+//! let outcome = run(
+//!     alloc, words, &mut files, &mut decoder, &mut runner, &lock, &mut wire, &mut disk,
+//!     &mut out, &mut err,
+//! );
+//! outcome.status // 0 to 3
+//! ```
 #![tactic(auto)]
 
 mod auditing;

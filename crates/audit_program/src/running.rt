@@ -1,6 +1,6 @@
 //! A run of the program.
 ghost use Rattle.std.specs.Prelude.{◌≡◌, ◌≢◌, ◌⊎◌, ◌++◌, [], ℕ, List, map, codes, string_bytes, Ok, Err, Some, None, IsTrue, IsSome, IfSome, IfNone};
-ghost use Rattle.tame_names.specs.Counts.{Rose};
+ghost use Rattle.tame_names.specs.Counts.{CountRose, CountRoseBy};
 ghost use Rattle.audit_lock.specs.declared.resolving.Package.{Package};
 ghost use Rattle.audit_settings.specs.declared.commands.AuditCommand.{AuditCommand};
 ghost use Rattle.audit_settings.specs.declared.configs.AuditConfig.{AuditConfig};
@@ -12,15 +12,14 @@ ghost use Rattle.audit_asked.specs.Starts.{StartsAtMost};
 ghost use Rattle.audit_asked.specs.declared.asking.Asked.{Asked};
 ghost use Rattle.audit_core.specs.Audits.{KeepsOthers, MakesAskedFolders};
 ghost use Rattle.audit_core.specs.Checks.{asked_of, checks_of};
-ghost use Rattle.audit_core.specs.Turns.{AddsPart, KeepsHonest};
+ghost use Rattle.audit_core.specs.Turns.{AddsPart, StaysKept};
 ghost use Rattle.audit_core.specs.declared.checking.Checks.TheVariants as Checks;
-ghost use Rattle.audit_fix.specs.Steps.{RoseBy};
 ghost use Rattle.audit_output.specs.Outputs.{IsPrintFault};
 ghost use Rattle.audit_program.specs.BinaryRuns.{ArePartlyRun, IsBinariesRun};
 ghost use Rattle.audit_program.specs.Calls.{AddsCalls, StartsWhere, words_generate};
 ghost use Rattle.audit_program.specs.Causes.{Accepts, CauseOf, Settles};
 ghost use Rattle.audit_program.specs.Completes.{AreQuiet, IsReady};
-ghost use Rattle.audit_program.specs.Outputs.{IsEnded, IsPutBy, plain_text, words_place};
+ghost use Rattle.audit_program.specs.Outputs.{AsksForNoAudit, IsEnded, IsPutBy, plain_text, words_place};
 ghost use Rattle.audit_program.specs.Runs.{IsRun};
 ghost use Rattle.audit_program.specs.Statuses.{fault_status, is_early};
 ghost use Rattle.audit_program.specs.Tasks.{task_of};
@@ -44,7 +43,8 @@ fn run_text<O: Sink, E: Sink>(alloc: Global, text: &str, out: &mut O, err: &mut 
     ensures audited { result.audited ≡ None }
     ensures binaries { result.binaries ≡ None }
     ensures fault { IfSome result.fault IsPrintFault }
-    ensures rose { result.fault ≡ Some RunFault.Print → Rose (O.faults out.old) (O.faults out.new) }
+    ensures rose { result.fault ≡ Some RunFault.Print
+        → CountRose (O.faults out.old) (O.faults out.new) }
     ensures status { (f : RunFault) → result.fault ≡ Some f → result.status ≡ fault_status f }
     ensures none { result.fault ≡ None → result.status ≡ 0 }
     ensures out { O.tells → IsPutBy (O.holds out.old) (text.now ++ codes "\n") result.fault
@@ -79,10 +79,9 @@ pub fn run<F: Files, P: Decoder, R: Runner, W: Wire, D: CacheDisk, O: Sink, E: S
     err: &mut E,
 ) -> Outcome
     // the audit of `audit` and of `fix`: of what the host has, by the settings and advisories
-    // there,
-    // on the lockfile's text; what it says (the headline, what was asked and named, the verdicts,
-    // what is kept, and its causes); what of its output was put, which steps were started, and the
-    // status
+    // there, on the lockfile's text; what it says (the headline, what was asked and named, the
+    // verdicts, what is kept, and its causes); what of its output was put, which steps were
+    // started, and the status
     ensures audited { IfSome result.audited (IsRun
         (record {
           files = F.tells;
@@ -190,12 +189,15 @@ pub fn run<F: Files, P: Decoder, R: Runner, W: Wire, D: CacheDisk, O: Sink, E: S
     ensures cause { IfSome result.fault
         (CauseOf F.tells (map string_bytes words.now) (F.host files.old)) }
     ensures print_rose { result.fault ≡ Some RunFault.Print
-        → Rose (O.faults out.old) (O.faults out.new)
-        ⊎ Rose (E.faults err.old) (E.faults err.new) }
+        → CountRose (O.faults out.old) (O.faults out.new)
+        ⊎ CountRose (E.faults err.old) (E.faults err.new) }
     ensures file_rose { (path : List ℕ) → result.fault ≡ Some (RunFault.File path)
-        → Rose (F.faults files.old) (F.faults files.new) }
+        → CountRose (F.faults files.old) (F.faults files.new) }
     ensures start_rose { (failed : ℕ) → result.fault ≡ Some (RunFault.Start failed)
-        → RoseBy failed (R.faults runner.old) (R.faults runner.new) }
+        → CountRoseBy failed (R.faults runner.old) (R.faults runner.new) }
+    // without an audit one start failed
+    ensures one_start { (failed : ℕ) → result.fault ≡ Some (RunFault.Start failed)
+        → IfNone result.audited (failed ≡ 1) }
     ensures usage { (place : ℕ)
         → command_of (map string_bytes words.now) ≡ Err (WordsFault.Usage place)
         → (result.fault ≡ Some (RunFault.Usage place)) ⊎ (result.fault ≡ Some RunFault.NoMemory) }
@@ -230,12 +232,17 @@ pub fn run<F: Files, P: Decoder, R: Runner, W: Wire, D: CacheDisk, O: Sink, E: S
     ensures files_same { F.tells → F.host files.new ≡ F.host files.old }
 
     // however the run ends, a kept disk is kept at every moment where the exchanges were honest
-    ensures kept { W.tells → D.tells → KeepsHonest (W.exchanges wire.old) (W.exchanges wire.new)
+    ensures kept { W.tells → D.tells → StaysKept (W.exchanges wire.old) (W.exchanges wire.new)
         (D.past disk.old) (D.past disk.new) }
 
-    // nothing is asked of the wire and the cache where the run ends before the audit; otherwise,
-    // however it ends, a part of the paths from the front, no file changes that is that of no path,
-    // and no folders are made but those above such files
+    // words that ask for no audit call nothing but the outputs
+    ensures uncalled { AsksForNoAudit (command_of (map string_bytes words.now))
+        → (files.new ≡ files.old) × (decoder.new ≡ decoder.old) × (runner.new ≡ runner.old)
+        × (wire.new ≡ wire.old) × (disk.new ≡ disk.old) }
+
+    // where the run ends before the audit, but for want of memory, nothing is asked of the wire and
+    // the cache; otherwise, however it ends, a part of the paths from the front, no file changes
+    // that is that of no path, and no folders are made but those above such files
     ensures early { IfNone result.audited (IfNone result.binaries
         (result.fault ≢ Some RunFault.NoMemory
         → (wire.new ≡ wire.old) × (disk.new ≡ disk.old))) }
@@ -251,7 +258,7 @@ pub fn run<F: Files, P: Decoder, R: Runner, W: Wire, D: CacheDisk, O: Sink, E: S
         → Accepts (map string_bytes words.now) (F.host files.old) given packages
         → MakesAskedFolders (asked_of (checks_of given.config) packages)
         (D.folders disk.old) (D.folders disk.new) }
-    // the same of binaries, where memory ran out before each of them was answered
+    // the same of binaries, where memory ran out before all of them were answered
     ensures partly { (command : AuditCommand) (more : BinCommand)
         → command_of (map string_bytes words.now) ≡ Ok (Command.Bin command more)
         → result.fault ≡ Some RunFault.NoMemory → IfNone result.binaries

@@ -1,6 +1,6 @@
 //! Runs of audits of lockfiles: `audit` and `fix`.
 ghost use Rattle.std.specs.Prelude.{◌≡◌, ◌≢◌, ◌⊎◌, ◌≤◌, ◌<◌, ◌++◌, [], ℕ, List, pos, Ok, Err, Some, None, IsTrue, IsSome, IfSome, IfNone};
-ghost use Rattle.tame_names.specs.Counts.{Rose};
+ghost use Rattle.tame_names.specs.Counts.{CountRose, CountRoseBy};
 ghost use Rattle.audit_lock.specs.Locked.{locked};
 ghost use Rattle.audit_lock.specs.declared.resolving.Package.{Package};
 ghost use Rattle.audit_settings.specs.declared.configs.AuditConfig.{AuditConfig};
@@ -12,9 +12,8 @@ ghost use Rattle.audit_asked.specs.declared.asking.Asked.{Asked};
 ghost use Rattle.audit_core.specs.Audits.{IsAuditOf, KeepsOthers, MakesAskedFolders};
 ghost use Rattle.audit_core.specs.Auditors.{auditor_of};
 ghost use Rattle.audit_core.specs.Checks.{asked_of, checks_of};
-ghost use Rattle.audit_core.specs.Turns.{AddsPart, KeepsHonest};
+ghost use Rattle.audit_core.specs.Turns.{AddsPart, StaysKept};
 ghost use Rattle.audit_core.specs.declared.checking.Checks.TheVariants as Checks;
-ghost use Rattle.audit_fix.specs.Steps.{RoseBy};
 ghost use Rattle.audit_program.specs.Calls.{AddsRunCall, StartsWhere};
 ghost use Rattle.audit_program.specs.Causes.{CommandCause, IsAskedFault};
 ghost use Rattle.audit_program.specs.Outputs.{IsEnded, IsPutBy};
@@ -77,10 +76,11 @@ fn run_given<R: Runner, W: Wire, D: CacheDisk, O: Sink, E: Sink>(
         })
         (record { fault = result.fault; status = result.status })) }
     ensures fault { IfSome result.fault (IsAskedFault given) }
-    ensures rose { result.fault ≡ Some RunFault.Print → Rose (O.faults out.old) (O.faults out.new)
-        ⊎ Rose (E.faults err.old) (E.faults err.new) }
+    ensures rose { result.fault ≡ Some RunFault.Print
+        → CountRose (O.faults out.old) (O.faults out.new)
+        ⊎ CountRose (E.faults err.old) (E.faults err.new) }
     ensures start_rose { (failed : ℕ) → result.fault ≡ Some (RunFault.Start failed)
-        → RoseBy failed (R.faults runner.old) (R.faults runner.new) }
+        → CountRoseBy failed (R.faults runner.old) (R.faults runner.new) }
     ensures has_audit { result.fault ≡ None → IsSome result.audited }
     ensures print_audit { result.fault ≡ Some RunFault.Print → IsSome result.audited }
     ensures start_audit { (failed : ℕ) → result.fault ≡ Some (RunFault.Start failed)
@@ -98,7 +98,7 @@ fn run_given<R: Runner, W: Wire, D: CacheDisk, O: Sink, E: Sink>(
     ensures starts_later { R.faults runner.old ≤ R.faults runner.new }
     ensures early { IfNone result.audited (result.fault ≢ Some RunFault.NoMemory
         → (wire.new ≡ wire.old) × (disk.new ≡ disk.old)) }
-    ensures kept { W.tells → D.tells → KeepsHonest (W.exchanges wire.old) (W.exchanges wire.new)
+    ensures kept { W.tells → D.tells → StaysKept (W.exchanges wire.old) (W.exchanges wire.new)
         (D.past disk.old) (D.past disk.new) }
     ensures part { W.tells → (packages : List Package) → locked given.text ≡ Ok packages
         → AddsPart (asked_of (checks_of given.config) packages)
@@ -201,12 +201,15 @@ pub fn run_task<F: Files, R: Runner, W: Wire, D: CacheDisk, O: Sink, E: Sink>(
         (IsEnded (place_of task.now.command.file)
         (E.holds err.old) [] result.fault (E.holds err.new) (E.faults err.old) (E.faults err.new)) }
     ensures cause { IfSome result.fault (CommandCause F.tells task.now.command (F.host files.old)) }
-    ensures rose { result.fault ≡ Some RunFault.Print → Rose (O.faults out.old) (O.faults out.new)
-        ⊎ Rose (E.faults err.old) (E.faults err.new) }
+    ensures rose { result.fault ≡ Some RunFault.Print
+        → CountRose (O.faults out.old) (O.faults out.new)
+        ⊎ CountRose (E.faults err.old) (E.faults err.new) }
     ensures file_rose { (path : List ℕ) → result.fault ≡ Some (RunFault.File path)
-        → Rose (F.faults files.old) (F.faults files.new) }
+        → CountRose (F.faults files.old) (F.faults files.new) }
     ensures start_rose { (failed : ℕ) → result.fault ≡ Some (RunFault.Start failed)
-        → RoseBy failed (R.faults runner.old) (R.faults runner.new) }
+        → CountRoseBy failed (R.faults runner.old) (R.faults runner.new) }
+    ensures one_start { (failed : ℕ) → result.fault ≡ Some (RunFault.Start failed)
+        → IfNone result.audited (failed ≡ 1) }
     ensures failed { F.tells → AddsRunCall (IsAskedCall task.now.command (F.host files.old))
         (F.failed files.old) (F.failed files.new) result.fault }
     ensures started { F.tells → R.tells → IfNone result.audited (StartsWhere
@@ -218,7 +221,7 @@ pub fn run_task<F: Files, R: Runner, W: Wire, D: CacheDisk, O: Sink, E: Sink>(
     ensures files_same { F.tells → F.host files.new ≡ F.host files.old }
     ensures early { IfNone result.audited (result.fault ≢ Some RunFault.NoMemory
         → (wire.new ≡ wire.old) × (disk.new ≡ disk.old)) }
-    ensures kept { W.tells → D.tells → KeepsHonest (W.exchanges wire.old) (W.exchanges wire.new)
+    ensures kept { W.tells → D.tells → StaysKept (W.exchanges wire.old) (W.exchanges wire.new)
         (D.past disk.old) (D.past disk.new) }
     ensures part { F.tells → W.tells → (given : Asked) (packages : List Package)
         → asked task.now.command (F.host files.old) (pos 0) ≡ Ok given

@@ -1,7 +1,7 @@
 //! The audits of lockfiles that words ask for.
 ghost use Rattle.std.specs.Prelude.{◌≡◌};
 ghost use Rattle.audit_asked.specs.Places.{place_of};
-ghost use Rattle.audit_program.specs.Tasks.{fix_task};
+ghost use Rattle.audit_program.specs.Tasks as spec;
 
 use audit_settings::AuditCommand;
 use audit_words::FixCommand;
@@ -36,7 +36,7 @@ impl Task {
 
 /// The audit that `fix` makes. A lockfile that is named behind it stands for that of `audit`.
 pub fn fix_task(audit: AuditCommand, more: FixCommand) -> Task
-    ensures { result ≡ fix_task audit more }
+    ensures { result ≡ spec.fix_task audit more }
 {
     let FixCommand { file, dry_run } = more;
     let mut command = audit;

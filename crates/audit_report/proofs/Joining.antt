@@ -5,7 +5,7 @@ use Rattle.json.specs.Token.{Token, begin_object, end_object, key}
 use Rattle.json.specs.Tree.{json_tokens, members_tokens}
 use Rattle.json.specs.Written.{Written}
 use Rattle.audit_report.specs.Documents.{listed_tokens, member_if}
-use Rattle.audit_report.specs.Adds.{Adds}
+use Rattle.audit_report.specs.WrittenTokens.{WritesTokens}
 use Rattle.audit_report.specs.Values.{members_of, object_of}
 use Rattle.audit_report.proofs.Writing.{behind}
 
@@ -21,10 +21,10 @@ members-listed xs = ap (λ ms. members_tokens (members_of ms)) (sym (append-nil 
 
 -- an object of four lists of members
 pub adds_four : (ks ls ms ns : List (List ℕ × Json)) (a b : Written)
-    → Adds a b (begin_object ∷ (listed_tokens ks ++ (listed_tokens ls ++ (listed_tokens ms ++ (listed_tokens ns ++ end_object ∷ [])))))
-    → Adds a b (json_tokens (object_of (ks ++ (ls ++ (ms ++ ns)))))
+    → WritesTokens a b (begin_object ∷ (listed_tokens ks ++ (listed_tokens ls ++ (listed_tokens ms ++ (listed_tokens ns ++ end_object ∷ [])))))
+    → WritesTokens a b (json_tokens (object_of (ks ++ (ls ++ (ms ++ ns)))))
 adds_four ks ls ms ns a b h =
-    let P : List Token → Type 0 = λ ts. Adds a b (begin_object ∷ ts) in
+    let P : List Token → Type 0 = λ ts. WritesTokens a b (begin_object ∷ ts) in
     subst P
     (sym (members-append ks (ls ++ (ms ++ ns))
     ∙ ap (λ t. listed_tokens ks ++ t) (members-append ls (ms ++ ns)
@@ -34,28 +34,28 @@ adds_four ks ls ms ns a b h =
 
 -- one member alone
 pub adds_member : (k : List ℕ) (j : Json) (a b : Written)
-    → Adds a b (key k ∷ json_tokens j) → Adds a b (listed_tokens ((k, j) ∷ []))
+    → WritesTokens a b (key k ∷ json_tokens j) → WritesTokens a b (listed_tokens ((k, j) ∷ []))
 adds_member k j a b h =
-    let P : List Token → Type 0 = λ ts. Adds a b (key k ∷ ts) in
+    let P : List Token → Type 0 = λ ts. WritesTokens a b (key k ∷ ts) in
     subst P (sym (append-nil (json_tokens j))) h
 
 pub adds_member_if : (stands : Bool) (k : List ℕ) (j : Json) (a b : Written) → stands ≡ true
-    → Adds a b (key k ∷ json_tokens j) → Adds a b (listed_tokens (member_if stands k j))
+    → WritesTokens a b (key k ∷ json_tokens j) → WritesTokens a b (listed_tokens (member_if stands k j))
 adds_member_if stands k j a b e h =
-    let P : Bool → Type 0 = λ s. Adds a b (listed_tokens (member_if s k j)) in
+    let P : Bool → Type 0 = λ s. WritesTokens a b (listed_tokens (member_if s k j)) in
     subst P (sym e) (adds_member k j a b h)
 
 -- the members of an object, in front of others
 pub members_behind : (ms ns : List (List ℕ × Json)) {a b c : Written}
-    → Adds b c (members_tokens (members_of ns)) → Adds a b (listed_tokens ms)
-    → Adds a c (members_tokens (members_of (ms ++ ns)))
+    → WritesTokens b c (members_tokens (members_of ns)) → WritesTokens a b (listed_tokens ms)
+    → WritesTokens a c (members_tokens (members_of (ms ++ ns)))
 members_behind ms ns {a = a} {c = c} h k =
-    let P : List Token → Type 0 = λ ts. Adds a c ts in
+    let P : List Token → Type 0 = λ ts. WritesTokens a c ts in
     subst P (sym (members-append ms ns)) (behind h k)
 
 -- the last members of an object, and its end
 pub members_last : (ms : List (List ℕ × Json)) {a b c : Written}
-    → Adds b c (end_object ∷ []) → Adds a b (listed_tokens ms) → Adds a c (members_tokens (members_of ms))
+    → WritesTokens b c (end_object ∷ []) → WritesTokens a b (listed_tokens ms) → WritesTokens a c (members_tokens (members_of ms))
 members_last ms {a = a} {c = c} h k =
-    let P : List Token → Type 0 = λ ts. Adds a c ts in
+    let P : List Token → Type 0 = λ ts. WritesTokens a c ts in
     subst P (sym (members-listed ms)) (behind h k)

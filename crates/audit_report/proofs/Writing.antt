@@ -8,17 +8,17 @@ use Rattle.json.specs.Token.{Token, begin_array, end_array}
 use Rattle.json.specs.Tree.{items_tokens, json_tokens}
 use Rattle.audit_report.specs.Values.{array_of, items_of}
 use Rattle.json.specs.Written.{Written}
-use Rattle.audit_report.specs.Adds.{Adds}
+use Rattle.audit_report.specs.WrittenTokens.{WritesTokens}
 
 -- what was written last, and the piece in front of it
 pub behind : {old mid new : Written} {piece rest : List Token}
-    → Adds mid new rest → Adds old mid piece → Adds old new (piece ++ rest)
+    → WritesTokens mid new rest → WritesTokens old mid piece → WritesTokens old new (piece ++ rest)
 behind {old = old} {piece = piece} {rest = rest} h k = record {
   tokens = h.tokens ∙ ap (λ t. t ++ rest) k.tokens ∙ append_assoc old.tokens piece rest;
   before = h.before ∙ k.before;
 }
 
-pub adds_none : (w : Written) → Adds w w []
+pub adds_none : (w : Written) → WritesTokens w w []
 adds_none w = record { tokens = sym (append-nil w.tokens); before = refl }
 
 -- the tokens of values, one behind the other
@@ -43,25 +43,25 @@ values_more g xs i d l =
 
 -- the values of the first items, and then those of one more
 pub adds_next : {X : Type 0} (g : X → List Json) (xs : List X) (i : ℕ) (d : X) → i < length xs
-    → (a b c : Written) → Adds a b (values_tokens (flat_map g (take i xs))) → Adds b c (values_tokens (g (get_or xs i d)))
-    → Adds a c (values_tokens (flat_map g (take (i + 1) xs)))
+    → (a b c : Written) → WritesTokens a b (values_tokens (flat_map g (take i xs))) → WritesTokens b c (values_tokens (g (get_or xs i d)))
+    → WritesTokens a c (values_tokens (flat_map g (take (i + 1) xs)))
 adds_next g xs i d l a b c h k =
-    let P : List Token → Type 0 = λ ts. Adds a c ts in
+    let P : List Token → Type 0 = λ ts. WritesTokens a c ts in
     subst P (sym (values_more g xs i d l)) (behind k h)
 
 -- an array of these values
 pub adds_array : (js : List Json) (a b : Written)
-    → Adds a b (begin_array ∷ (values_tokens js ++ end_array ∷ [])) → Adds a b (json_tokens (array_of js))
+    → WritesTokens a b (begin_array ∷ (values_tokens js ++ end_array ∷ [])) → WritesTokens a b (json_tokens (array_of js))
 adds_array js a b h =
-    let P : List Token → Type 0 = λ ts. Adds a b (begin_array ∷ ts) in
+    let P : List Token → Type 0 = λ ts. WritesTokens a b (begin_array ∷ ts) in
     subst P (sym (items_tokens-items_of js)) h
 
 -- the values of the first items, and then that of one more
 pub adds_next_item : {X : Type 0} (f : X → Json) (xs : List X) (i : ℕ) (x : X) → i < length xs → x ≡ get_or xs i x
-    → {a b c : Written} → Adds a b (values_tokens (map f (take i xs))) → Adds b c (json_tokens (f x))
-    → Adds a c (values_tokens (map f (take (i + 1) xs)))
+    → {a b c : Written} → WritesTokens a b (values_tokens (map f (take i xs))) → WritesTokens b c (json_tokens (f x))
+    → WritesTokens a c (values_tokens (map f (take (i + 1) xs)))
 adds_next_item f xs i x l e {a = a} {c = c} h k =
-    let P : List Token → Type 0 = λ ts. Adds a c ts in
+    let P : List Token → Type 0 = λ ts. WritesTokens a c ts in
     let more : values_tokens (map f (take (i + 1) xs)) ≡ values_tokens (map f (take i xs)) ++ json_tokens (f x) =
     ap (λ ys. values_tokens (map f ys)) (take_more xs i x l)
     ∙ ap (λ y. values_tokens (map f (take i xs ++ y ∷ []))) (sym e)

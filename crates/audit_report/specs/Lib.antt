@@ -1,4 +1,4 @@
-pub mod Adds
+pub mod WrittenTokens
 pub mod Affected
 pub mod Attributes
 pub mod Blocks

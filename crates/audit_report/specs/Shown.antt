@@ -57,6 +57,7 @@ is_among blocks p = list_any (λ b. is_tree_of p (tree_key b.locked)) blocks
 
 -- these blocks were appended to a text, and their trees count as shown
 pub record Shows (wanted : Bool) (blocks : List Block)
-    (before : List ℕ) (shown : List ShownTree) (now : List ℕ) (later : List ShownTree) : Type 0 where
+    (before : List ℕ) (shown : List ShownTree) (now : List ℕ)
+    (later : List ShownTree) : Type 0 where
   pub text : now ≡ before ++ blocks_text wanted shown blocks
   pub trees : later ≡ shown_after wanted shown blocks

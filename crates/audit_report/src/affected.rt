@@ -3,8 +3,9 @@ ghost use Rattle.std.specs.Prelude.{◌≡◌, ◌∷◌, ◌++◌, [], codes, I
 ghost use Rattle.std.specs.List.{flat_map, join_by};
 ghost use Rattle.semver.specs.Identifiers.{parts_of};
 ghost use Rattle.audit_advisory.specs.Points.{point_of};
-ghost use Rattle.audit_advisory.specs.Requirements.{meets_any};
-ghost use Rattle.audit_report.specs.Affected.{affected_line, affected_paths, is_affected, is_held, path_text, paths_line};
+ghost use Rattle.audit_advisory.specs.Requirements as requirements_spec;
+ghost use Rattle.audit_report.specs.Affected.{affected_line, affected_paths, path_text, paths_line};
+ghost use Rattle.audit_report.specs.Affected as spec;
 
 use crate::attributes::push_attribute;
 use crate::symbols::SymbolSet;
@@ -16,7 +17,7 @@ use tame_names::{NoMemory, Text};
 
 /// Whether a version meets one of these requirements.
 fn meets_any(requirements: &[Requirement], version: &Version) -> bool
-    ensures { result ≡ meets_any requirements.now (point_of version.now) }
+    ensures { result ≡ requirements_spec.meets_any requirements.now (point_of version.now) }
 {
     for requirement in requirements {
         if requirement.holds(version) {
@@ -28,7 +29,7 @@ fn meets_any(requirements: &[Requirement], version: &Version) -> bool
 
 /// Whether there is a version, and it meets one of these requirements.
 fn is_held(requirements: &[Requirement], version: &Option<Version>) -> bool
-    ensures { result ≡ is_held requirements.now (option_map parts_of version.now) }
+    ensures { result ≡ spec.is_held requirements.now (option_map parts_of version.now) }
 {
     match version {
         None => false,
@@ -38,7 +39,7 @@ fn is_held(requirements: &[Requirement], version: &Option<Version>) -> bool
 
 /// Whether symbols keep a function's path, and it is affected in a version.
 fn is_affected(symbols: &SymbolSet, version: &Option<Version>, function: &Function) -> bool
-    ensures { result ≡ is_affected symbols.now (option_map parts_of version.now) function.now }
+    ensures { result ≡ spec.is_affected symbols.now (option_map parts_of version.now) function.now }
 {
     symbols.keeps(&function.path) && is_held(function.versions.as_slice(), version)
 }

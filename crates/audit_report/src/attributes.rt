@@ -2,7 +2,8 @@
 ghost use Rattle.std.specs.Prelude.{◌≡◌, ◌++◌, codes, decimal, nat_eq, option_map, IfOk, OnOk, string_bytes};
 ghost use Rattle.std.specs.List.{starts_with};
 ghost use Rattle.std.specs.Option.{option_or};
-ghost use Rattle.audit_report.specs.Attributes.{attribute, attribute_if, database_url, filled, id_url, is_shared, one_decimal, score, url_of};
+ghost use Rattle.audit_report.specs.Attributes.{attribute, attribute_if, database_url, filled, id_url, url_of};
+ghost use Rattle.audit_report.specs.Attributes as spec;
 
 use crate::words::severity_word;
 use audit_advisory::{Metadata, Severity};
@@ -44,7 +45,7 @@ fn begins_with(text: &str, prefix: &str) -> bool
 
 /// Whether a license asks that the stated url be named.
 fn is_shared(license: &Option<Text>) -> bool
-    ensures { result ≡ is_shared license.now }
+    ensures { result ≡ spec.is_shared license.now }
 {
     match license {
         Some(license) => license.as_str() == "CC-BY-4.0",
@@ -133,7 +134,7 @@ fn push_number(alloc: Global, out: &mut String, number: u8) -> Result<(), AllocE
 /// Tenths with one decimal.
 #[tactic(auto, unfolding(crate::specs::Attributes::one_decimal))]
 pub fn one_decimal(alloc: Global, tenths: u8) -> Result<String, AllocError>
-    ensures { IfOk result (λ text. string_bytes text ≡ one_decimal tenths) }
+    ensures { IfOk result (λ text. string_bytes text ≡ spec.one_decimal tenths) }
 {
     let mut out = String::new(alloc);
     push_number(alloc, &mut out, tenths / 10)?;
@@ -145,7 +146,7 @@ pub fn one_decimal(alloc: Global, tenths: u8) -> Result<String, AllocError>
 /// A score in tenths, with one decimal and its severity.
 #[tactic(auto, unfolding(crate::specs::Attributes::score))]
 fn score(alloc: Global, tenths: u8) -> Result<String, AllocError>
-    ensures { IfOk result (λ text. string_bytes text ≡ score tenths) }
+    ensures { IfOk result (λ text. string_bytes text ≡ spec.score tenths) }
 {
     let mut out = one_decimal(alloc, tenths)?;
     out.push_str(" (")?;
@@ -157,7 +158,7 @@ fn score(alloc: Global, tenths: u8) -> Result<String, AllocError>
 /// Appends the line of a score in tenths, if there is one.
 pub fn push_severity(alloc: Global, out: &mut String, tenths: Option<u8>) -> Result<(), AllocError>
     ensures { OnOk result (string_bytes out.new
-        ≡ string_bytes out.old ++ attribute_if (codes "Severity:") (option_map score tenths)) }
+        ≡ string_bytes out.old ++ attribute_if (codes "Severity:") (option_map spec.score tenths)) }
 {
     match tenths {
         None => Ok(()),

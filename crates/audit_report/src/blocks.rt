@@ -1,6 +1,7 @@
 //! The lines of a vulnerability and of a warning.
 ghost use Rattle.std.specs.Prelude.{◌≡◌, ◌++◌, IfOk, OnOk, option_map, string_bytes};
-ghost use Rattle.audit_report.specs.Blocks.{crate_lines, metadata_lines, or_texts, solution, told_lines, vulnerability_lines, warning_lines};
+ghost use Rattle.audit_report.specs.Blocks.{crate_lines, metadata_lines, or_texts, told_lines};
+ghost use Rattle.audit_report.specs.Blocks as spec;
 
 use crate::affected::push_affected;
 use crate::attributes::{push_attribute, push_severity, push_url};
@@ -52,7 +53,7 @@ fn push_or_texts(out: &mut String, texts: &[Requirement]) -> Result<(), AllocErr
 /// The versions to upgrade to, if there are any.
 #[tactic(auto, unfolding(crate::specs::Blocks::solution))]
 fn solution(alloc: Global, patched: &[Requirement]) -> Result<String, AllocError>
-    ensures { IfOk result (λ text. string_bytes text ≡ solution patched.now) }
+    ensures { IfOk result (λ text. string_bytes text ≡ spec.solution patched.now) }
 {
     let Some((first, more)) = patched.split_first() else {
         return String::from_str(alloc, "No fixed upgrade is available!");
@@ -72,7 +73,7 @@ pub fn vulnerability_lines(
     advisory: &Advisory,
 ) -> Result<String, NoMemory>
     ensures { IfOk result (λ text. string_bytes text
-        ≡ vulnerability_lines symbols.now locked.now advisory.now) }
+        ≡ spec.vulnerability_lines symbols.now locked.now advisory.now) }
 {
     let mut out = String::new(alloc);
     push_crate(&mut out, locked)?;
@@ -108,7 +109,8 @@ pub fn warning_lines(
     locked: &Package,
     advisory: Option<&Advisory>,
 ) -> Result<String, NoMemory>
-    ensures { IfOk result (λ text. string_bytes text ≡ warning_lines symbols.now kind locked.now
+    ensures { IfOk result (λ text. string_bytes text
+        ≡ spec.warning_lines symbols.now kind locked.now
         (option_map (λ a. a.now) advisory.entry)) }
 {
     let mut out = String::new(alloc);

@@ -2,8 +2,9 @@
 ghost use Rattle.std.specs.Prelude.{◌≡◌, ◌++◌, ◌∷◌, [], codes, Some, IfOk, OnOk};
 ghost use Rattle.json.specs.Json.{document};
 ghost use Rattle.json.specs.Tree.{json_tokens};
-ghost use Rattle.audit_report.specs.Documents.{ReadsBack, found_object, report_line, report_object, warnings_object};
-ghost use Rattle.audit_report.specs.Adds.{Adds};
+ghost use Rattle.audit_report.specs.Documents.{ReadsBack, found_object, report_object, warnings_object};
+ghost use Rattle.audit_report.specs.Documents as spec;
+ghost use Rattle.audit_report.specs.WrittenTokens.{WritesTokens};
 ghost use Rattle.audit_report.specs.Values.{count, json_text, object_of};
 
 use crate::listed::{write_found, write_warnings};
@@ -15,7 +16,7 @@ use json::Writer;
 use std::alloc::{AllocError, Global};
 
 fn write_counted(out: &mut Writer, name: &str, number: usize) -> Result<(), AllocError>
-    ensures { OnOk result (Adds out.old out.new
+    ensures { OnOk result (WritesTokens out.old out.new
         (json_tokens (object_of ((name.now, count number) ∷ [])))) }
 {
     open_object(out)?;
@@ -30,7 +31,7 @@ fn write_hits_of(
     packages: &[Package],
     report: &Report,
 ) -> Result<(), AllocError>
-    ensures { OnOk result (Adds out.old out.new
+    ensures { OnOk result (WritesTokens out.old out.new
         (json_tokens (found_object advisories.now packages.now report.now.vulnerabilities))) }
 {
     write_found(out, advisories, packages, report.vulnerabilities.as_slice())
@@ -42,7 +43,7 @@ fn write_warnings_of(
     packages: &[Package],
     report: &Report,
 ) -> Result<(), AllocError>
-    ensures { OnOk result (Adds out.old out.new
+    ensures { OnOk result (WritesTokens out.old out.new
         (json_tokens (warnings_object advisories.now packages.now report.now.warnings))) }
 {
     write_warnings(out, advisories, packages, report.warnings.as_slice())
@@ -55,7 +56,7 @@ fn write_report(
     packages: &[Package],
     report: &Report,
 ) -> Result<(), AllocError>
-    ensures { OnOk result (Adds out.old out.new
+    ensures { OnOk result (WritesTokens out.old out.new
         (json_tokens (report_object advisories.now packages.now report.now))) }
 {
     open_object(out)?;
@@ -100,7 +101,7 @@ pub fn report_line(
     packages: &[Package],
 ) -> Result<Vec<u8>, AllocError>
     ensures line { IfOk result (λ line. line.items
-        ≡ report_line advisories.now packages.now report.now) }
+        ≡ spec.report_line advisories.now packages.now report.now) }
     ensures reads_back { OnOk result (ReadsBack advisories.now packages.now report.now) }
 {
     let mut line = report_text(alloc, report, advisories, packages)?;

@@ -1,5 +1,15 @@
 //! What a user reads of an audit: its report for a terminal, as JSON or as SARIF, the lines that
 //! sum it up, and status lines.
+//!
+//! Promises: the bytes put are a function of the presenter, the report, the advisories and the
+//! packages; a refusal leaves the presenter as it was; JSON and SARIF read back to what they say.
+//! Stands on the sinks of `tame_names`, on `audit_lock` and `audit_advisory`, and on `serde_json`.
+//!
+//! ```text
+//! Crate:     tiny-json
+//! Version:   0.9.1
+//! Title:     Deep input
+//! ```
 #![tactic(auto)]
 
 mod affected;

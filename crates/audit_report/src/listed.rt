@@ -4,8 +4,9 @@ ghost use Rattle.std.specs.List.{flat_map};
 ghost use Rattle.json.specs.Json.{boolean};
 ghost use Rattle.json.specs.Token.{key};
 ghost use Rattle.json.specs.Tree.{json_tokens};
-ghost use Rattle.audit_report.specs.Documents.{found_object, hit_at, hit_of, kind_member, listed_tokens, member_if, occurs, kind_warning_at, warning_of, warnings_object};
-ghost use Rattle.audit_report.specs.Adds.{Adds};
+ghost use Rattle.audit_report.specs.Documents.{found_object, hit_at, hit_of, kind_member, listed_tokens, member_if, kind_warning_at, warning_of, warnings_object};
+ghost use Rattle.audit_report.specs.Documents as spec;
+ghost use Rattle.audit_report.specs.WrittenTokens.{WritesTokens};
 ghost use Rattle.audit_report.specs.Words.{kind_word};
 ghost use Rattle.audit_report.specs.Values.{array_of, count};
 
@@ -25,7 +26,7 @@ fn write_hit_of(
     locked: Option<&Package>,
     advisory: Option<&Advisory>,
 ) -> Result<(), AllocError>
-    ensures { OnOk result (Adds out.old out.new
+    ensures { OnOk result (WritesTokens out.old out.new
         (flat_map json_tokens
         (hit_of (option_copied locked.entry) (option_copied advisory.entry)))) }
 {
@@ -41,7 +42,7 @@ fn write_hit_at(
     packages: &[Package],
     hit: Vulnerability,
 ) -> Result<(), AllocError>
-    ensures { OnOk result (Adds out.old out.new
+    ensures { OnOk result (WritesTokens out.old out.new
         (flat_map json_tokens (hit_at advisories.now packages.now hit))) }
 {
     let locked = package_at(packages, hit.package);
@@ -55,7 +56,7 @@ fn write_hits(
     packages: &[Package],
     found: &[Vulnerability],
 ) -> Result<(), AllocError>
-    ensures { OnOk result (Adds out.old out.new
+    ensures { OnOk result (WritesTokens out.old out.new
         (flat_map json_tokens (flat_map (hit_at advisories.now packages.now) found.now))) }
 {
     for hit in found {
@@ -70,7 +71,7 @@ fn write_hit_list(
     packages: &[Package],
     found: &[Vulnerability],
 ) -> Result<(), AllocError>
-    ensures { OnOk result (Adds out.old out.new
+    ensures { OnOk result (WritesTokens out.old out.new
         (json_tokens (array_of (flat_map (hit_at advisories.now packages.now) found.now)))) }
 {
     open_array(out)?;
@@ -80,14 +81,14 @@ fn write_hit_list(
 }
 
 fn write_found_flag(out: &mut Writer, found: &[Vulnerability]) -> Result<(), AllocError>
-    ensures { OnOk result (Adds out.old out.new
+    ensures { OnOk result (WritesTokens out.old out.new
         (key (codes "found") ∷ json_tokens (boolean (nat_lt 0 (length found.now))))) }
 {
     write_flag(out, "found", 0 < found.len())
 }
 
 fn write_found_count(out: &mut Writer, found: &[Vulnerability]) -> Result<(), AllocError>
-    ensures { OnOk result (Adds out.old out.new
+    ensures { OnOk result (WritesTokens out.old out.new
         (key (codes "count") ∷ json_tokens (count (length found.now)))) }
 {
     write_count(out, "count", found.len())
@@ -100,7 +101,7 @@ pub fn write_found(
     packages: &[Package],
     found: &[Vulnerability],
 ) -> Result<(), AllocError>
-    ensures { OnOk result (Adds out.old out.new
+    ensures { OnOk result (WritesTokens out.old out.new
         (json_tokens (found_object advisories.now packages.now found.now))) }
 {
     open_object(out)?;
@@ -118,7 +119,7 @@ fn write_warning_of(
     locked: Option<&Package>,
     advisory: Option<&Advisory>,
 ) -> Result<(), AllocError>
-    ensures { OnOk result (Adds out.old out.new (flat_map json_tokens
+    ensures { OnOk result (WritesTokens out.old out.new (flat_map json_tokens
         (warning_of kind (option_copied locked.entry) (option_copied advisory.entry)))) }
 {
     match locked {
@@ -134,7 +135,7 @@ fn write_warning_at(
     packages: &[Package],
     warning: Warning,
 ) -> Result<(), AllocError>
-    ensures { OnOk result (Adds out.old out.new
+    ensures { OnOk result (WritesTokens out.old out.new
         (flat_map json_tokens (kind_warning_at kind advisories.now packages.now warning))) }
 {
     if warning.kind == kind {
@@ -153,7 +154,7 @@ fn write_warnings_of(
     packages: &[Package],
     warnings: &[Warning],
 ) -> Result<(), AllocError>
-    ensures { OnOk result (Adds out.old out.new (flat_map json_tokens
+    ensures { OnOk result (WritesTokens out.old out.new (flat_map json_tokens
         (flat_map (kind_warning_at kind advisories.now packages.now) warnings.now))) }
 {
     for warning in warnings {
@@ -169,7 +170,7 @@ fn write_warning_list(
     packages: &[Package],
     warnings: &[Warning],
 ) -> Result<(), AllocError>
-    ensures { OnOk result (Adds out.old out.new (json_tokens
+    ensures { OnOk result (WritesTokens out.old out.new (json_tokens
         (array_of (flat_map (kind_warning_at kind advisories.now packages.now) warnings.now)))) }
 {
     open_array(out)?;
@@ -179,7 +180,7 @@ fn write_warning_list(
 }
 
 fn write_kind_name(out: &mut Writer, kind: WarningKind) -> Result<(), AllocError>
-    ensures { OnOk result (Adds out.old out.new (key (kind_word kind) ∷ [])) }
+    ensures { OnOk result (WritesTokens out.old out.new (key (kind_word kind) ∷ [])) }
 {
     write_name(out, kind_word(kind))
 }
@@ -192,7 +193,8 @@ fn write_kind_if(
     packages: &[Package],
     warnings: &[Warning],
 ) -> Result<(), AllocError>
-    ensures { OnOk result (Adds out.old out.new (listed_tokens (member_if occurs (kind_word kind)
+    ensures { OnOk result (WritesTokens out.old out.new
+        (listed_tokens (member_if occurs (kind_word kind)
         (array_of (flat_map (kind_warning_at kind advisories.now packages.now) warnings.now))))) }
 {
     if !occurs {
@@ -204,7 +206,7 @@ fn write_kind_if(
 }
 
 fn occurs(kind: WarningKind, warnings: &[Warning]) -> bool
-    ensures { result ≡ occurs kind warnings.now }
+    ensures { result ≡ spec.occurs kind warnings.now }
 {
     warnings.iter().any(|warning| warning.kind == kind)
 }
@@ -216,7 +218,7 @@ fn write_kind(
     packages: &[Package],
     warnings: &[Warning],
 ) -> Result<(), AllocError>
-    ensures { OnOk result (Adds out.old out.new
+    ensures { OnOk result (WritesTokens out.old out.new
         (listed_tokens (kind_member kind advisories.now packages.now warnings.now))) }
 {
     let stands = occurs(kind, warnings);
@@ -230,7 +232,7 @@ pub fn write_warnings(
     packages: &[Package],
     warnings: &[Warning],
 ) -> Result<(), AllocError>
-    ensures { OnOk result (Adds out.old out.new
+    ensures { OnOk result (WritesTokens out.old out.new
         (json_tokens (warnings_object advisories.now packages.now warnings.now))) }
 {
     open_object(out)?;

@@ -1,7 +1,8 @@
 //! The texts of a report, made in memory before they are put anywhere.
 ghost use Rattle.std.specs.Prelude.{◌≡◌, [], option_map, string_bytes, IfOk, OnOk};
 ghost use Rattle.audit_report.specs.Documents.{ReadsBack, report_line};
-ghost use Rattle.audit_report.specs.Sarif.{sarif_log, uri_of};
+ghost use Rattle.audit_report.specs.Sarif.{sarif_log};
+ghost use Rattle.audit_report.specs.Sarif as spec;
 ghost use Rattle.audit_report.specs.SarifObjects.{LogReadsBack, sarif_line};
 
 use crate::documents::report_line;
@@ -46,7 +47,7 @@ pub fn made_json(
 
 /// The path of a binary, or else of a lockfile.
 fn uri_of<'a>(path: Option<&'a str>) -> &'a str
-    ensures { result.now ≡ uri_of (option_map (λ p. p.now) path.entry) }
+    ensures { result.now ≡ spec.uri_of (option_map (λ p. p.now) path.entry) }
 {
     match path {
         Some(path) => path,
@@ -63,12 +64,12 @@ pub fn made_sarif(
     path: Option<&str>,
 ) -> Result<Made, NoMemory>
     ensures out { IfOk result (λ made. made.out.bytes.items
-        ≡ sarif_line (sarif_log (uri_of (option_map (λ p. p.now) path.entry))
+        ≡ sarif_line (sarif_log (spec.uri_of (option_map (λ p. p.now) path.entry))
         database.now lockfile.now report.now)) }
     ensures err { IfOk result (λ made. string_bytes made.err ≡ []) }
     ensures added { IfOk result (λ made. made.added ≡ []) }
     ensures reads_back { OnOk result (LogReadsBack
-        (sarif_log (uri_of (option_map (λ p. p.now) path.entry))
+        (sarif_log (spec.uri_of (option_map (λ p. p.now) path.entry))
         database.now lockfile.now report.now)) }
 {
     let (advisories, packages) = (database.advisories(), lockfile.packages());

@@ -3,7 +3,7 @@ ghost use Rattle.std.specs.Prelude.{◌≡◌, ◌++◌, ◌∷◌, [], map, opt
 ghost use Rattle.json.specs.Json.{boolean, string};
 ghost use Rattle.json.specs.Token.{begin_array, begin_object, end_array, end_object, key};
 ghost use Rattle.json.specs.Tree.{json_tokens};
-ghost use Rattle.audit_report.specs.Adds.{Adds};
+ghost use Rattle.audit_report.specs.WrittenTokens.{WritesTokens};
 ghost use Rattle.audit_report.specs.Values.{count, count_or_null, text_or_null, texts};
 
 use crate::blocks::requirement_text;
@@ -14,35 +14,35 @@ use tame_names::{Items, Text};
 
 /// Opens an object.
 pub fn open_object(out: &mut Writer) -> Result<(), AllocError>
-    ensures { OnOk result (Adds out.old out.new (begin_object ∷ [])) }
+    ensures { OnOk result (WritesTokens out.old out.new (begin_object ∷ [])) }
 {
     out.begin_object()
 }
 
 /// Closes an object.
 pub fn close_object(out: &mut Writer) -> Result<(), AllocError>
-    ensures { OnOk result (Adds out.old out.new (end_object ∷ [])) }
+    ensures { OnOk result (WritesTokens out.old out.new (end_object ∷ [])) }
 {
     out.end_object()
 }
 
 /// Opens an array.
 pub fn open_array(out: &mut Writer) -> Result<(), AllocError>
-    ensures { OnOk result (Adds out.old out.new (begin_array ∷ [])) }
+    ensures { OnOk result (WritesTokens out.old out.new (begin_array ∷ [])) }
 {
     out.begin_array()
 }
 
 /// Closes an array.
 pub fn close_array(out: &mut Writer) -> Result<(), AllocError>
-    ensures { OnOk result (Adds out.old out.new (end_array ∷ [])) }
+    ensures { OnOk result (WritesTokens out.old out.new (end_array ∷ [])) }
 {
     out.end_array()
 }
 
 /// Writes a member that is true or false.
 pub fn write_flag(out: &mut Writer, name: &str, flag: bool) -> Result<(), AllocError>
-    ensures { OnOk result (Adds out.old out.new
+    ensures { OnOk result (WritesTokens out.old out.new
         (key name.now ∷ json_tokens (boolean flag))) }
 {
     out.key(name)?;
@@ -51,14 +51,14 @@ pub fn write_flag(out: &mut Writer, name: &str, flag: bool) -> Result<(), AllocE
 
 /// Writes the name of a member.
 pub fn write_name(out: &mut Writer, name: &str) -> Result<(), AllocError>
-    ensures { OnOk result (Adds out.old out.new (key name.now ∷ [])) }
+    ensures { OnOk result (WritesTokens out.old out.new (key name.now ∷ [])) }
 {
     out.key(name)
 }
 
 /// Writes a member that is a word.
 pub fn write_str(out: &mut Writer, name: &str, word: &str) -> Result<(), AllocError>
-    ensures { OnOk result (Adds out.old out.new
+    ensures { OnOk result (WritesTokens out.old out.new
         (key name.now ∷ json_tokens (string word.now))) }
 {
     out.key(name)?;
@@ -67,7 +67,7 @@ pub fn write_str(out: &mut Writer, name: &str, word: &str) -> Result<(), AllocEr
 
 /// Writes a member that is a text.
 pub fn write_text(out: &mut Writer, name: &str, text: &Text) -> Result<(), AllocError>
-    ensures { OnOk result (Adds out.old out.new
+    ensures { OnOk result (WritesTokens out.old out.new
         (key name.now ∷ json_tokens (string text.now))) }
 {
     write_str(out, name, text.as_str())
@@ -75,7 +75,7 @@ pub fn write_text(out: &mut Writer, name: &str, text: &Text) -> Result<(), Alloc
 
 /// Writes a member that is a text or null.
 pub fn write_optional(out: &mut Writer, name: &str, text: &Option<Text>) -> Result<(), AllocError>
-    ensures { OnOk result (Adds out.old out.new
+    ensures { OnOk result (WritesTokens out.old out.new
         (key name.now ∷ json_tokens (text_or_null text.now))) }
 {
     out.key(name)?;
@@ -87,7 +87,7 @@ pub fn write_optional(out: &mut Writer, name: &str, text: &Option<Text>) -> Resu
 
 /// Writes a member that is a word or null.
 pub fn write_word(out: &mut Writer, name: &str, word: Option<&str>) -> Result<(), AllocError>
-    ensures { OnOk result (Adds out.old out.new
+    ensures { OnOk result (WritesTokens out.old out.new
         (key name.now ∷ json_tokens (text_or_null (option_map (λ w. w.now) word.entry)))) }
 {
     out.key(name)?;
@@ -99,7 +99,7 @@ pub fn write_word(out: &mut Writer, name: &str, word: Option<&str>) -> Result<()
 
 /// Writes a member that is a number or null.
 pub fn write_score(out: &mut Writer, name: &str, score: Option<u8>) -> Result<(), AllocError>
-    ensures { OnOk result (Adds out.old out.new
+    ensures { OnOk result (WritesTokens out.old out.new
         (key name.now ∷ json_tokens (count_or_null score))) }
 {
     out.key(name)?;
@@ -111,7 +111,7 @@ pub fn write_score(out: &mut Writer, name: &str, score: Option<u8>) -> Result<()
 
 /// Writes a member that is a number.
 pub fn write_count(out: &mut Writer, name: &str, number: usize) -> Result<(), AllocError>
-    ensures { OnOk result (Adds out.old out.new
+    ensures { OnOk result (WritesTokens out.old out.new
         (key name.now ∷ json_tokens (count number))) }
 {
     out.key(name)?;
@@ -120,7 +120,7 @@ pub fn write_count(out: &mut Writer, name: &str, number: usize) -> Result<(), Al
 
 /// Writes a member that is an array of texts.
 pub fn write_texts(out: &mut Writer, name: &str, items: &Items<Text>) -> Result<(), AllocError>
-    ensures { OnOk result (Adds out.old out.new
+    ensures { OnOk result (WritesTokens out.old out.new
         (key name.now ∷ json_tokens (texts items.now))) }
 {
     out.key(name)?;
@@ -137,7 +137,7 @@ pub fn write_requirements(
     name: &str,
     requirements: &[Requirement],
 ) -> Result<(), AllocError>
-    ensures { OnOk result (Adds out.old out.new
+    ensures { OnOk result (WritesTokens out.old out.new
         (key name.now ∷ json_tokens (texts requirements.now))) }
 {
     out.key(name)?;

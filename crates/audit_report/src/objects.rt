@@ -3,7 +3,7 @@ ghost use Rattle.std.specs.Prelude.{◌≡◌, ◌++◌, ◌∷◌, codes, OnOk,
 ghost use Rattle.json.specs.Json.{string};
 ghost use Rattle.json.specs.Token.{key};
 ghost use Rattle.json.specs.Tree.{json_tokens};
-ghost use Rattle.audit_report.specs.Adds.{Adds};
+ghost use Rattle.audit_report.specs.WrittenTokens.{WritesTokens};
 ghost use Rattle.audit_report.specs.Objects.{hit_object, metadata_object, metadata_or_null, package_object, versions_object, warning_object};
 ghost use Rattle.audit_report.specs.Words.{informational_word, kind_word};
 ghost use Rattle.audit_report.specs.Values.{text_or_null, texts};
@@ -23,7 +23,7 @@ fn write_informational(
     out: &mut Writer,
     informational: &Option<Informational>,
 ) -> Result<(), AllocError>
-    ensures { OnOk result (Adds out.old out.new
+    ensures { OnOk result (WritesTokens out.old out.new
         (key (codes "informational") ∷ json_tokens
         (text_or_null (option_map informational_word informational.now)))) }
 {
@@ -32,7 +32,7 @@ fn write_informational(
 
 /// Writes what an advisory says of itself.
 fn write_metadata(out: &mut Writer, metadata: &Metadata) -> Result<(), AllocError>
-    ensures { OnOk result (Adds out.old out.new
+    ensures { OnOk result (WritesTokens out.old out.new
         (json_tokens (metadata_object metadata.now))) }
 {
     open_object(out)?;
@@ -53,7 +53,7 @@ fn write_metadata(out: &mut Writer, metadata: &Metadata) -> Result<(), AllocErro
 
 /// Writes a package.
 fn write_package(out: &mut Writer, locked: &Package) -> Result<(), AllocError>
-    ensures { OnOk result (Adds out.old out.new
+    ensures { OnOk result (WritesTokens out.old out.new
         (json_tokens (package_object locked.now))) }
 {
     open_object(out)?;
@@ -66,14 +66,14 @@ fn write_package(out: &mut Writer, locked: &Package) -> Result<(), AllocError>
 }
 
 fn write_patched(out: &mut Writer, advisory: &Advisory) -> Result<(), AllocError>
-    ensures { OnOk result (Adds out.old out.new
+    ensures { OnOk result (WritesTokens out.old out.new
         (key (codes "patched") ∷ json_tokens (texts advisory.now.versions.patched))) }
 {
     write_requirements(out, "patched", advisory.versions.patched())
 }
 
 fn write_unaffected(out: &mut Writer, advisory: &Advisory) -> Result<(), AllocError>
-    ensures { OnOk result (Adds out.old out.new
+    ensures { OnOk result (WritesTokens out.old out.new
         (key (codes "unaffected") ∷ json_tokens (texts advisory.now.versions.unaffected))) }
 {
     write_requirements(out, "unaffected", advisory.versions.unaffected())
@@ -81,7 +81,7 @@ fn write_unaffected(out: &mut Writer, advisory: &Advisory) -> Result<(), AllocEr
 
 /// Writes the texts of an advisory's requirements.
 fn write_versions(out: &mut Writer, advisory: &Advisory) -> Result<(), AllocError>
-    ensures { OnOk result (Adds out.old out.new
+    ensures { OnOk result (WritesTokens out.old out.new
         (json_tokens (versions_object advisory.now))) }
 {
     open_object(out)?;
@@ -93,7 +93,7 @@ fn write_versions(out: &mut Writer, advisory: &Advisory) -> Result<(), AllocErro
 
 /// Writes a package that an advisory hits.
 pub fn write_hit(out: &mut Writer, locked: &Package, advisory: &Advisory) -> Result<(), AllocError>
-    ensures { OnOk result (Adds out.old out.new
+    ensures { OnOk result (WritesTokens out.old out.new
         (json_tokens (hit_object locked.now advisory.now))) }
 {
     open_object(out)?;
@@ -109,7 +109,7 @@ pub fn write_hit(out: &mut Writer, locked: &Package, advisory: &Advisory) -> Res
 
 /// Writes what an advisory says of itself, or null.
 fn write_stated(out: &mut Writer, advisory: Option<&Advisory>) -> Result<(), AllocError>
-    ensures { OnOk result (Adds out.old out.new
+    ensures { OnOk result (WritesTokens out.old out.new
         (json_tokens (metadata_or_null (option_map (λ a. a.now) advisory.entry)))) }
 {
     match advisory {
@@ -119,7 +119,7 @@ fn write_stated(out: &mut Writer, advisory: Option<&Advisory>) -> Result<(), All
 }
 
 fn write_kind(out: &mut Writer, kind: WarningKind) -> Result<(), AllocError>
-    ensures { OnOk result (Adds out.old out.new
+    ensures { OnOk result (WritesTokens out.old out.new
         (key (codes "kind") ∷ json_tokens (string (kind_word kind)))) }
 {
     write_str(out, "kind", kind_word(kind))
@@ -132,7 +132,7 @@ pub fn write_warning(
     locked: &Package,
     advisory: Option<&Advisory>,
 ) -> Result<(), AllocError>
-    ensures { OnOk result (Adds out.old out.new
+    ensures { OnOk result (WritesTokens out.old out.new
         (json_tokens (warning_object kind locked.now (option_map (λ a. a.now) advisory.entry)))) }
 {
     open_object(out)?;

@@ -1,8 +1,8 @@
 //! The places that a report and a list name.
 ghost use Rattle.std.specs.Prelude.{◌≡◌, ◌<◌, IfSome, length, option_copied, slice_get};
 ghost use Rattle.std.specs.List.{list_all};
-ghost use Rattle.audit_report.specs.Blocks.{advisory_at};
-ghost use Rattle.audit_report.specs.Placing.{are_placed, is_place, is_placed, is_vulnerability, is_warning};
+ghost use Rattle.audit_report.specs.Blocks as blocks_spec;
+ghost use Rattle.audit_report.specs.Placing as spec;
 
 use audit_advisory::{Advisory, Report, Vulnerability, Warning};
 use audit_lock::Package;
@@ -24,7 +24,7 @@ pub fn listed_at(advisories: &[Advisory], place: usize) -> Option<&Advisory>
 
 /// The advisory at a place, where one is named.
 pub fn advisory_at(advisories: &[Advisory], place: Option<usize>) -> Option<&Advisory>
-    ensures { option_copied result ≡ advisory_at advisories.now place }
+    ensures { option_copied result ≡ blocks_spec.advisory_at advisories.now place }
 {
     match place {
         None => None,
@@ -33,7 +33,7 @@ pub fn advisory_at(advisories: &[Advisory], place: Option<usize>) -> Option<&Adv
 }
 
 fn is_place(count: usize, place: Option<usize>) -> bool
-    ensures { result ≡ is_place count place }
+    ensures { result ≡ spec.is_place count place }
 {
     match place {
         None => true,
@@ -42,19 +42,19 @@ fn is_place(count: usize, place: Option<usize>) -> bool
 }
 
 fn is_vulnerability(advisories: usize, packages: usize, found: &Vulnerability) -> bool
-    ensures { result ≡ is_vulnerability advisories packages found.now }
+    ensures { result ≡ spec.is_vulnerability advisories packages found.now }
 {
     found.advisory < advisories && found.package < packages
 }
 
 fn is_warning(advisories: usize, packages: usize, warning: &Warning) -> bool
-    ensures { result ≡ is_warning advisories packages warning.now }
+    ensures { result ≡ spec.is_warning advisories packages warning.now }
 {
     is_place(advisories, warning.advisory) && warning.package < packages
 }
 
 fn are_vulnerabilities(advisories: usize, packages: usize, found: &[Vulnerability]) -> bool
-    ensures { result ≡ list_all (is_vulnerability advisories packages) found.now }
+    ensures { result ≡ list_all (spec.is_vulnerability advisories packages) found.now }
 {
     found
         .iter()
@@ -62,7 +62,7 @@ fn are_vulnerabilities(advisories: usize, packages: usize, found: &[Vulnerabilit
 }
 
 fn are_warnings(advisories: usize, packages: usize, warnings: &[Warning]) -> bool
-    ensures { result ≡ list_all (is_warning advisories packages) warnings.now }
+    ensures { result ≡ list_all (spec.is_warning advisories packages) warnings.now }
 {
     warnings
         .iter()
@@ -71,7 +71,7 @@ fn are_warnings(advisories: usize, packages: usize, warnings: &[Warning]) -> boo
 
 /// Whether each place that a report names has an advisory or a package.
 pub fn is_placed(advisories: usize, packages: usize, report: &Report) -> bool
-    ensures { result ≡ is_placed advisories packages report.now }
+    ensures { result ≡ spec.is_placed advisories packages report.now }
 {
     are_vulnerabilities(advisories, packages, report.vulnerabilities.as_slice())
         && are_warnings(advisories, packages, report.warnings.as_slice())
@@ -79,7 +79,7 @@ pub fn is_placed(advisories: usize, packages: usize, report: &Report) -> bool
 
 /// Whether each of these places has an advisory.
 pub fn are_placed(advisories: usize, places: &[usize]) -> bool
-    ensures { result ≡ are_placed advisories places.now }
+    ensures { result ≡ spec.are_placed advisories places.now }
 {
     places.iter().all(|place| *place < advisories)
 }

@@ -1,6 +1,6 @@
 //! Prints reports, and each tree once in its life.
 ghost use Rattle.std.specs.Prelude.{◌≡◌, ◌≢◌, ◌<◌, ◌≤◌, ◌++◌, ◌↔◌, ◌⊎◌, [], None, Some, length, option_map, string_bytes, All, IfOk, IfErr, IsErrOf, IsFalse, OnOk, OnErr};
-ghost use Rattle.tame_names.specs.Counts.{Rose};
+ghost use Rattle.tame_names.specs.Counts.{CountRose};
 ghost use Rattle.audit_lock.specs.Parents.{tree_of};
 ghost use Rattle.audit_advisory.specs.Reports.{IsPlaced};
 ghost use Rattle.audit_advisory.specs.Exits.{report_fails, self_fails};
@@ -110,7 +110,7 @@ impl Presenter {
             (E.holds err.new) result }
         ensures later { E.faults err.old ≤ E.faults err.new }
         ensures failed { IsErrOf result PrintError.Io
-            → Rose (E.faults err.old) (E.faults err.new) }
+            → CountRose (E.faults err.old) (E.faults err.new) }
         ensures placed { IfErr result (λ e. e ≢ PrintError.Tree) }
         ensures unput { IsErrOf result PrintError.NoMemory → err.new ≡ err.old }
         ensures same { self.new ≡ self.old }
@@ -134,7 +134,7 @@ impl Presenter {
             (E.holds err.new) result }
         ensures later { E.faults err.old ≤ E.faults err.new }
         ensures failed { IsErrOf result PrintError.Io
-            → Rose (E.faults err.old) (E.faults err.new) }
+            → CountRose (E.faults err.old) (E.faults err.new) }
         ensures placed { IfErr result (λ e. e ≢ PrintError.Tree) }
         ensures unput { IsErrOf result PrintError.NoMemory → err.new ≡ err.old }
         ensures same { self.new ≡ self.old }
@@ -228,8 +228,8 @@ impl Presenter {
         ensures out_later { O.faults out.old ≤ O.faults out.new }
         ensures err_later { E.faults err.old ≤ E.faults err.new }
         ensures failed { IsErrOf result PrintError.Io
-            → Rose (O.faults out.old) (O.faults out.new)
-            ⊎ Rose (E.faults err.old) (E.faults err.new) }
+            → CountRose (O.faults out.old) (O.faults out.new)
+            ⊎ CountRose (E.faults err.old) (E.faults err.new) }
         ensures placed { IfErr result (λ e. e ≢ PrintError.Tree) }
         ensures unput { IfErr result (λ e. e ≢ PrintError.Io
             → (out.new ≡ out.old) × (err.new ≡ err.old)) }
@@ -279,8 +279,8 @@ impl Presenter {
         ensures out_later { O.faults out.old ≤ O.faults out.new }
         ensures err_later { E.faults err.old ≤ E.faults err.new }
         ensures failed { IsErrOf result PrintError.Io
-            → Rose (O.faults out.old) (O.faults out.new)
-            ⊎ Rose (E.faults err.old) (E.faults err.new) }
+            → CountRose (O.faults out.old) (O.faults out.new)
+            ⊎ CountRose (E.faults err.old) (E.faults err.new) }
         ensures unput { IfErr result (λ e. e ≢ PrintError.Io
             → (out.new ≡ out.old) × (err.new ≡ err.old)) }
         ensures config { self.new.config ≡ self.old.config }
@@ -328,8 +328,8 @@ impl Presenter {
         ensures out_later { O.faults out.old ≤ O.faults out.new }
         ensures err_later { E.faults err.old ≤ E.faults err.new }
         ensures failed { IsErrOf result PrintError.Io
-            → Rose (O.faults out.old) (O.faults out.new)
-            ⊎ Rose (E.faults err.old) (E.faults err.new) }
+            → CountRose (O.faults out.old) (O.faults out.new)
+            ⊎ CountRose (E.faults err.old) (E.faults err.new) }
         ensures unput { IfErr result (λ e. e ≢ PrintError.Io
             → (out.new ≡ out.old) × (err.new ≡ err.old)) }
         ensures same { self.new ≡ self.old }

@@ -1,6 +1,6 @@
 //! Putting texts that were made in memory.
 ghost use Rattle.std.specs.Prelude.{◌≡◌, ◌≤◌, ◌⊎◌, [], IfErr};
-ghost use Rattle.tame_names.specs.Counts.{Rose};
+ghost use Rattle.tame_names.specs.Counts.{CountRose};
 ghost use Rattle.audit_report.specs.Outputs.{IsPut};
 
 use std::alloc::AllocError;
@@ -42,7 +42,7 @@ pub fn put_text<S: Sink>(sink: &mut S, text: &[u8]) -> Result<(), PrintError>
     ensures nothing { text.now ≡ [] → sink.new ≡ sink.old }
     ensures later { S.faults sink.old ≤ S.faults sink.new }
     ensures failed { IfErr result (λ e. (e ≡ PrintError.Io)
-        × Rose (S.faults sink.old) (S.faults sink.new)) }
+        × CountRose (S.faults sink.old) (S.faults sink.new)) }
 {
     if text.is_empty() {
         return Ok(());
@@ -67,8 +67,8 @@ pub fn put_texts<O: Sink, E: Sink>(
     ensures first_later { O.faults first.old ≤ O.faults first.new }
     ensures second_later { E.faults second.old ≤ E.faults second.new }
     ensures failed { IfErr result (λ e. (e ≡ PrintError.Io)
-        × (Rose (O.faults first.old) (O.faults first.new)
-        ⊎ Rose (E.faults second.old) (E.faults second.new))) }
+        × (CountRose (O.faults first.old) (O.faults first.new)
+        ⊎ CountRose (E.faults second.old) (E.faults second.new))) }
 {
     put_text(first, text)?;
     put_text(second, summary)

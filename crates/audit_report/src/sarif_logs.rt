@@ -1,6 +1,6 @@
 //! A report as a SARIF log (SARIF 2.1.0).
 ghost use Rattle.std.specs.Prelude.{◌≡◌, ◌≢◌, ◌≤◌, ◌↔◌, length, IfOk, IfErr, IsErrOf, IsFalse, OnOk};
-ghost use Rattle.tame_names.specs.Counts.{Rose};
+ghost use Rattle.tame_names.specs.Counts.{CountRose};
 ghost use Rattle.audit_advisory.specs.Reports.{IsPlaced};
 ghost use Rattle.audit_report.specs.Outputs.{IsPut};
 ghost use Rattle.audit_report.specs.Placing.{is_placed};
@@ -123,7 +123,7 @@ impl SarifLog {
             (O.holds out.new) result }
         ensures later { O.faults out.old ≤ O.faults out.new }
         ensures failed { IsErrOf result PrintError.Io
-            → Rose (O.faults out.old) (O.faults out.new) }
+            → CountRose (O.faults out.old) (O.faults out.new) }
         ensures placed { IfErr result (λ e. e ≢ PrintError.Tree) }
         ensures unput { IsErrOf result PrintError.NoMemory → out.new ≡ out.old }
         // the line is read as the object that is meant

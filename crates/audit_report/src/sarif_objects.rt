@@ -4,8 +4,9 @@ ghost use Rattle.std.specs.List.{flat_map};
 ghost use Rattle.json.specs.Json.{document, string};
 ghost use Rattle.json.specs.Token.{key};
 ghost use Rattle.json.specs.Tree.{json_tokens};
-ghost use Rattle.audit_report.specs.Adds.{Adds};
-ghost use Rattle.audit_report.specs.SarifObjects.{LogReadsBack, driver_object, location_object, result_object, rule_object, run_object, sarif_line, sarif_object};
+ghost use Rattle.audit_report.specs.WrittenTokens.{WritesTokens};
+ghost use Rattle.audit_report.specs.SarifObjects.{LogReadsBack, driver_object, location_object, result_object, rule_object, run_object, sarif_object};
+ghost use Rattle.audit_report.specs.SarifObjects as spec;
 ghost use Rattle.audit_report.specs.Values.{array_of, count, json_text, object_of};
 
 use crate::members::{
@@ -20,7 +21,7 @@ use tame_names::Text;
 
 /// Writes an object of one member that is a text.
 fn write_only(out: &mut Writer, name: &str, text: &Text) -> Result<(), AllocError>
-    ensures { OnOk result (Adds out.old out.new
+    ensures { OnOk result (WritesTokens out.old out.new
         (json_tokens (object_of ((name.now, string text.now) ∷ [])))) }
 {
     open_object(out)?;
@@ -31,7 +32,7 @@ fn write_only(out: &mut Writer, name: &str, text: &Text) -> Result<(), AllocErro
 
 /// Writes the first line of a file.
 fn write_region(out: &mut Writer) -> Result<(), AllocError>
-    ensures { OnOk result (Adds out.old out.new
+    ensures { OnOk result (WritesTokens out.old out.new
         (json_tokens (object_of ((codes "startLine", count 1) ∷ [])))) }
 {
     open_object(out)?;
@@ -42,7 +43,7 @@ fn write_region(out: &mut Writer) -> Result<(), AllocError>
 
 /// Writes a place in a file.
 fn write_physical(out: &mut Writer, uri: &Text) -> Result<(), AllocError>
-    ensures { OnOk result (Adds out.old out.new (json_tokens (object_of (
+    ensures { OnOk result (WritesTokens out.old out.new (json_tokens (object_of (
         (codes "artifactLocation", object_of ((codes "uri", string uri.now) ∷ [])) ∷
         (codes "region", object_of ((codes "startLine", count 1) ∷ [])) ∷ [])))) }
 {
@@ -56,7 +57,7 @@ fn write_physical(out: &mut Writer, uri: &Text) -> Result<(), AllocError>
 }
 
 fn write_location(out: &mut Writer, uri: &Text) -> Result<(), AllocError>
-    ensures { OnOk result (Adds out.old out.new (json_tokens (location_object uri.now))) }
+    ensures { OnOk result (WritesTokens out.old out.new (json_tokens (location_object uri.now))) }
 {
     open_object(out)?;
     write_name(out, "physicalLocation")?;
@@ -66,7 +67,7 @@ fn write_location(out: &mut Writer, uri: &Text) -> Result<(), AllocError>
 }
 
 fn write_locations(out: &mut Writer, uri: &Text) -> Result<(), AllocError>
-    ensures { OnOk result (Adds out.old out.new
+    ensures { OnOk result (WritesTokens out.old out.new
         (json_tokens (array_of (location_object uri.now ∷ [])))) }
 {
     open_array(out)?;
@@ -77,7 +78,7 @@ fn write_locations(out: &mut Writer, uri: &Text) -> Result<(), AllocError>
 
 /// Writes a result.
 fn write_result(out: &mut Writer, told: &SarifResult) -> Result<(), AllocError>
-    ensures { OnOk result (Adds out.old out.new (json_tokens (result_object told.now))) }
+    ensures { OnOk result (WritesTokens out.old out.new (json_tokens (result_object told.now))) }
 {
     open_object(out)?;
     write_text(out, "ruleId", &told.rule_id)?;
@@ -93,7 +94,7 @@ fn write_result(out: &mut Writer, told: &SarifResult) -> Result<(), AllocError>
 }
 
 fn write_results(out: &mut Writer, results: &[SarifResult]) -> Result<(), AllocError>
-    ensures { OnOk result (Adds out.old out.new
+    ensures { OnOk result (WritesTokens out.old out.new
         (flat_map json_tokens (map result_object results.now))) }
 {
     for told in results {
@@ -103,7 +104,7 @@ fn write_results(out: &mut Writer, results: &[SarifResult]) -> Result<(), AllocE
 }
 
 fn write_result_list(out: &mut Writer, run: &Run) -> Result<(), AllocError>
-    ensures { OnOk result (Adds out.old out.new
+    ensures { OnOk result (WritesTokens out.old out.new
         (json_tokens (array_of (map result_object run.now.results)))) }
 {
     open_array(out)?;
@@ -113,7 +114,7 @@ fn write_result_list(out: &mut Writer, run: &Run) -> Result<(), AllocError>
 }
 
 fn write_rules(out: &mut Writer, rules: &[Rule]) -> Result<(), AllocError>
-    ensures { OnOk result (Adds out.old out.new
+    ensures { OnOk result (WritesTokens out.old out.new
         (flat_map json_tokens (map rule_object rules.now))) }
 {
     for rule in rules {
@@ -123,7 +124,7 @@ fn write_rules(out: &mut Writer, rules: &[Rule]) -> Result<(), AllocError>
 }
 
 fn write_rule_list(out: &mut Writer, run: &Run) -> Result<(), AllocError>
-    ensures { OnOk result (Adds out.old out.new
+    ensures { OnOk result (WritesTokens out.old out.new
         (json_tokens (array_of (map rule_object run.now.rules)))) }
 {
     open_array(out)?;
@@ -134,7 +135,7 @@ fn write_rule_list(out: &mut Writer, run: &Run) -> Result<(), AllocError>
 
 /// Writes what made the results.
 fn write_driver(out: &mut Writer, run: &Run) -> Result<(), AllocError>
-    ensures { OnOk result (Adds out.old out.new
+    ensures { OnOk result (WritesTokens out.old out.new
         (json_tokens (driver_object run.now.rules))) }
 {
     open_object(out)?;
@@ -148,7 +149,7 @@ fn write_driver(out: &mut Writer, run: &Run) -> Result<(), AllocError>
 }
 
 fn write_tool(out: &mut Writer, run: &Run) -> Result<(), AllocError>
-    ensures { OnOk result (Adds out.old out.new
+    ensures { OnOk result (WritesTokens out.old out.new
         (json_tokens (object_of ((codes "driver", driver_object run.now.rules) ∷ [])))) }
 {
     open_object(out)?;
@@ -160,7 +161,7 @@ fn write_tool(out: &mut Writer, run: &Run) -> Result<(), AllocError>
 
 /// Writes a run.
 fn write_run(out: &mut Writer, run: &Run) -> Result<(), AllocError>
-    ensures { OnOk result (Adds out.old out.new (json_tokens (run_object run.now))) }
+    ensures { OnOk result (WritesTokens out.old out.new (json_tokens (run_object run.now))) }
 {
     open_object(out)?;
     write_name(out, "tool")?;
@@ -172,7 +173,7 @@ fn write_run(out: &mut Writer, run: &Run) -> Result<(), AllocError>
 }
 
 fn write_runs(out: &mut Writer, run: &Run) -> Result<(), AllocError>
-    ensures { OnOk result (Adds out.old out.new
+    ensures { OnOk result (WritesTokens out.old out.new
         (json_tokens (array_of (run_object run.now ∷ [])))) }
 {
     open_array(out)?;
@@ -183,7 +184,7 @@ fn write_runs(out: &mut Writer, run: &Run) -> Result<(), AllocError>
 
 /// Writes a log.
 fn write_log(out: &mut Writer, log: &SarifLog) -> Result<(), AllocError>
-    ensures { OnOk result (Adds out.old out.new (json_tokens (sarif_object log.now))) }
+    ensures { OnOk result (WritesTokens out.old out.new (json_tokens (sarif_object log.now))) }
 {
     open_object(out)?;
     write_str(
@@ -212,7 +213,7 @@ fn sarif_text(alloc: Global, log: &SarifLog) -> Result<Vec<u8>, AllocError>
 /// A log as one line of JSON.
 #[tactic(auto, unfolding(crate::specs::SarifObjects::sarif_line))]
 pub fn sarif_line(alloc: Global, log: &SarifLog) -> Result<Vec<u8>, AllocError>
-    ensures line { IfOk result (λ line. line.items ≡ sarif_line log.now) }
+    ensures line { IfOk result (λ line. line.items ≡ spec.sarif_line log.now) }
     ensures reads_back { OnOk result (LogReadsBack log.now) }
 {
     let mut line = sarif_text(alloc, log)?;

@@ -1,6 +1,6 @@
 //! The results of the SARIF form.
 ghost use Rattle.std.specs.Prelude.{◌≡◌, IfOk, option_map};
-ghost use Rattle.audit_report.specs.Sarif.{hit_result, warning_result};
+ghost use Rattle.audit_report.specs.Sarif as spec;
 
 use crate::sarif_logs::{Level, SarifResult};
 use crate::sarif_rules::warning_id;
@@ -17,7 +17,7 @@ pub fn hit_result(
     locked: &Package,
     advisory: &Advisory,
 ) -> Result<SarifResult, NoMemory>
-    ensures { IfOk result (λ told. told ≡ hit_result uri.now locked.now advisory.now) }
+    ensures { IfOk result (λ told. told ≡ spec.hit_result uri.now locked.now advisory.now) }
 {
     let metadata = &advisory.metadata;
     Ok(SarifResult {
@@ -37,7 +37,7 @@ pub fn warning_result(
     locked: &Package,
     advisory: Option<&Advisory>,
 ) -> Result<SarifResult, NoMemory>
-    ensures { IfOk result (λ told. told ≡ warning_result uri.now kind locked.now
+    ensures { IfOk result (λ told. told ≡ spec.warning_result uri.now kind locked.now
         (option_map (λ a. a.now) advisory.entry)) }
 {
     let id = warning_id(kind, advisory);

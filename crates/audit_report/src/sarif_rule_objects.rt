@@ -3,7 +3,7 @@ ghost use Rattle.std.specs.Prelude.{◌≡◌, ◌++◌, ◌∷◌, [], codes, m
 ghost use Rattle.json.specs.Json.{string};
 ghost use Rattle.json.specs.Token.{key};
 ghost use Rattle.json.specs.Tree.{json_tokens};
-ghost use Rattle.audit_report.specs.Adds.{Adds};
+ghost use Rattle.audit_report.specs.WrittenTokens.{WritesTokens};
 ghost use Rattle.audit_report.specs.Documents.{listed_tokens};
 ghost use Rattle.audit_report.specs.SarifObjects.{level_object, level_word, member_of, message_object, precision_word, problem_severity, properties_object, rule_object, tag_word};
 ghost use Rattle.audit_report.specs.Values.{texts};
@@ -19,7 +19,7 @@ use tame_names::Text;
 
 /// Writes a member that is a text, where there is one.
 fn write_stated(out: &mut Writer, name: &str, text: &Option<Text>) -> Result<(), AllocError>
-    ensures { OnOk result (Adds out.old out.new
+    ensures { OnOk result (WritesTokens out.old out.new
         (listed_tokens (member_of name.now (option_map string text.now)))) }
 {
     match text {
@@ -30,7 +30,7 @@ fn write_stated(out: &mut Writer, name: &str, text: &Option<Text>) -> Result<(),
 
 /// Writes a text with its Markdown.
 fn write_message(out: &mut Writer, message: &MultiformatMessageString) -> Result<(), AllocError>
-    ensures { OnOk result (Adds out.old out.new
+    ensures { OnOk result (WritesTokens out.old out.new
         (json_tokens (message_object message.now))) }
 {
     open_object(out)?;
@@ -46,7 +46,7 @@ fn write_message_member(
     name: &str,
     message: &MultiformatMessageString,
 ) -> Result<(), AllocError>
-    ensures { OnOk result (Adds out.old out.new
+    ensures { OnOk result (WritesTokens out.old out.new
         (key name.now ∷ json_tokens (message_object message.now))) }
 {
     write_name(out, name)?;
@@ -59,7 +59,7 @@ fn write_stated_message(
     name: &str,
     message: &Option<MultiformatMessageString>,
 ) -> Result<(), AllocError>
-    ensures { OnOk result (Adds out.old out.new
+    ensures { OnOk result (WritesTokens out.old out.new
         (listed_tokens (member_of name.now (option_map message_object message.now)))) }
 {
     match message {
@@ -70,14 +70,14 @@ fn write_stated_message(
 
 /// Writes the member that is a level.
 pub fn write_level(out: &mut Writer, level: Level) -> Result<(), AllocError>
-    ensures { OnOk result (Adds out.old out.new
+    ensures { OnOk result (WritesTokens out.old out.new
         (key (codes "level") ∷ json_tokens (string (level_word level)))) }
 {
     write_str(out, "level", level_word(level))
 }
 
 fn write_configuration(out: &mut Writer, level: Level) -> Result<(), AllocError>
-    ensures { OnOk result (Adds out.old out.new (json_tokens (level_object level))) }
+    ensures { OnOk result (WritesTokens out.old out.new (json_tokens (level_object level))) }
 {
     open_object(out)?;
     write_level(out, level)?;
@@ -87,19 +87,19 @@ fn write_configuration(out: &mut Writer, level: Level) -> Result<(), AllocError>
 
 /// Writes a text.
 fn write_item(out: &mut Writer, text: &str) -> Result<(), AllocError>
-    ensures { OnOk result (Adds out.old out.new (json_tokens (string text.now))) }
+    ensures { OnOk result (WritesTokens out.old out.new (json_tokens (string text.now))) }
 {
     out.string(text)
 }
 
 fn write_tag(out: &mut Writer, level: Level) -> Result<(), AllocError>
-    ensures { OnOk result (Adds out.old out.new (json_tokens (string (tag_word level)))) }
+    ensures { OnOk result (WritesTokens out.old out.new (json_tokens (string (tag_word level)))) }
 {
     write_item(out, tag_word(level))
 }
 
 fn write_tags(out: &mut Writer, level: Level) -> Result<(), AllocError>
-    ensures { OnOk result (Adds out.old out.new
+    ensures { OnOk result (WritesTokens out.old out.new
         (json_tokens (texts (codes "security" ∷ tag_word level ∷ [])))) }
 {
     open_array(out)?;
@@ -110,7 +110,7 @@ fn write_tags(out: &mut Writer, level: Level) -> Result<(), AllocError>
 }
 
 fn write_precision(out: &mut Writer, precision: Precision) -> Result<(), AllocError>
-    ensures { OnOk result (Adds out.old out.new
+    ensures { OnOk result (WritesTokens out.old out.new
         (key (codes "precision") ∷ json_tokens (string (precision_word precision)))) }
 {
     write_str(out, "precision", precision_word(precision))
@@ -118,7 +118,7 @@ fn write_precision(out: &mut Writer, precision: Precision) -> Result<(), AllocEr
 
 /// Writes a member that is a word, where there is one.
 fn write_word_if(out: &mut Writer, name: &str, word: Option<&str>) -> Result<(), AllocError>
-    ensures { OnOk result (Adds out.old out.new (listed_tokens
+    ensures { OnOk result (WritesTokens out.old out.new (listed_tokens
         (member_of name.now (option_map string (option_map (λ w. w.now) word.entry))))) }
 {
     match word {
@@ -129,14 +129,15 @@ fn write_word_if(out: &mut Writer, name: &str, word: Option<&str>) -> Result<(),
 
 /// Writes the member that the rules of warnings have.
 fn write_problem_severity(out: &mut Writer, level: Level) -> Result<(), AllocError>
-    ensures { OnOk result (Adds out.old out.new (listed_tokens
+    ensures { OnOk result (WritesTokens out.old out.new (listed_tokens
         (member_of (codes "problem.severity") (option_map string (problem_severity level))))) }
 {
     write_word_if(out, "problem.severity", problem_severity(level))
 }
 
 fn write_properties(out: &mut Writer, rule: &Rule) -> Result<(), AllocError>
-    ensures { OnOk result (Adds out.old out.new (json_tokens (properties_object rule.now))) }
+    ensures { OnOk result (WritesTokens out.old out.new
+        (json_tokens (properties_object rule.now))) }
 {
     open_object(out)?;
     write_name(out, "tags")?;
@@ -150,7 +151,7 @@ fn write_properties(out: &mut Writer, rule: &Rule) -> Result<(), AllocError>
 
 /// Writes a rule.
 pub fn write_rule(out: &mut Writer, rule: &Rule) -> Result<(), AllocError>
-    ensures { OnOk result (Adds out.old out.new (json_tokens (rule_object rule.now))) }
+    ensures { OnOk result (WritesTokens out.old out.new (json_tokens (rule_object rule.now))) }
 {
     open_object(out)?;
     write_text(out, "id", &rule.id)?;

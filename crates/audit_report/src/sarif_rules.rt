@@ -1,7 +1,7 @@
 //! The rules of the SARIF form.
 ghost use Rattle.std.specs.Prelude.{◌≡◌, IfOk, option_map};
 ghost use Rattle.audit_report.specs.Attributes.{one_decimal};
-ghost use Rattle.audit_report.specs.Sarif.{advisory_rule, described, help, kind_rule, plain, warning_id, warning_rule};
+ghost use Rattle.audit_report.specs.Sarif as spec;
 
 use crate::attributes::one_decimal;
 use crate::sarif_logs::{Level, MultiformatMessageString, Precision, Rule};
@@ -13,7 +13,7 @@ use std::alloc::Global;
 use tame_names::{NoMemory, Text};
 
 fn plain(alloc: Global, text: &str) -> Result<MultiformatMessageString, NoMemory>
-    ensures { IfOk result (λ message. message ≡ plain text.now) }
+    ensures { IfOk result (λ message. message ≡ spec.plain text.now) }
 {
     Ok(MultiformatMessageString {
         text: Text::of(alloc, text)?,
@@ -23,7 +23,7 @@ fn plain(alloc: Global, text: &str) -> Result<MultiformatMessageString, NoMemory
 
 /// A description, unless it is empty.
 fn described(alloc: Global, text: &str) -> Result<Option<MultiformatMessageString>, NoMemory>
-    ensures { IfOk result (λ message. message ≡ described text.now) }
+    ensures { IfOk result (λ message. message ≡ spec.described text.now) }
 {
     if text.is_empty() {
         Ok(None)
@@ -33,7 +33,7 @@ fn described(alloc: Global, text: &str) -> Result<Option<MultiformatMessageStrin
 }
 
 fn help(alloc: Global, id: &str, url: &str) -> Result<MultiformatMessageString, NoMemory>
-    ensures { IfOk result (λ message. message ≡ help id.now url.now) }
+    ensures { IfOk result (λ message. message ≡ spec.help id.now url.now) }
 {
     Ok(MultiformatMessageString {
         text: Text::from_string(help_text(alloc, url)?),
@@ -47,7 +47,7 @@ fn stated_help(
     id: &str,
     url: &Option<Text>,
 ) -> Result<Option<MultiformatMessageString>, NoMemory>
-    ensures { IfOk result (λ message. message ≡ option_map (help id.now) url.now) }
+    ensures { IfOk result (λ message. message ≡ option_map (spec.help id.now) url.now) }
 {
     match url {
         None => Ok(None),
@@ -67,7 +67,7 @@ fn security_severity(alloc: Global, tenths: Option<u8>) -> Result<Option<Text>, 
 
 /// The rule that an advisory is.
 pub fn advisory_rule(alloc: Global, level: Level, metadata: &Metadata) -> Result<Rule, NoMemory>
-    ensures { IfOk result (λ rule. rule ≡ advisory_rule level metadata.now) }
+    ensures { IfOk result (λ rule. rule ≡ spec.advisory_rule level metadata.now) }
 {
     Ok(Rule {
         id: metadata.id.try_clone(alloc)?,
@@ -82,7 +82,7 @@ pub fn advisory_rule(alloc: Global, level: Level, metadata: &Metadata) -> Result
 
 /// The rule that a kind of warning is.
 fn kind_rule(alloc: Global, kind: WarningKind) -> Result<Rule, NoMemory>
-    ensures { IfOk result (λ rule. rule ≡ kind_rule kind) }
+    ensures { IfOk result (λ rule. rule ≡ spec.kind_rule kind) }
 {
     Ok(Rule {
         id: Text::of(alloc, kind_word(kind))?,
@@ -102,7 +102,7 @@ pub fn warning_rule(
     advisory: Option<&Advisory>,
 ) -> Result<Rule, NoMemory>
     ensures { IfOk result (λ rule. rule
-        ≡ warning_rule kind (option_map (λ a. a.now) advisory.entry)) }
+        ≡ spec.warning_rule kind (option_map (λ a. a.now) advisory.entry)) }
 {
     match advisory {
         None => kind_rule(alloc, kind),
@@ -112,7 +112,7 @@ pub fn warning_rule(
 
 /// The id of a warning's rule.
 pub fn warning_id<'a>(kind: WarningKind, advisory: Option<&'a Advisory>) -> &'a str
-    ensures { result.now ≡ warning_id kind (option_map (λ a. a.now) advisory.entry) }
+    ensures { result.now ≡ spec.warning_id kind (option_map (λ a. a.now) advisory.entry) }
 {
     match advisory {
         None => kind_word(kind),

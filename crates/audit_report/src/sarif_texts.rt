@@ -1,6 +1,6 @@
 //! The texts of the SARIF form.
 ghost use Rattle.std.specs.Prelude.{◌≡◌, ◌++◌, codes, IfOk, OnOk, option_map, string_bytes};
-ghost use Rattle.audit_report.specs.SarifTexts.{fingerprint, help_markdown, help_text, hit_message, kind_message, named, titled_message, warning_message};
+ghost use Rattle.audit_report.specs.SarifTexts as spec;
 
 use crate::words::kind_word;
 use audit_advisory::{Advisory, Metadata, WarningKind};
@@ -10,7 +10,7 @@ use std::alloc::{AllocError, Global};
 /// Where more is said.
 #[tactic(auto, unfolding(crate::specs::SarifTexts::help_text))]
 pub fn help_text(alloc: Global, url: &str) -> Result<String, AllocError>
-    ensures { IfOk result (λ text. string_bytes text ≡ help_text url.now) }
+    ensures { IfOk result (λ text. string_bytes text ≡ spec.help_text url.now) }
 {
     let mut out = String::from_str(alloc, "For more information, see: ")?;
     out.push_str(url)?;
@@ -20,7 +20,7 @@ pub fn help_text(alloc: Global, url: &str) -> Result<String, AllocError>
 /// Where more is said, as a link in Markdown.
 #[tactic(auto, unfolding(crate::specs::SarifTexts::help_markdown))]
 pub fn help_markdown(alloc: Global, id: &str, url: &str) -> Result<String, AllocError>
-    ensures { IfOk result (λ text. string_bytes text ≡ help_markdown id.now url.now) }
+    ensures { IfOk result (λ text. string_bytes text ≡ spec.help_markdown id.now url.now) }
 {
     let mut out = String::from_str(alloc, "For more information, see: [")?;
     out.push_str(id)?;
@@ -33,7 +33,7 @@ pub fn help_markdown(alloc: Global, id: &str, url: &str) -> Result<String, Alloc
 /// A package by its name and its version.
 #[tactic(auto, unfolding(crate::specs::SarifTexts::named))]
 fn named(alloc: Global, locked: &Package) -> Result<String, AllocError>
-    ensures { IfOk result (λ text. string_bytes text ≡ named locked.now) }
+    ensures { IfOk result (λ text. string_bytes text ≡ spec.named locked.now) }
 {
     let mut out = String::from_str(alloc, locked.name.as_str())?;
     out.push_str(" ")?;
@@ -48,7 +48,7 @@ pub fn hit_message(
     locked: &Package,
     metadata: &Metadata,
 ) -> Result<String, AllocError>
-    ensures { IfOk result (λ text. string_bytes text ≡ hit_message locked.now metadata.now) }
+    ensures { IfOk result (λ text. string_bytes text ≡ spec.hit_message locked.now metadata.now) }
 {
     let mut out = named(alloc, locked)?;
     out.push_str(" is vulnerable to ")?;
@@ -62,7 +62,7 @@ pub fn hit_message(
 /// What is told of a warning of a kind.
 #[tactic(auto, unfolding(crate::specs::SarifTexts::kind_message))]
 fn kind_message(alloc: Global, kind: WarningKind, locked: &Package) -> Result<String, AllocError>
-    ensures { IfOk result (λ text. string_bytes text ≡ kind_message kind locked.now) }
+    ensures { IfOk result (λ text. string_bytes text ≡ spec.kind_message kind locked.now) }
 {
     let mut out = named(alloc, locked)?;
     out.push_str(" has a ")?;
@@ -80,7 +80,7 @@ fn titled_message(
     metadata: &Metadata,
 ) -> Result<String, AllocError>
     ensures { IfOk result (λ text. string_bytes text
-        ≡ titled_message kind locked.now metadata.now) }
+        ≡ spec.titled_message kind locked.now metadata.now) }
 {
     let mut out = kind_message(alloc, kind, locked)?;
     out.push_str(": ")?;
@@ -96,7 +96,7 @@ pub fn warning_message(
     advisory: Option<&Advisory>,
 ) -> Result<String, AllocError>
     ensures { IfOk result (λ text. string_bytes text
-        ≡ warning_message kind locked.now (option_map (λ a. a.now) advisory.entry)) }
+        ≡ spec.warning_message kind locked.now (option_map (λ a. a.now) advisory.entry)) }
 {
     match advisory {
         None => kind_message(alloc, kind, locked),
@@ -116,7 +116,7 @@ fn push_part(out: &mut String, part: &str) -> Result<(), AllocError>
 /// What makes a result the same one in the next run.
 #[tactic(auto, unfolding(crate::specs::SarifTexts::fingerprint))]
 pub fn fingerprint(alloc: Global, id: &str, locked: &Package) -> Result<String, AllocError>
-    ensures { IfOk result (λ text. string_bytes text ≡ fingerprint id.now locked.now) }
+    ensures { IfOk result (λ text. string_bytes text ≡ spec.fingerprint id.now locked.now) }
 {
     let mut out = String::from_str(alloc, id)?;
     push_part(&mut out, locked.name.as_str())?;

@@ -1,7 +1,7 @@
 //! The words of the SARIF form.
 ghost use Rattle.std.specs.Prelude.{◌≡◌, option_map};
-ghost use Rattle.audit_report.specs.SarifObjects.{level_word, precision_word, problem_severity, tag_word};
-ghost use Rattle.audit_report.specs.SarifTexts.{kind_text};
+ghost use Rattle.audit_report.specs.SarifObjects as spec;
+ghost use Rattle.audit_report.specs.SarifTexts as sarif_texts_spec;
 
 use crate::sarif_logs::{Level, Precision};
 use audit_advisory::WarningKind;
@@ -9,7 +9,7 @@ use audit_advisory::WarningKind;
 /// The word of a level.
 #[tactic(auto, unfolding(crate::specs::SarifObjects::level_word))]
 pub fn level_word(level: Level) -> &'static str
-    ensures { result.now ≡ level_word level }
+    ensures { result.now ≡ spec.level_word level }
 {
     match level {
         Level::Error => "error",
@@ -20,7 +20,7 @@ pub fn level_word(level: Level) -> &'static str
 /// The word of what a rule of a level is of.
 #[tactic(auto, unfolding(crate::specs::SarifObjects::tag_word))]
 pub fn tag_word(level: Level) -> &'static str
-    ensures { result.now ≡ tag_word level }
+    ensures { result.now ≡ spec.tag_word level }
 {
     match level {
         Level::Error => "vulnerability",
@@ -31,7 +31,7 @@ pub fn tag_word(level: Level) -> &'static str
 /// The word of a precision.
 #[tactic(auto, unfolding(crate::specs::SarifObjects::precision_word))]
 pub fn precision_word(precision: Precision) -> &'static str
-    ensures { result.now ≡ precision_word precision }
+    ensures { result.now ≡ spec.precision_word precision }
 {
     match precision {
         Precision::High => "high",
@@ -42,7 +42,7 @@ pub fn precision_word(precision: Precision) -> &'static str
 /// The word by which a rule of a level is a problem, if it is none of security.
 #[tactic(auto, unfolding(crate::specs::SarifObjects::problem_severity))]
 pub fn problem_severity(level: Level) -> Option<&'static str>
-    ensures { option_map (λ w. w.now) result ≡ problem_severity level }
+    ensures { option_map (λ w. w.now) result ≡ spec.problem_severity level }
 {
     match level {
         Level::Error => None,
@@ -53,7 +53,7 @@ pub fn problem_severity(level: Level) -> Option<&'static str>
 /// What a kind of warning tells, where no advisory does.
 #[tactic(auto, unfolding(crate::specs::SarifTexts::kind_text))]
 pub fn kind_text(kind: WarningKind) -> &'static str
-    ensures { result.now ≡ kind_text kind }
+    ensures { result.now ≡ sarif_texts_spec.kind_text kind }
 {
     match kind {
         WarningKind::Notice => "Unknown warning type",

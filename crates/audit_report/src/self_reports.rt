@@ -1,8 +1,9 @@
 //! What is printed of advisories on the auditor itself.
 ghost use Rattle.std.specs.Prelude.{◌≡◌, ◌++◌, IfOk, OnOk, string_bytes};
 ghost use Rattle.std.specs.List.{flat_map};
-ghost use Rattle.audit_advisory.specs.Exits.{denies_self};
-ghost use Rattle.audit_report.specs.SelfReports.{metadata_at, self_level, self_line, self_lines, self_message, self_summary, self_text};
+ghost use Rattle.audit_advisory.specs.Exits as exits_spec;
+ghost use Rattle.audit_report.specs.SelfReports.{metadata_at, self_message};
+ghost use Rattle.audit_report.specs.SelfReports as spec;
 
 use crate::blocks::push_metadata;
 use crate::placing::listed_at;
@@ -11,7 +12,7 @@ use std::alloc::{AllocError, Global};
 
 /// Whether advisories on the auditor itself are denied.
 fn denies_self(deny: &[DenyOption]) -> bool
-    ensures { result ≡ denies_self deny.now }
+    ensures { result ≡ exits_spec.denies_self deny.now }
 {
     deny.iter()
         .any(|option| matches!(option, DenyOption::Warnings))
@@ -28,7 +29,7 @@ fn push_message(out: &mut String) -> Result<(), AllocError>
 }
 
 fn self_level(deny: &[DenyOption]) -> &'static str
-    ensures { result.now ≡ self_level deny.now }
+    ensures { result.now ≡ spec.self_level deny.now }
 {
     if denies_self(deny) {
         "error: "
@@ -39,7 +40,7 @@ fn self_level(deny: &[DenyOption]) -> &'static str
 
 #[tactic(auto, unfolding(crate::specs::SelfReports::self_line))]
 fn self_line(alloc: Global, deny: &[DenyOption]) -> Result<String, AllocError>
-    ensures { IfOk result (λ text. string_bytes text ≡ self_line deny.now) }
+    ensures { IfOk result (λ text. string_bytes text ≡ spec.self_line deny.now) }
 {
     let mut out = String::from_str(alloc, self_level(deny))?;
     push_message(&mut out)?;
@@ -82,7 +83,7 @@ fn self_lines(
     advisories: &[Advisory],
     places: &[usize],
 ) -> Result<String, AllocError>
-    ensures { IfOk result (λ text. string_bytes text ≡ self_lines advisories.now places.now) }
+    ensures { IfOk result (λ text. string_bytes text ≡ spec.self_lines advisories.now places.now) }
 {
     let mut out = String::new(alloc);
     push_each(alloc, &mut out, advisories, places)?;
@@ -96,7 +97,7 @@ pub fn self_summary(
     deny: &[DenyOption],
     places: &[usize],
 ) -> Result<String, AllocError>
-    ensures { IfOk result (λ text. string_bytes text ≡ self_summary deny.now places.now) }
+    ensures { IfOk result (λ text. string_bytes text ≡ spec.self_summary deny.now places.now) }
 {
     if places.is_empty() {
         Ok(String::new(alloc))
@@ -111,7 +112,7 @@ pub fn self_text(
     advisories: &[Advisory],
     places: &[usize],
 ) -> Result<String, AllocError>
-    ensures { IfOk result (λ text. string_bytes text ≡ self_text advisories.now places.now) }
+    ensures { IfOk result (λ text. string_bytes text ≡ spec.self_text advisories.now places.now) }
 {
     if places.is_empty() {
         Ok(String::new(alloc))

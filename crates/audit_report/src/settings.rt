@@ -2,7 +2,7 @@
 ghost use Rattle.std.specs.Prelude.{◌≡◌, ◌++◌, ◌∷◌, codes, map, option_map, OnOk};
 ghost use Rattle.json.specs.Token.{key};
 ghost use Rattle.json.specs.Tree.{json_tokens};
-ghost use Rattle.audit_report.specs.Adds.{Adds};
+ghost use Rattle.audit_report.specs.WrittenTokens.{WritesTokens};
 ghost use Rattle.audit_report.specs.Objects.{settings_object};
 ghost use Rattle.audit_report.specs.Values.{text_or_null, texts};
 ghost use Rattle.audit_report.specs.Words.{informational_word, severity_word};
@@ -18,7 +18,7 @@ fn write_informational(
     out: &mut Writer,
     informational: &Items<Informational>,
 ) -> Result<(), AllocError>
-    ensures { OnOk result (Adds out.old out.new (key (codes "informational_warnings")
+    ensures { OnOk result (WritesTokens out.old out.new (key (codes "informational_warnings")
         ∷ json_tokens (texts (map informational_word informational.now)))) }
 {
     out.key("informational_warnings")?;
@@ -30,7 +30,7 @@ fn write_informational(
 }
 
 fn write_severity(out: &mut Writer, severity: Option<Severity>) -> Result<(), AllocError>
-    ensures { OnOk result (Adds out.old out.new
+    ensures { OnOk result (WritesTokens out.old out.new
         (key (codes "severity") ∷ json_tokens (text_or_null (option_map severity_word severity)))) }
 {
     write_word(out, "severity", stated_severity(severity))
@@ -38,7 +38,8 @@ fn write_severity(out: &mut Writer, severity: Option<Severity>) -> Result<(), Al
 
 /// Writes what an audit was asked to look at.
 pub fn write_settings(out: &mut Writer, settings: &Settings) -> Result<(), AllocError>
-    ensures { OnOk result (Adds out.old out.new (json_tokens (settings_object settings.now))) }
+    ensures { OnOk result (WritesTokens out.old out.new
+        (json_tokens (settings_object settings.now))) }
 {
     open_object(out)?;
     write_texts(out, "target_arch", &settings.target_arch)?;

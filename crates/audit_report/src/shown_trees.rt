@@ -1,6 +1,7 @@
 //! Trees that a presenter has shown.
 ghost use Rattle.std.specs.Prelude.{◌≡◌, ◌++◌, ◌∷◌, [], IfOk, OnOk, OnErr, length, take};
-ghost use Rattle.audit_report.specs.Shown.{is_due, is_tree_of, shown_with, tree_key, was_shown};
+ghost use Rattle.audit_report.specs.Shown.{is_tree_of, shown_with, tree_key};
+ghost use Rattle.audit_report.specs.Shown as spec;
 
 use audit_lock::Package;
 use std::alloc::Global;
@@ -102,7 +103,7 @@ impl Trees {
 }
 
 fn was_shown(shown: &[ShownTree], locked: &Package) -> bool
-    ensures { result ≡ was_shown shown.now locked.now }
+    ensures { result ≡ spec.was_shown shown.now locked.now }
 {
     shown.iter().any(|tree| tree.is_of(locked))
 }
@@ -110,7 +111,7 @@ fn was_shown(shown: &[ShownTree], locked: &Package) -> bool
 /// Whether a package's tree is to stand: trees are wanted, and it is neither among those known nor
 /// among those added.
 pub fn is_due(wanted: bool, known: &[ShownTree], added: &Trees, locked: &Package) -> bool
-    ensures { result ≡ is_due wanted (known.now ++ added.now) locked.now }
+    ensures { result ≡ spec.is_due wanted (known.now ++ added.now) locked.now }
 {
     wanted && !was_shown(known, locked) && !was_shown(added.as_slice(), locked)
 }

@@ -1,7 +1,8 @@
 //! Status lines.
 ghost use Rattle.std.specs.Prelude.{◌≡◌, ◌++◌, decimal, IfOk, OnOk, string_bytes};
 ghost use Rattle.json.specs.Print.{quoted};
-ghost use Rattle.audit_report.specs.StatusLines.{binary_line, binary_line_in, complete_line, incomplete_line, loaded_line, nothing_line, scanning_line, scanning_line_in, unchecked_line, unchecked_title, updating_line};
+ghost use Rattle.audit_report.specs.StatusLines.{loaded_line, unchecked_line, unchecked_title, updating_line};
+ghost use Rattle.audit_report.specs.StatusLines as spec;
 
 use crate::binaries::Found;
 use audit_advisory::OutputConfig;
@@ -51,7 +52,7 @@ pub fn push_updating(out: &mut String) -> Result<(), AllocError>
 /// The line that tells how many packages the lockfile at a path has.
 #[tactic(auto, unfolding(crate::specs::StatusLines::scanning_line))]
 fn scanning_line(alloc: Global, path: &str, count: usize) -> Result<String, AllocError>
-    ensures { IfOk result (λ text. string_bytes text ≡ scanning_line path.now count) }
+    ensures { IfOk result (λ text. string_bytes text ≡ spec.scanning_line path.now count) }
 {
     let mut out = String::from_str(alloc, "Scanning ")?;
     out.push_str(path)?;
@@ -69,7 +70,7 @@ pub fn scanning_line_in(
     count: usize,
 ) -> Result<String, AllocError>
     ensures { IfOk result (λ text. string_bytes text
-        ≡ scanning_line_in config.now path.now count) }
+        ≡ spec.scanning_line_in config.now path.now count) }
 {
     if config.is_quiet() {
         Ok(String::new(alloc))
@@ -80,7 +81,7 @@ pub fn scanning_line_in(
 
 #[tactic(auto, unfolding(crate::specs::StatusLines::complete_line))]
 fn complete_line(alloc: Global, count: usize, path: &str) -> Result<String, AllocError>
-    ensures { IfOk result (λ text. string_bytes text ≡ complete_line count path.now) }
+    ensures { IfOk result (λ text. string_bytes text ≡ spec.complete_line count path.now) }
 {
     let mut out = String::from_str(alloc, "Found 'cargo auditable' data in ")?;
     out.push_str(path)?;
@@ -92,7 +93,7 @@ fn complete_line(alloc: Global, count: usize, path: &str) -> Result<String, Allo
 
 #[tactic(auto, unfolding(crate::specs::StatusLines::incomplete_line))]
 fn incomplete_line(alloc: Global, count: usize, path: &str) -> Result<String, AllocError>
-    ensures { IfOk result (λ text. string_bytes text ≡ incomplete_line count path.now) }
+    ensures { IfOk result (λ text. string_bytes text ≡ spec.incomplete_line count path.now) }
 {
     let mut out = String::from_str(alloc, "warning: ")?;
     out.push_str(path)?;
@@ -104,7 +105,7 @@ fn incomplete_line(alloc: Global, count: usize, path: &str) -> Result<String, Al
 
 #[tactic(auto, unfolding(crate::specs::StatusLines::nothing_line))]
 fn nothing_line(alloc: Global, path: &str) -> Result<String, AllocError>
-    ensures { IfOk result (λ text. string_bytes text ≡ nothing_line path.now) }
+    ensures { IfOk result (λ text. string_bytes text ≡ spec.nothing_line path.now) }
 {
     let mut out = String::from_str(alloc, "error: No dependency information found in ")?;
     out.push_str(path)?;
@@ -115,7 +116,7 @@ fn nothing_line(alloc: Global, path: &str) -> Result<String, AllocError>
 /// The line that tells what the binary at a path tells of its packages, and how many of them it
 /// names.
 fn binary_line(alloc: Global, found: Found, count: usize, path: &str) -> Result<String, AllocError>
-    ensures { IfOk result (λ text. string_bytes text ≡ binary_line found count path.now) }
+    ensures { IfOk result (λ text. string_bytes text ≡ spec.binary_line found count path.now) }
 {
     match found {
         Found::Complete => complete_line(alloc, count, path),
@@ -133,7 +134,7 @@ pub fn binary_line_in(
     path: &str,
 ) -> Result<String, AllocError>
     ensures { IfOk result (λ text. string_bytes text
-        ≡ binary_line_in config.now found count path.now) }
+        ≡ spec.binary_line_in config.now found count path.now) }
 {
     if !config.is_quiet() {
         return binary_line(alloc, found, count, path);

@@ -1,7 +1,8 @@
 //! The lines that sum up a report.
 ghost use Rattle.std.specs.Prelude.{◌≡◌, ◌++◌, IfOk, OnOk, option_map, string_bytes};
-ghost use Rattle.audit_advisory.specs.Exits.{denies, is_denied};
-ghost use Rattle.audit_report.specs.Summaries.{allowed_line, denied_count, denied_line, ending, found_line, summary, vulnerabilities_line};
+ghost use Rattle.audit_advisory.specs.Exits as spec;
+ghost use Rattle.audit_report.specs.Summaries.{allowed_line, denied_line, ending, found_line, vulnerabilities_line};
+ghost use Rattle.audit_report.specs.Summaries as summaries_spec;
 
 use audit_advisory::{DenyOption, Report, Warning, WarningKind};
 use std::alloc::{AllocError, Global};
@@ -58,7 +59,7 @@ fn push_found(
 
 /// Whether an option denies warnings of a kind.
 fn denies(option: DenyOption, kind: WarningKind) -> bool
-    ensures { result ≡ denies kind option }
+    ensures { result ≡ spec.denies kind option }
 {
     option
         .get_warning_kind()
@@ -68,13 +69,13 @@ fn denies(option: DenyOption, kind: WarningKind) -> bool
 
 /// Whether some option does.
 fn is_denied(deny: &[DenyOption], kind: WarningKind) -> bool
-    ensures { result ≡ is_denied deny.now kind }
+    ensures { result ≡ spec.is_denied deny.now kind }
 {
     deny.iter().any(|option| denies(*option, kind))
 }
 
 fn denied_count(deny: &[DenyOption], warnings: &[Warning]) -> usize
-    ensures { result ≡ denied_count deny.now warnings.now }
+    ensures { result ≡ summaries_spec.denied_count deny.now warnings.now }
 {
     warnings
         .iter()
@@ -145,7 +146,7 @@ pub fn summary(
     report: &Report,
 ) -> Result<String, AllocError>
     ensures { IfOk result (λ text. string_bytes text
-        ≡ summary deny.now (option_map (λ p. p.now) path.entry) report.now) }
+        ≡ summaries_spec.summary deny.now (option_map (λ p. p.now) path.entry) report.now) }
 {
     let warnings = report.warnings.as_slice();
     let denied = denied_count(deny, warnings);

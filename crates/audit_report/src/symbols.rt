@@ -1,7 +1,8 @@
 //! Symbols of a binary, and the function paths that name one of them.
 ghost use Rattle.std.specs.Prelude.{◌≡◌, ◌&&◌, ◌∷◌, ◌++◌, ◌<◌, [], length, map, bytes_eq, MatchOption};
 ghost use Rattle.std.specs.List.{filter, list_any};
-ghost use Rattle.audit_report.specs.Symbols.{is_kept, is_subsequence, names, plain};
+ghost use Rattle.audit_report.specs.Symbols.{is_kept};
+ghost use Rattle.audit_report.specs.Symbols as spec;
 
 use audit_advisory::FunctionPath;
 use std::marker::Model;
@@ -9,7 +10,7 @@ use tame_names::{Items, Text};
 
 /// A segment up to its first `<`.
 fn plain(segment: &str) -> &str
-    ensures { result.now ≡ plain segment.now }
+    ensures { result.now ≡ spec.plain segment.now }
 {
     match segment.split_once('<') {
         Some((front, _)) => front,
@@ -19,14 +20,14 @@ fn plain(segment: &str) -> &str
 
 /// Whether a segment's plain text is a symbol's segment.
 fn is_segment(wanted: &Text, segment: &Text) -> bool
-    ensures { result ≡ bytes_eq (plain wanted.now) segment.now }
+    ensures { result ≡ bytes_eq (spec.plain wanted.now) segment.now }
 {
     plain(wanted.as_str()) == segment.as_str()
 }
 
 /// Whether wanted segments stand among a symbol's, in their order.
 fn is_subsequence(wanted: &[Text], symbol: &[Text]) -> bool
-    ensures { result ≡ is_subsequence (map plain wanted.now) symbol.now }
+    ensures { result ≡ spec.is_subsequence (map spec.plain wanted.now) symbol.now }
 {
     let mut left = wanted;
     for segment in symbol {
@@ -64,9 +65,9 @@ fn ends_of(path: &[Text]) -> Option<Ends<'_>>
 
 /// Whether the parts of a wanted path name the symbol of these parts.
 fn names_between(wanted: &Ends<'_>, symbol: &Ends<'_>) -> bool
-    ensures { result ≡ (bytes_eq (plain wanted.now.first.now) symbol.now.first.now
-        && is_subsequence (map plain wanted.now.middle.now) symbol.now.middle.now
-        && bytes_eq (plain wanted.now.last.now) symbol.now.last.now) }
+    ensures { result ≡ (bytes_eq (spec.plain wanted.now.first.now) symbol.now.first.now
+        && spec.is_subsequence (map spec.plain wanted.now.middle.now) symbol.now.middle.now
+        && bytes_eq (spec.plain wanted.now.last.now) symbol.now.last.now) }
 {
     is_segment(wanted.first, symbol.first)
         && is_subsequence(wanted.middle, symbol.middle)
@@ -75,7 +76,7 @@ fn names_between(wanted: &Ends<'_>, symbol: &Ends<'_>) -> bool
 
 /// Whether a wanted path names a symbol.
 fn names(wanted: &[Text], symbol: &[Text]) -> bool
-    ensures { result ≡ names (map plain wanted.now) symbol.now }
+    ensures { result ≡ spec.names (map spec.plain wanted.now) symbol.now }
 {
     if let ([only], [segment]) = (wanted, symbol) {
         return is_segment(only, segment);
@@ -98,6 +99,7 @@ pub struct SymbolSet {
 impl Model for SymbolSet {
     ghost use Rattle.std.specs.Prelude.{List};
     ghost use Rattle.audit_report.specs.Symbols.{Segments};
+    ghost use Rattle.audit_report.specs.Symbols as spec;
 
     ghost Value = { List Segments };
 
@@ -168,6 +170,7 @@ impl<'a> Model for Filtered<'a> {
     ghost use Rattle.std.specs.Prelude.{List};
     ghost use Rattle.std.specs.List.{filter};
     ghost use Rattle.audit_report.specs.Symbols.{Segments, is_kept};
+    ghost use Rattle.audit_report.specs.Symbols as spec;
 
     ghost Value = { List Segments };
 

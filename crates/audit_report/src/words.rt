@@ -1,13 +1,13 @@
 //! The words of what is reported.
 ghost use Rattle.std.specs.Prelude.{◌≡◌, option_map};
-ghost use Rattle.audit_report.specs.Words.{informational_word, kind_word, severity_word};
+ghost use Rattle.audit_report.specs.Words as spec;
 
 use audit_advisory::{Informational, Severity, WarningKind};
 
 /// The word of a severity.
 #[tactic(auto, unfolding(crate::specs::Words::severity_word))]
 pub fn severity_word(severity: Severity) -> &'static str
-    ensures { result.now ≡ severity_word severity }
+    ensures { result.now ≡ spec.severity_word severity }
 {
     match severity {
         Severity::None => "none",
@@ -21,7 +21,7 @@ pub fn severity_word(severity: Severity) -> &'static str
 /// The word of a kind of warning.
 #[tactic(auto, unfolding(crate::specs::Words::kind_word))]
 pub fn kind_word(kind: WarningKind) -> &'static str
-    ensures { result.now ≡ kind_word kind }
+    ensures { result.now ≡ spec.kind_word kind }
 {
     match kind {
         WarningKind::Notice => "notice",
@@ -33,7 +33,7 @@ pub fn kind_word(kind: WarningKind) -> &'static str
 
 /// The word of what an advisory informs of.
 pub fn informational_word(informational: &Informational) -> &str
-    ensures { result.now ≡ informational_word informational.now }
+    ensures { result.now ≡ spec.informational_word informational.now }
 {
     match informational {
         Informational::Notice => "notice",
@@ -45,7 +45,7 @@ pub fn informational_word(informational: &Informational) -> &str
 
 /// The word of a severity that may be absent.
 pub fn stated_severity(severity: Option<Severity>) -> Option<&'static str>
-    ensures { option_map (λ w. w.now) result ≡ option_map severity_word severity }
+    ensures { option_map (λ w. w.now) result ≡ option_map spec.severity_word severity }
 {
     match severity {
         None => None,
@@ -56,7 +56,7 @@ pub fn stated_severity(severity: Option<Severity>) -> Option<&'static str>
 /// The word of what an advisory informs of, if it does.
 pub fn stated_informational(informational: &Option<Informational>) -> Option<&str>
     ensures { option_map (λ w. w.now) result
-        ≡ option_map informational_word informational.now }
+        ≡ option_map spec.informational_word informational.now }
 {
     match informational {
         None => None,

@@ -1,2 +1,3 @@
+pub mod Denied
 pub mod First
 pub mod Noted

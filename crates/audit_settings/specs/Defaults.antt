@@ -9,7 +9,11 @@ use Rattle.audit_settings.specs.declared.configs.TargetConfig.{TargetConfig}
 use Rattle.audit_settings.specs.declared.configs.YankedConfig.{YankedConfig}
 
 abbrev pub default_advisories : AdvisoryConfig
-default_advisories = record { ignore = []; informational_warnings = None; severity_threshold = None }
+default_advisories = record {
+  ignore = [];
+  informational_warnings = None;
+  severity_threshold = None;
+}
 
 abbrev pub default_database : DatabaseConfig
 default_database = record { path = None; url = None; fetch = true; stale = false }

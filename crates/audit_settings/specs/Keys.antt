@@ -1,5 +1,5 @@
--- The tables of the settings and their keys, in the order in which they are looked at (the file `audit.toml` of
--- cargo-audit).
+-- The tables of the settings and their keys, in the order in which they are looked at (the file
+-- `audit.toml` of cargo-audit).
 use Rattle.std.specs.Prelude.{ℕ, codes, List, [], ◌∷◌, ◌++◌, Bool, true, false, bytes_eq, Option, Some, None, if◌then◌else◌}
 use Rattle.audit_settings.specs.declared.sections.Section.{Section}
 use Rattle.audit_settings.specs.declared.sections.Section.TheVariants.{Advisories, Database, Output, Target, Yanked}

@@ -1,5 +1,6 @@
 pub mod Commands
 pub mod Defaults
+pub mod Denied
 pub mod Keys
 pub mod Overriding
 pub mod Refusals

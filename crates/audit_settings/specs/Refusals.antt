@@ -3,8 +3,8 @@ use Rattle.std.specs.Prelude.{◌≡◌, ◌≢◌, ℕ, List, Result, Err, IfEr
 use Rattle.audit_settings.specs.declared.configs.SettingsFault.{SettingsFault}
 use Rattle.audit_settings.specs.declared.configs.SettingsFault.TheVariants as fault
 
--- the text is no TOML; it has a float; a key is unknown, is missing, or has a value of another form; no text is refused
--- with want of memory
+-- the text is no TOML; it has a float; a key is unknown, is missing, or has a value of another
+-- form; no text is refused with want of memory
 pub data Refusal : Type 0 where
   no_toml : Refusal
   has_a_float : Refusal

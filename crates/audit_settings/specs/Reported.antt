@@ -35,10 +35,12 @@ abbrev pub stated_kinds : Option (List Informational) → List Informational
 stated_kinds None = Unmaintained ∷ Unsound ∷ Notice ∷ []
 stated_kinds (Some ks) = ks
 
--- these kinds, and those that are denied, one option after the other; `warnings` adds all and is the last that counts
+-- these kinds, and those that are denied, one option after the other; `warnings` adds all and is
+-- the last that counts
 abbrev pub warned_of : List DenyOption → List Informational → List Informational
 warned_of [] ks = ks
-warned_of (deny.Warnings ∷ options) ks = with_kind Unsound (with_kind Unmaintained (with_kind Notice ks))
+warned_of (deny.Warnings ∷ options) ks =
+    with_kind Unsound (with_kind Unmaintained (with_kind Notice ks))
 warned_of (deny.Unmaintained ∷ options) ks = warned_of options (with_kind Unmaintained ks)
 warned_of (deny.Unsound ∷ options) ks = warned_of options (with_kind Unsound ks)
 warned_of (deny.Yanked ∷ options) ks = warned_of options ks
@@ -49,5 +51,6 @@ report_settings config = record {
   severity = config.advisories.severity_threshold;
   target_arch = filter_texts config.target.arch;
   target_os = filter_texts config.target.os;
-  informational_warnings = warned_of config.output.deny (stated_kinds config.advisories.informational_warnings);
+  informational_warnings = warned_of config.output.deny
+      (stated_kinds config.advisories.informational_warnings);
 }

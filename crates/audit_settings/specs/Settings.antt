@@ -2,7 +2,7 @@
 use Rattle.std.specs.Prelude.{ℕ, codes, List, [], ◌∷◌, Bool, true, bytes_eq, Option, Some, None, option_map, option_and_then, unwrap_or, if◌then◌else◌, Result, Ok, Err, map}
 use Rattle.toml.specs.Data.{Data, string, Members, as_bool, as_str, as_table, get_member}
 use Rattle.toml.specs.Parse.{parse_document}
-use Rattle.toml_tables.specs.Answers.{and_then, or_fault}
+use Rattle.toml_tables.specs.Results.{and_then, or_fault}
 use Rattle.toml_tables.specs.Floats.{members_have_float}
 use Rattle.toml_tables.specs.Members.{optional, optional_texts, texts_of}
 use Rattle.audit_advisory.specs.Fields.{kind_of}
@@ -70,7 +70,8 @@ text_field key place ms = or_fault (wrong place) (optional as_str (get_member ke
 -- a flag, by default true
 abbrev pub flag_field : List ℕ → List ℕ → Members → Result Bool Refusal
 flag_field key place ms =
-    or_fault (wrong place) (option_map (λ flag. unwrap_or flag true) (optional as_bool (get_member key ms)))
+    or_fault (wrong place) (option_map (λ flag. unwrap_or flag true)
+    (optional as_bool (get_member key ms)))
 
 -- a flag that has to be there
 abbrev pub flag_there : List ℕ → Option Bool → Result Bool Refusal
@@ -123,7 +124,8 @@ deny_field ms = or_fault (wrong (codes "output.deny")) (deny_options (get_member
 abbrev pub format_field : Members → Result OutputFormat Refusal
 format_field ms =
     or_fault (wrong (codes "output.format"))
-    (option_map (λ word. unwrap_or word format.Terminal) (optional as_format (get_member (codes "format") ms)))
+    (option_map (λ word. unwrap_or word format.Terminal)
+    (optional as_format (get_member (codes "format") ms)))
 
 abbrev pub output_of : Option Members → Result OutputConfig Refusal
 output_of None = Ok default_output
@@ -158,8 +160,15 @@ written table ms = or_fault (wrong table) (optional as_table (get_member table m
 -- the tables in their order
 abbrev pub tables_of : Members → Result AuditConfig Refusal
 tables_of ms =
-    and_then (λ advisories. and_then (λ database. and_then (λ output. and_then (λ target. and_then (λ yanked.
-    Ok (record { advisories = advisories; database = database; output = output; target = target; yanked = yanked }))
+    and_then (λ advisories. and_then
+    (λ database. and_then (λ output. and_then (λ target. and_then (λ yanked.
+    Ok (record {
+      advisories = advisories;
+      database = database;
+      output = output;
+      target = target;
+      yanked = yanked;
+    }))
     (and_then yanked_of (written (codes "yanked") ms)))
     (and_then target_of (written (codes "target") ms)))
     (and_then output_of (written (codes "output") ms)))

@@ -5,7 +5,8 @@ ghost use Rattle.toml.specs.View.{view, table_view};
 ghost use Rattle.toml_tables.specs.Members.{optional};
 ghost use Rattle.audit_advisory.specs.Fields.{kind_of};
 ghost use Rattle.audit_settings.specs.Refusals.{Refuses};
-ghost use Rattle.audit_settings.specs.Settings.{as_filter, as_format, as_kinds, as_severity, deny_options, deny_options_in, filter_field, flag_field, required_flag, severity_named, text_field};
+ghost use Rattle.audit_settings.specs.Settings.{as_filter, as_format, as_kinds, as_severity};
+ghost use Rattle.audit_settings.specs.Settings as spec;
 
 use crate::configs::{FilterList, SettingsFault};
 use audit_advisory::{DenyOption, Informational, OutputFormat, Severity};
@@ -16,7 +17,7 @@ use toml_tables::{member, optional_flag, optional_text, optional_texts, texts_of
 
 /// The severity that a word in lower case names.
 fn severity_named(text: &str) -> Option<Severity>
-    ensures { result ≡ severity_named text.now }
+    ensures { result ≡ spec.severity_named text.now }
 {
     match text {
         "none" => Some(Severity::None),
@@ -77,7 +78,7 @@ pub fn optional_kinds(
 }
 
 fn deny_options_in(alloc: Global, texts: &[Text]) -> Result<Option<Items<DenyOption>>, NoMemory>
-    ensures { IfOk result (λ options. options ≡ deny_options_in texts.now) }
+    ensures { IfOk result (λ options. options ≡ spec.deny_options_in texts.now) }
 {
     let mut options = Items::new(alloc);
     for text in texts {
@@ -95,7 +96,7 @@ pub fn deny_options(
     member: Option<&Value>,
 ) -> Result<Option<Items<DenyOption>>, NoMemory>
     ensures { IfOk result (λ options.
-        options ≡ deny_options (option_map (λ v. view v.now) member.entry)) }
+        options ≡ spec.deny_options (option_map (λ v. view v.now) member.entry)) }
 {
     match optional_texts(alloc, member)? {
         None => Ok(None),
@@ -122,8 +123,9 @@ pub fn text_field(
     key: &str,
     place: &'static str,
 ) -> Result<Option<Text>, SettingsFault>
-    ensures ok { IfOk result (λ t. text_field key.now place.now (table_view table.now) ≡ Ok t) }
-    ensures refused { Refuses result (text_field key.now place.now (table_view table.now)) }
+    ensures ok { IfOk result (λ t. spec.text_field key.now place.now (table_view table.now)
+        ≡ Ok t) }
+    ensures refused { Refuses result (spec.text_field key.now place.now (table_view table.now)) }
 {
     match optional_text(member(table, key)) {
         Some(text) => Ok(Text::of_option(alloc, text)?),
@@ -133,8 +135,9 @@ pub fn text_field(
 
 /// A flag, true where it is absent.
 pub fn flag_field(table: &Table, key: &str, place: &'static str) -> Result<bool, SettingsFault>
-    ensures ok { IfOk result (λ b. flag_field key.now place.now (table_view table.now) ≡ Ok b) }
-    ensures refused { Refuses result (flag_field key.now place.now (table_view table.now)) }
+    ensures ok { IfOk result (λ b. spec.flag_field key.now place.now (table_view table.now)
+        ≡ Ok b) }
+    ensures refused { Refuses result (spec.flag_field key.now place.now (table_view table.now)) }
 {
     match optional_flag(member(table, key)) {
         Some(Some(flag)) => Ok(flag),
@@ -145,8 +148,9 @@ pub fn flag_field(table: &Table, key: &str, place: &'static str) -> Result<bool,
 
 /// A flag that has to be there.
 pub fn required_flag(table: &Table, key: &str, place: &'static str) -> Result<bool, SettingsFault>
-    ensures ok { IfOk result (λ b. required_flag key.now place.now (table_view table.now) ≡ Ok b) }
-    ensures refused { Refuses result (required_flag key.now place.now (table_view table.now)) }
+    ensures ok { IfOk result (λ b. spec.required_flag key.now place.now (table_view table.now)
+        ≡ Ok b) }
+    ensures refused { Refuses result (spec.required_flag key.now place.now (table_view table.now)) }
 {
     match optional_flag(member(table, key)) {
         Some(Some(flag)) => Ok(flag),
@@ -162,8 +166,9 @@ pub fn filter_field(
     key: &str,
     place: &'static str,
 ) -> Result<Option<FilterList>, SettingsFault>
-    ensures ok { IfOk result (λ f. filter_field key.now place.now (table_view table.now) ≡ Ok f) }
-    ensures refused { Refuses result (filter_field key.now place.now (table_view table.now)) }
+    ensures ok { IfOk result (λ f. spec.filter_field key.now place.now (table_view table.now)
+        ≡ Ok f) }
+    ensures refused { Refuses result (spec.filter_field key.now place.now (table_view table.now)) }
 {
     let Some(value) = member(table, key) else {
         return Ok(None);

@@ -1,4 +1,14 @@
 //! The settings of an audit: what `audit.toml` says, and how the words of a command override it.
+//!
+//! Promises: a text reads to its settings, or the first rule that it breaks is named with its
+//! place; an option changes exactly its setting, and no option changes none.
+//! Stands on `tame_names`, `toml_tables`, and the settings of a report of `audit_advisory`.
+//!
+//! ```ignore
+//! let config = AuditConfig::from_toml(alloc, "[advisories]\nignore = [\"RUSTSEC-2099-0001\"]")?;
+//! let config = command.override_config(alloc, config)?;
+//! let settings = config.report_settings(alloc)?;
+//! ```
 #![tactic(auto)]
 
 mod commands;
@@ -16,4 +26,7 @@ pub use configs::{
     AdvisoryConfig, AuditConfig, CONFIG_FILE, DatabaseConfig, FilterList, SettingsFault,
     TargetConfig, YankedConfig,
 };
-pub use laws::{commands_of_no_option, defaults_are_read_from_nothing, first_key_is_first};
+pub use laws::{
+    commands_of_no_option, defaults_are_read_from_nothing, denied_kinds_are_warned_of,
+    denied_options_are_appended, first_key_is_first,
+};

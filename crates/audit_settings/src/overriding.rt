@@ -1,6 +1,7 @@
 //! The settings of a file under the options of a command.
 ghost use Rattle.std.specs.Prelude.{◌≡◌, IfOk};
-ghost use Rattle.audit_settings.specs.Overriding.{advisories_under, database_under, denied, filter_or, format_of, given_or, output_under, overridden, target_under, yanked_under};
+ghost use Rattle.audit_settings.specs.Overriding.{overridden};
+ghost use Rattle.audit_settings.specs.Overriding as spec;
 
 use crate::commands::AuditCommand;
 use crate::configs::{
@@ -17,7 +18,7 @@ fn given_or(
     given: &Option<Text>,
     settled: Option<Text>,
 ) -> Result<Option<Text>, NoMemory>
-    ensures { IfOk result (λ text. text ≡ given_or given.now settled) }
+    ensures { IfOk result (λ text. text ≡ spec.given_or given.now settled) }
 {
     match given {
         None => Ok(settled),
@@ -31,7 +32,7 @@ fn filter_or(
     given: &[Text],
     settled: Option<FilterList>,
 ) -> Result<Option<FilterList>, NoMemory>
-    ensures { IfOk result (λ filter. filter ≡ filter_or given.now settled) }
+    ensures { IfOk result (λ filter. filter ≡ spec.filter_or given.now settled) }
 {
     if given.is_empty() {
         return Ok(settled);
@@ -45,7 +46,7 @@ fn denied(
     given: &[DenyOption],
     settled: Items<DenyOption>,
 ) -> Result<Items<DenyOption>, NoMemory>
-    ensures { IfOk result (λ options. options ≡ denied given.now settled) }
+    ensures { IfOk result (λ options. options ≡ spec.denied given.now settled) }
 {
     let mut options = settled;
     for option in given {
@@ -59,7 +60,7 @@ fn denied(
 
 impl AuditCommand {
     fn format_of(&self, settled: OutputFormat) -> OutputFormat
-        ensures { result ≡ format_of self.now settled }
+        ensures { result ≡ spec.format_of self.now settled }
     {
         if self.output_json {
             OutputFormat::Json
@@ -76,7 +77,7 @@ impl AuditCommand {
         alloc: Global,
         settled: AdvisoryConfig,
     ) -> Result<AdvisoryConfig, NoMemory>
-        ensures { IfOk result (λ c. c ≡ advisories_under self.now settled) }
+        ensures { IfOk result (λ c. c ≡ spec.advisories_under self.now settled) }
     {
         let mut advisories = settled;
         add_texts(alloc, &mut advisories.ignore, self.ignore.as_slice())?;
@@ -88,7 +89,7 @@ impl AuditCommand {
         alloc: Global,
         settled: DatabaseConfig,
     ) -> Result<DatabaseConfig, NoMemory>
-        ensures { IfOk result (λ c. c ≡ database_under self.now settled) }
+        ensures { IfOk result (λ c. c ≡ spec.database_under self.now settled) }
     {
         Ok(DatabaseConfig {
             path: given_or(alloc, &self.db, settled.path)?,
@@ -99,7 +100,7 @@ impl AuditCommand {
     }
 
     fn output_under(&self, alloc: Global, settled: OutputConfig) -> Result<OutputConfig, NoMemory>
-        ensures { IfOk result (λ c. c ≡ output_under self.now settled) }
+        ensures { IfOk result (λ c. c ≡ spec.output_under self.now settled) }
     {
         Ok(OutputConfig {
             deny: denied(alloc, self.deny.as_slice(), settled.deny)?,
@@ -110,7 +111,7 @@ impl AuditCommand {
     }
 
     fn target_under(&self, alloc: Global, settled: TargetConfig) -> Result<TargetConfig, NoMemory>
-        ensures { IfOk result (λ c. c ≡ target_under self.now settled) }
+        ensures { IfOk result (λ c. c ≡ spec.target_under self.now settled) }
     {
         Ok(TargetConfig {
             arch: filter_or(alloc, self.target_arch.as_slice(), settled.arch)?,
@@ -119,7 +120,7 @@ impl AuditCommand {
     }
 
     fn yanked_under(&self, settled: YankedConfig) -> YankedConfig
-        ensures { result ≡ yanked_under self.now settled }
+        ensures { result ≡ spec.yanked_under self.now settled }
     {
         YankedConfig {
             enabled: settled.enabled && !self.no_yanked,

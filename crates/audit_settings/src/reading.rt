@@ -2,7 +2,8 @@
 ghost use Rattle.std.specs.Prelude.{◌≡◌, IfOk, Ok, option_map};
 ghost use Rattle.toml.specs.View.{table_view};
 ghost use Rattle.audit_settings.specs.Refusals.{Refuses};
-ghost use Rattle.audit_settings.specs.Settings.{advisories_of, database_of, deny_field, format_field, ignore_field, kinds_field, output_of, settings, settings_in, severity_field, tables_of, target_of, written, yanked_of};
+ghost use Rattle.audit_settings.specs.Settings.{settings};
+ghost use Rattle.audit_settings.specs.Settings as spec;
 
 use crate::configs::{
     AdvisoryConfig, AuditConfig, DatabaseConfig, SettingsFault, TargetConfig, YankedConfig,
@@ -21,8 +22,8 @@ use toml_tables::{
 };
 
 fn ignore_field(alloc: Global, table: &Table) -> Result<Items<Text>, SettingsFault>
-    ensures ok { IfOk result (λ ts. ignore_field (table_view table.now) ≡ Ok ts) }
-    ensures refused { Refuses result (ignore_field (table_view table.now)) }
+    ensures ok { IfOk result (λ ts. spec.ignore_field (table_view table.now) ≡ Ok ts) }
+    ensures refused { Refuses result (spec.ignore_field (table_view table.now)) }
 {
     match optional_texts(alloc, member(table, "ignore"))? {
         Some(texts) => Ok(texts),
@@ -33,8 +34,8 @@ fn ignore_field(alloc: Global, table: &Table) -> Result<Items<Text>, SettingsFau
 }
 
 fn kinds_field(alloc: Global, table: &Table) -> Result<Option<Items<Informational>>, SettingsFault>
-    ensures ok { IfOk result (λ ks. kinds_field (table_view table.now) ≡ Ok ks) }
-    ensures refused { Refuses result (kinds_field (table_view table.now)) }
+    ensures ok { IfOk result (λ ks. spec.kinds_field (table_view table.now) ≡ Ok ks) }
+    ensures refused { Refuses result (spec.kinds_field (table_view table.now)) }
 {
     match optional_kinds(alloc, member(table, "informational_warnings"))? {
         Some(kinds) => Ok(kinds),
@@ -45,8 +46,8 @@ fn kinds_field(alloc: Global, table: &Table) -> Result<Option<Items<Informationa
 }
 
 fn severity_field(table: &Table) -> Result<Option<Severity>, SettingsFault>
-    ensures ok { IfOk result (λ s. severity_field (table_view table.now) ≡ Ok s) }
-    ensures refused { Refuses result (severity_field (table_view table.now)) }
+    ensures ok { IfOk result (λ s. spec.severity_field (table_view table.now) ≡ Ok s) }
+    ensures refused { Refuses result (spec.severity_field (table_view table.now)) }
 {
     match optional_severity(member(table, "severity_threshold")) {
         Some(threshold) => Ok(threshold),
@@ -58,9 +59,9 @@ fn severity_field(table: &Table) -> Result<Option<Severity>, SettingsFault>
 
 fn advisories_of(alloc: Global, table: Option<&Table>) -> Result<AdvisoryConfig, SettingsFault>
     ensures ok { IfOk result (λ c.
-        advisories_of (option_map (λ t. table_view t.now) table.entry) ≡ Ok c) }
+        spec.advisories_of (option_map (λ t. table_view t.now) table.entry) ≡ Ok c) }
     ensures refused { Refuses result
-        (advisories_of (option_map (λ t. table_view t.now) table.entry)) }
+        (spec.advisories_of (option_map (λ t. table_view t.now) table.entry)) }
 {
     let Some(table) = table else {
         return Ok(AuditConfig::new(alloc)?.advisories);
@@ -74,9 +75,9 @@ fn advisories_of(alloc: Global, table: Option<&Table>) -> Result<AdvisoryConfig,
 
 fn database_of(alloc: Global, table: Option<&Table>) -> Result<DatabaseConfig, SettingsFault>
     ensures ok { IfOk result (λ c.
-        database_of (option_map (λ t. table_view t.now) table.entry) ≡ Ok c) }
+        spec.database_of (option_map (λ t. table_view t.now) table.entry) ≡ Ok c) }
     ensures refused { Refuses result
-        (database_of (option_map (λ t. table_view t.now) table.entry)) }
+        (spec.database_of (option_map (λ t. table_view t.now) table.entry)) }
 {
     let Some(table) = table else {
         return Ok(AuditConfig::new(alloc)?.database);
@@ -90,8 +91,8 @@ fn database_of(alloc: Global, table: Option<&Table>) -> Result<DatabaseConfig, S
 }
 
 fn deny_field(alloc: Global, table: &Table) -> Result<Items<DenyOption>, SettingsFault>
-    ensures ok { IfOk result (λ os. deny_field (table_view table.now) ≡ Ok os) }
-    ensures refused { Refuses result (deny_field (table_view table.now)) }
+    ensures ok { IfOk result (λ os. spec.deny_field (table_view table.now) ≡ Ok os) }
+    ensures refused { Refuses result (spec.deny_field (table_view table.now)) }
 {
     match deny_options(alloc, member(table, "deny"))? {
         Some(options) => Ok(options),
@@ -100,8 +101,8 @@ fn deny_field(alloc: Global, table: &Table) -> Result<Items<DenyOption>, Setting
 }
 
 fn format_field(table: &Table) -> Result<OutputFormat, SettingsFault>
-    ensures ok { IfOk result (λ f. format_field (table_view table.now) ≡ Ok f) }
-    ensures refused { Refuses result (format_field (table_view table.now)) }
+    ensures ok { IfOk result (λ f. spec.format_field (table_view table.now) ≡ Ok f) }
+    ensures refused { Refuses result (spec.format_field (table_view table.now)) }
 {
     match optional_format(member(table, "format")) {
         Some(Some(format)) => Ok(format),
@@ -114,9 +115,9 @@ fn format_field(table: &Table) -> Result<OutputFormat, SettingsFault>
 
 fn output_of(alloc: Global, table: Option<&Table>) -> Result<OutputConfig, SettingsFault>
     ensures ok { IfOk result (λ c.
-        output_of (option_map (λ t. table_view t.now) table.entry) ≡ Ok c) }
+        spec.output_of (option_map (λ t. table_view t.now) table.entry) ≡ Ok c) }
     ensures refused { Refuses result
-        (output_of (option_map (λ t. table_view t.now) table.entry)) }
+        (spec.output_of (option_map (λ t. table_view t.now) table.entry)) }
 {
     let Some(table) = table else {
         return Ok(AuditConfig::new(alloc)?.output);
@@ -131,9 +132,9 @@ fn output_of(alloc: Global, table: Option<&Table>) -> Result<OutputConfig, Setti
 
 fn target_of(alloc: Global, table: Option<&Table>) -> Result<TargetConfig, SettingsFault>
     ensures ok { IfOk result (λ c.
-        target_of (option_map (λ t. table_view t.now) table.entry) ≡ Ok c) }
+        spec.target_of (option_map (λ t. table_view t.now) table.entry) ≡ Ok c) }
     ensures refused { Refuses result
-        (target_of (option_map (λ t. table_view t.now) table.entry)) }
+        (spec.target_of (option_map (λ t. table_view t.now) table.entry)) }
 {
     let Some(table) = table else {
         return Ok(TargetConfig {
@@ -149,9 +150,9 @@ fn target_of(alloc: Global, table: Option<&Table>) -> Result<TargetConfig, Setti
 
 fn yanked_of(table: Option<&Table>) -> Result<YankedConfig, SettingsFault>
     ensures ok { IfOk result (λ c.
-        yanked_of (option_map (λ t. table_view t.now) table.entry) ≡ Ok c) }
+        spec.yanked_of (option_map (λ t. table_view t.now) table.entry) ≡ Ok c) }
     ensures refused { Refuses result
-        (yanked_of (option_map (λ t. table_view t.now) table.entry)) }
+        (spec.yanked_of (option_map (λ t. table_view t.now) table.entry)) }
 {
     let Some(table) = table else {
         return Ok(YankedConfig {
@@ -168,8 +169,8 @@ fn yanked_of(table: Option<&Table>) -> Result<YankedConfig, SettingsFault>
 /// A table by its name, or that it isn't written.
 fn written<'a>(table: &'a Table, name: &'static str) -> Result<Option<&'a Table>, SettingsFault>
     ensures ok { IfOk result (λ t.
-        written name.now (table_view table.now) ≡ Ok (option_map (λ x. table_view x.now) t)) }
-    ensures refused { Refuses result (written name.now (table_view table.now)) }
+        spec.written name.now (table_view table.now) ≡ Ok (option_map (λ x. table_view x.now) t)) }
+    ensures refused { Refuses result (spec.written name.now (table_view table.now)) }
 {
     match optional_table(member(table, name)) {
         Some(found) => Ok(found),
@@ -178,8 +179,8 @@ fn written<'a>(table: &'a Table, name: &'static str) -> Result<Option<&'a Table>
 }
 
 fn tables_of(alloc: Global, table: &Table) -> Result<AuditConfig, SettingsFault>
-    ensures ok { IfOk result (λ c. tables_of (table_view table.now) ≡ Ok c) }
-    ensures refused { Refuses result (tables_of (table_view table.now)) }
+    ensures ok { IfOk result (λ c. spec.tables_of (table_view table.now) ≡ Ok c) }
+    ensures refused { Refuses result (spec.tables_of (table_view table.now)) }
 {
     Ok(AuditConfig {
         advisories: advisories_of(alloc, written(table, "advisories")?)?,
@@ -191,8 +192,8 @@ fn tables_of(alloc: Global, table: &Table) -> Result<AuditConfig, SettingsFault>
 }
 
 fn settings_in(alloc: Global, table: &Table) -> Result<AuditConfig, SettingsFault>
-    ensures ok { IfOk result (λ c. settings_in (table_view table.now) ≡ Ok c) }
-    ensures refused { Refuses result (settings_in (table_view table.now)) }
+    ensures ok { IfOk result (λ c. spec.settings_in (table_view table.now) ≡ Ok c) }
+    ensures refused { Refuses result (spec.settings_in (table_view table.now)) }
 {
     if table_has_float(table) {
         return Err(SettingsFault::Float);

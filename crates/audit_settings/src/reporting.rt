@@ -1,6 +1,7 @@
 //! What the settings ask of advisories.
 ghost use Rattle.std.specs.Prelude.{◌≡◌, ◌++◌, IfOk, OnOk};
-ghost use Rattle.audit_settings.specs.Reported.{filter_texts, has_kind, is_same_kind, report_settings, stated_kinds, warned_of, with_kind};
+ghost use Rattle.audit_settings.specs.Reported.{warned_of, with_kind};
+ghost use Rattle.audit_settings.specs.Reported as spec;
 
 use crate::configs::{AuditConfig, FilterList, TargetConfig};
 use audit_advisory::{DenyOption, Informational, Settings};
@@ -39,7 +40,7 @@ fn kinds_copied(alloc: Global, kinds: &[Informational]) -> Result<Items<Informat
 }
 
 fn filter_texts(alloc: Global, filter: &Option<FilterList>) -> Result<Items<Text>, NoMemory>
-    ensures { IfOk result (λ texts. texts ≡ filter_texts filter.now) }
+    ensures { IfOk result (λ texts. texts ≡ spec.filter_texts filter.now) }
 {
     let mut texts = Items::new(alloc);
     match filter {
@@ -53,21 +54,21 @@ fn filter_texts(alloc: Global, filter: &Option<FilterList>) -> Result<Items<Text
 impl TargetConfig {
     /// The architectures that count; all, where there is none.
     pub fn arch(&self, alloc: Global) -> Result<Items<Text>, NoMemory>
-        ensures { IfOk result (λ texts. texts ≡ filter_texts self.now.arch) }
+        ensures { IfOk result (λ texts. texts ≡ spec.filter_texts self.now.arch) }
     {
         filter_texts(alloc, &self.arch)
     }
 
     /// The systems that count; all, where there is none.
     pub fn os(&self, alloc: Global) -> Result<Items<Text>, NoMemory>
-        ensures { IfOk result (λ texts. texts ≡ filter_texts self.now.os) }
+        ensures { IfOk result (λ texts. texts ≡ spec.filter_texts self.now.os) }
     {
         filter_texts(alloc, &self.os)
     }
 }
 
 fn is_same_kind(kind: &Informational, other: &Informational) -> bool
-    ensures { result ≡ is_same_kind kind.now other.now }
+    ensures { result ≡ spec.is_same_kind kind.now other.now }
 {
     match (kind, other) {
         (Informational::Notice, Informational::Notice) => true,
@@ -79,7 +80,7 @@ fn is_same_kind(kind: &Informational, other: &Informational) -> bool
 }
 
 fn has_kind(kinds: &[Informational], kind: &Informational) -> bool
-    ensures { result ≡ has_kind kind.now kinds.now }
+    ensures { result ≡ spec.has_kind kind.now kinds.now }
 {
     for listed in kinds {
         if is_same_kind(listed, kind) {
@@ -103,7 +104,7 @@ fn stated_kinds(
     alloc: Global,
     stated: &Option<Items<Informational>>,
 ) -> Result<Items<Informational>, NoMemory>
-    ensures { IfOk result (λ kinds. kinds ≡ stated_kinds stated.now) }
+    ensures { IfOk result (λ kinds. kinds ≡ spec.stated_kinds stated.now) }
 {
     match stated {
         Some(kinds) => kinds_copied(alloc, kinds.as_slice()),
@@ -140,7 +141,7 @@ impl AuditConfig {
     /// What the settings ask of advisories. What is warned of is what is stated, else each kind,
     /// and what is denied besides.
     pub fn report_settings(&self, alloc: Global) -> Result<Settings, NoMemory>
-        ensures { IfOk result (λ settings. settings ≡ report_settings self.now) }
+        ensures { IfOk result (λ settings. settings ≡ spec.report_settings self.now) }
     {
         let mut kinds = stated_kinds(alloc, &self.advisories.informational_warnings)?;
         add_denied(&mut kinds, self.output.deny.as_slice())?;

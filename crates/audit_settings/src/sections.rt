@@ -1,6 +1,7 @@
 //! The tables of the settings and their keys.
 ghost use Rattle.std.specs.Prelude.{◌≡◌, codes};
-ghost use Rattle.audit_settings.specs.Keys.{is_in, keys, name, section_of};
+ghost use Rattle.audit_settings.specs.Keys.{is_in, keys, section_of};
+ghost use Rattle.audit_settings.specs.Keys as spec;
 
 /// A table of the settings.
 #[derive(Clone, Copy, Debug, PartialEq, Eq)]
@@ -84,7 +85,7 @@ impl Section {
 
     /// The table's name.
     pub fn name(self) -> &'static str
-        ensures { result.now ≡ name self }
+        ensures { result.now ≡ spec.name self }
     {
         match self {
             Section::Advisories => "advisories",

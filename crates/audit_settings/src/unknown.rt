@@ -1,7 +1,8 @@
 //! Keys that no setting has.
 ghost use Rattle.std.specs.Prelude.{◌≡◌, None, Some, IfOk, OnOk};
 ghost use Rattle.toml.specs.View.{view, table_view};
-ghost use Rattle.audit_settings.specs.Keys.{dotted, name, section_of};
+ghost use Rattle.audit_settings.specs.Keys.{name, section_of};
+ghost use Rattle.audit_settings.specs.Keys as spec;
 ghost use Rattle.audit_settings.specs.Unknown.{earlier, first_in_order, noted, unknown_below, unknown_in, unknown_keys};
 
 use crate::sections::Section;
@@ -11,13 +12,13 @@ use toml::{Table, Value};
 
 /// A table's name and a key of it, with a point between them.
 fn dotted(alloc: Global, name: &str, key: &str) -> Result<Text, NoMemory>
-    ensures { IfOk result (λ text. text ≡ dotted name.now key.now) }
+    ensures { IfOk result (λ text. text ≡ spec.dotted name.now key.now) }
 {
     Ok(Text::from_string(format!(in alloc; "{name}.{key}")?))
 }
 
 /// One more text: what is kept is the first in byte order.
-fn note(first: &mut Option<Text>, text: Text)
+fn keep_first(first: &mut Option<Text>, text: Text)
     ensures { first.new ≡ Some (earlier first.old text) }
 {
     let is_later = match first {
@@ -41,7 +42,7 @@ fn note_unknown(
 {
     for (key, _) in table.iter() {
         if !section.has_key(key.as_str()) {
-            note(first, dotted(alloc, section.name(), key.as_str())?);
+            keep_first(first, dotted(alloc, section.name(), key.as_str())?);
         }
     }
     Ok(())
@@ -58,7 +59,7 @@ fn note_below(
         ≡ noted first.old (unknown_below (section_of name.now) name.now (view value.now))) }
 {
     match (Section::named(name), value) {
-        (None, _) => note(first, Text::of(alloc, name)?),
+        (None, _) => keep_first(first, Text::of(alloc, name)?),
         (Some(section), Value::Table(table)) => return note_unknown(alloc, first, section, table),
         (Some(_), _) => {}
     }

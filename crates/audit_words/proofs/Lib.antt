@@ -1,7 +1,9 @@
 pub mod Cuts
+pub mod Decimal
 pub mod Letters
 pub mod Numbers
 pub mod Order
 pub mod Places
 pub mod Quiet
 pub mod Spellings
+pub mod Stops

@@ -79,7 +79,8 @@ set_single Db v d = Some (record d { audit = record d.audit { db = Some v } })
 set_single File v d = Some (record d { audit = record d.audit { file = Some v } })
 set_single Url v d = Some (record d { audit = record d.audit { url = Some v } })
 set_single Format v d =
-    option_map (λ f. record d { audit = record d.audit { output_format = Some f } }) (output_format_of v)
+    option_map (λ f. record d { audit = record d.audit { output_format = Some f } })
+    (output_format_of v)
 set_single FixFile v d = Some (record d { fix = record d.fix { file = Some v } })
 set_single MaxBinarySize v d =
     option_map (λ n. record d { bin = record d.bin { max_binary_size = Some n } }) (number v)
@@ -232,7 +233,8 @@ finish_awaited (Some m) d = Err stop.Missing
 abbrev pub finish : Draft → Result Command Stop
 finish d = finish_awaited d.awaited d
 
--- the reading is ended at a place: help and version answer; a missing value is at its option's place
+-- the reading is ended at a place: help and version answer; a missing value is at its option's
+-- place
 abbrev pub ended : ℕ → Stop → Result Command WordsFault
 ended place stop.Help = Ok command.Help
 ended place stop.Version = Ok command.Version

@@ -1,7 +1,8 @@
 //! A command while its words are read.
 ghost use Rattle.std.specs.Prelude.{◌≡◌, ◌≢◌, ◌<◌, length, drop, IfSome, IfErr, OnOk, Ok, Err, option_map};
 ghost use Rattle.audit_words.specs.Options.{by_letter, options};
-ghost use Rattle.audit_words.specs.Reading.{Refuses, add_listed, allowed, alone, finish, first_meaning, has_flag, has_options, has_single, is_option, long_given, or_wrong, read_dashed, read_letters, read_long, read_option, read_plain, read_fresh, read_word, repeats, set_flag, set_single, set_value, start, with_path};
+ghost use Rattle.audit_words.specs.Reading.{Refuses, alone, first_meaning, long_given, or_wrong, read_dashed, start, with_path};
+ghost use Rattle.audit_words.specs.Reading as spec;
 
 use crate::commands::{BinCommand, Command, FixCommand};
 use crate::options::{Flag, Listed, Meaning, Phase, Single, by_letter, by_long};
@@ -46,7 +47,7 @@ pub struct Draft {
 
 /// Whether a word is an option: it begins with `-` and isn't `-`.
 fn is_option(word: &str) -> bool
-    ensures { result ≡ is_option word.now }
+    ensures { result ≡ spec.is_option word.now }
 {
     after(word, "-").is_some() && word != "-"
 }
@@ -86,8 +87,8 @@ impl Draft {
     }
 
     fn set_flag(&mut self, flag: Flag) -> Result<(), Stop>
-        ensures ok { OnOk result (set_flag flag self.old ≡ Ok self.new) }
-        ensures refused { IfErr result (λ e. set_flag flag self.old ≡ Err e) }
+        ensures ok { OnOk result (spec.set_flag flag self.old ≡ Ok self.new) }
+        ensures refused { IfErr result (λ e. spec.set_flag flag self.old ≡ Err e) }
     {
         match flag {
             Flag::Help => return Err(Stop::Help),
@@ -106,7 +107,7 @@ impl Draft {
     }
 
     fn has_flag(&self, flag: Flag) -> bool
-        ensures { result ≡ has_flag flag self.now }
+        ensures { result ≡ spec.has_flag flag self.now }
     {
         match flag {
             Flag::Help | Flag::Version | Flag::PathsFollow => false,
@@ -122,8 +123,8 @@ impl Draft {
     }
 
     fn set_single(&mut self, alloc: Global, single: Single, value: &str) -> Result<(), Stop>
-        ensures ok { OnOk result (set_single single value.now self.old ≡ Some self.new) }
-        ensures refused { Refuses result (or_wrong (set_single single value.now self.old)) }
+        ensures ok { OnOk result (spec.set_single single value.now self.old ≡ Some self.new) }
+        ensures refused { Refuses result (or_wrong (spec.set_single single value.now self.old)) }
     {
         match single {
             Single::Color => self.audit.color = Some(color_of(value).ok_or(Stop::Wrong)?),
@@ -145,7 +146,7 @@ impl Draft {
     }
 
     fn has_single(&self, single: Single) -> bool
-        ensures { result ≡ has_single single self.now }
+        ensures { result ≡ spec.has_single single self.now }
     {
         match single {
             Single::Color => self.audit.color.is_some(),
@@ -160,8 +161,8 @@ impl Draft {
     }
 
     fn add_listed(&mut self, alloc: Global, listed: Listed, value: &str) -> Result<(), Stop>
-        ensures ok { OnOk result (add_listed listed value.now self.old ≡ Some self.new) }
-        ensures refused { Refuses result (or_wrong (add_listed listed value.now self.old)) }
+        ensures ok { OnOk result (spec.add_listed listed value.now self.old ≡ Some self.new) }
+        ensures refused { Refuses result (or_wrong (spec.add_listed listed value.now self.old)) }
     {
         if let Listed::Deny = listed {
             self.audit
@@ -180,7 +181,7 @@ impl Draft {
     }
 
     fn repeats(&self, meaning: Meaning) -> bool
-        ensures { result ≡ repeats meaning self.now }
+        ensures { result ≡ spec.repeats meaning self.now }
     {
         match meaning {
             Meaning::Alone(flag) => self.has_flag(flag),
@@ -191,7 +192,7 @@ impl Draft {
 
     /// The option, if there is one and it isn't repeated against the rule.
     fn allowed(&self, known: Option<Meaning>) -> Result<Meaning, Stop>
-        ensures { result ≡ allowed known self.now }
+        ensures { result ≡ spec.allowed known self.now }
     {
         match known {
             None => Err(Stop::Wrong),
@@ -221,8 +222,8 @@ impl Draft {
 
     /// An option with a value.
     fn set_value(&mut self, alloc: Global, meaning: Meaning, value: &str) -> Result<(), Stop>
-        ensures ok { OnOk result (set_value meaning value.now self.old ≡ Ok self.new) }
-        ensures refused { Refuses result (set_value meaning value.now self.old) }
+        ensures ok { OnOk result (spec.set_value meaning value.now self.old ≡ Ok self.new) }
+        ensures refused { Refuses result (spec.set_value meaning value.now self.old) }
     {
         match meaning {
             Meaning::Alone(_) => Err(Stop::Wrong),
@@ -233,8 +234,8 @@ impl Draft {
 
     /// `--name` or `--name=value`, behind its dashes.
     fn read_long(&mut self, alloc: Global, text: &str) -> Result<(), Stop>
-        ensures ok { OnOk result (read_long text.now self.old ≡ Ok self.new) }
-        ensures refused { Refuses result (read_long text.now self.old) }
+        ensures ok { OnOk result (spec.read_long text.now self.old ≡ Ok self.new) }
+        ensures refused { Refuses result (spec.read_long text.now self.old) }
     {
         let (name, value) = cut_equals(text);
         let meaning = self.allowed(by_long(self.phase, name))?;
@@ -247,8 +248,8 @@ impl Draft {
     /// The letters behind a dash.
     #[tactic(auto, using(crate::proofs::Letters::letters_step))]
     fn read_letters(&mut self, alloc: Global, letters: &str) -> Result<(), Stop>
-        ensures ok { OnOk result (read_letters letters.now self.old ≡ Ok self.new) }
-        ensures refused { Refuses result (read_letters letters.now self.old) }
+        ensures ok { OnOk result (spec.read_letters letters.now self.old ≡ Ok self.new) }
+        ensures refused { Refuses result (spec.read_letters letters.now self.old) }
     {
         let mut left = letters;
         while !left.is_empty() {
@@ -265,8 +266,8 @@ impl Draft {
 
     /// A word that is an option.
     fn read_option(&mut self, alloc: Global, word: &str) -> Result<(), Stop>
-        ensures ok { OnOk result (read_option word.now self.old ≡ Ok self.new) }
-        ensures refused { Refuses result (read_option word.now self.old) }
+        ensures ok { OnOk result (spec.read_option word.now self.old ≡ Ok self.new) }
+        ensures refused { Refuses result (spec.read_option word.now self.old) }
     {
         if let Some(text) = after(word, "--") {
             return self.read_long(alloc, text);
@@ -287,8 +288,8 @@ impl Draft {
 
     /// A word that is no option.
     fn read_plain(&mut self, alloc: Global, word: &str) -> Result<(), Stop>
-        ensures ok { OnOk result (read_plain self.old.phase word.now self.old ≡ Ok self.new) }
-        ensures refused { Refuses result (read_plain self.old.phase word.now self.old) }
+        ensures ok { OnOk result (spec.read_plain self.old.phase word.now self.old ≡ Ok self.new) }
+        ensures refused { Refuses result (spec.read_plain self.old.phase word.now self.old) }
     {
         match (self.phase, word) {
             (Phase::Before, "audit") => self.phase = Phase::Audit,
@@ -301,7 +302,7 @@ impl Draft {
     }
 
     fn has_options(&self) -> bool
-        ensures { result ≡ has_options self.now.phase }
+        ensures { result ≡ spec.has_options self.now.phase }
     {
         match self.phase {
             Phase::Before | Phase::Audit | Phase::Fix | Phase::Bin => true,
@@ -310,8 +311,8 @@ impl Draft {
     }
 
     fn read_fresh(&mut self, alloc: Global, word: &str) -> Result<(), Stop>
-        ensures ok { OnOk result (read_fresh word.now self.old ≡ Ok self.new) }
-        ensures refused { Refuses result (read_fresh word.now self.old) }
+        ensures ok { OnOk result (spec.read_fresh word.now self.old ≡ Ok self.new) }
+        ensures refused { Refuses result (spec.read_fresh word.now self.old) }
     {
         if is_option(word) && self.has_options() {
             self.read_option(alloc, word)
@@ -322,8 +323,8 @@ impl Draft {
 
     /// The next word.
     pub fn read_word(&mut self, alloc: Global, word: &str) -> Result<(), Stop>
-        ensures ok { OnOk result (read_word word.now self.old ≡ Ok self.new) }
-        ensures refused { Refuses result (read_word word.now self.old) }
+        ensures ok { OnOk result (spec.read_word word.now self.old ≡ Ok self.new) }
+        ensures refused { Refuses result (spec.read_word word.now self.old) }
     {
         let Some(meaning) = self.awaited else {
             return self.read_fresh(alloc, word);
@@ -337,7 +338,7 @@ impl Draft {
 
     /// The command, where the words end.
     pub fn finish(self) -> Result<Command, Stop>
-        ensures { result ≡ finish self }
+        ensures { result ≡ spec.finish self }
     {
         if self.awaited.is_some() {
             return Err(Stop::Missing);

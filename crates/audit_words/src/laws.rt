@@ -1,11 +1,25 @@
 //! What holds of the meaning of words.
-ghost use Rattle.std.specs.Prelude.{◌≡◌, ◌≢◌, ℕ, codes, List, [], ◌∷◌, ◌++◌, true, false, Some, None, Ok};
+ghost use Rattle.std.specs.Prelude.{◌≡◌, ◌≢◌, ◌<◌, ◌+◌, ◌-◌, ◌*◌, ◌^◌, ℕ, codes, List, [], ◌∷◌, ◌++◌, true, false, Some, None, Ok, Err, length};
+ghost use Rattle.std.specs.Fmt.{decimal};
 ghost use Rattle.audit_words.specs.Laws.{CanJoin, IsLettered, IsNamed, drafted, given, is_setting, quieted, set_by, was_quiet};
-ghost use Rattle.audit_words.specs.Reading.{and_then, command_of, is_option, start};
+ghost use Rattle.audit_words.specs.Reading.{and_then, command_of, ended, finish, is_option, read_word, start, unless_ended};
+ghost use Rattle.audit_words.specs.Values.{number, value_from};
 ghost use Rattle.audit_words.specs.declared.commands.Command.{Command};
 ghost use Rattle.audit_words.specs.declared.drafts.Draft.{Draft};
+ghost use Rattle.audit_words.specs.declared.drafts.Stop.{Stop};
 ghost use Rattle.audit_words.specs.declared.options.Meaning.{Meaning};
 ghost use Rattle.audit_words.specs.declared.options.Phase.TheVariants.{Audit};
+
+/// The reading of words ends at the first one that ends it, behind words that make a draft: its
+/// place is how many stand in front of it. Where no word ends it, the draft that all of them make
+/// is finished, at the place behind the last.
+pub fn reading_ends_at_its_word()
+    ensures within { (front back : List (List ℕ)) (word : List ℕ) (d : Draft) (s : Stop)
+        → drafted front start ≡ Ok d → read_word word d ≡ Err s
+        → command_of (front ++ word ∷ back) ≡ ended (length front) s }
+    ensures behind { (words : List (List ℕ)) (d : Draft) → drafted words start ≡ Ok d
+        → command_of words ≡ unless_ended (length words) (λ c. Ok c) (finish d) }
+{}
 
 /// The five spellings of a value mean the same: `--x=v`, `--x v`, `-xv`, `-x=v` and `-x v`.
 pub fn spellings_agree()
@@ -28,8 +42,8 @@ pub fn same_drafts_same_command()
         → command_of (front ++ (a ++ back)) ≡ Ok c → command_of (front ++ (b ++ back)) ≡ Ok c }
 {}
 
-/// Two different options, each a flag or with its value, set the same in either order, and where one
-/// of them is refused, both orders are.
+/// Two different options, each a flag or with its value, set the same in either order, and where
+/// one of them is refused, both orders are.
 pub fn either_order()
     ensures { (d : Draft) (m n : Meaning) (v w : List ℕ)
         → is_setting m ≡ true → is_setting n ≡ true → m ≢ n
@@ -46,4 +60,12 @@ pub fn quiet_is_accepted()
         → drafted front start ≡ Ok d → d.phase ≡ Audit → d.awaited ≡ None
         → command_of (front ++ back) ≡ Ok c → was_quiet c ≡ Some false
         → command_of (front ++ (codes "-q" ∷ back)) ≡ Ok (quieted c) }
+{}
+
+/// A number below 2^64 is read from its decimal digits; digits with one more behind them count
+/// ten times as much, and that digit more.
+pub fn numbers_are_decimal()
+    ensures read { (n : ℕ) → n < 2 ^ 64 → number (decimal n) ≡ Some n }
+    ensures digits { (digits : List ℕ) (digit : ℕ)
+        → value_from 0 (digits ++ digit ∷ []) ≡ 10 * value_from 0 digits + (digit - 48) }
 {}

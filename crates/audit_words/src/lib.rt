@@ -1,4 +1,13 @@
 //! The words of the command, read by a table of options.
+//!
+//! Promises: words are the command that the table gives them, or the place of the first word that
+//! breaks a rule; the spellings of an option agree, and so do orders that don't matter.
+//! Stands on `tame_names`, and on the options that `audit_advisory` and `audit_settings` name.
+//!
+//! ```text
+//! audit --deny yanked fix --dry-run   Command::Fix, with these options
+//! audit --deny yellow                 WordsFault::Usage { place: 2 }
+//! ```
 #![tactic(auto)]
 
 mod commands;
@@ -11,7 +20,10 @@ mod values;
 mod words;
 
 pub use commands::{BinCommand, Command, FixCommand, WordsFault};
-pub use laws::{either_order, quiet_is_accepted, same_drafts_same_command, spellings_agree};
+pub use laws::{
+    either_order, numbers_are_decimal, quiet_is_accepted, reading_ends_at_its_word,
+    same_drafts_same_command, spellings_agree,
+};
 pub use rows::{accepted, refused};
 pub use texts::{HELP_TEXT, VERSION, VERSION_TEXT};
 pub use words::read_words;

@@ -1,13 +1,14 @@
 //! The values of options.
 ghost use Rattle.std.specs.Prelude.{◌≡◌, option_map};
 ghost use Rattle.std.specs.Str.{all_ascii_digits};
-ghost use Rattle.audit_words.specs.Values.{after, color_of, joined_value, name_part, number, unless_empty, without_equals};
+ghost use Rattle.audit_words.specs.Values.{joined_value, name_part};
+ghost use Rattle.audit_words.specs.Values as spec;
 
 use audit_settings::Color;
 
 /// The word that says when output is coloured.
 pub fn color_of(value: &str) -> Option<Color>
-    ensures { result ≡ color_of value.now }
+    ensures { result ≡ spec.color_of value.now }
 {
     match value {
         "always" => Some(Color::Always),
@@ -19,7 +20,7 @@ pub fn color_of(value: &str) -> Option<Color>
 
 /// A text that has a byte at least.
 pub fn unless_empty(value: &str) -> Option<&str>
-    ensures { option_map (λ text. text.now) result ≡ unless_empty value.now }
+    ensures { option_map (λ text. text.now) result ≡ spec.unless_empty value.now }
 {
     if value.is_empty() { None } else { Some(value) }
 }
@@ -38,7 +39,7 @@ fn is_digits(bytes: &[u8]) -> bool
 
 /// The number that digits alone write, where it is at most 2^64 - 1.
 pub fn number(value: &str) -> Option<u64>
-    ensures { result ≡ number value.now }
+    ensures { result ≡ spec.number value.now }
 {
     if !is_digits(value.as_bytes()) {
         return None;
@@ -51,14 +52,14 @@ pub fn number(value: &str) -> Option<u64>
 
 /// What stands behind a text's beginning.
 pub fn after<'t>(text: &'t str, beginning: &str) -> Option<&'t str>
-    ensures { option_map (λ t. t.now) result ≡ after beginning.now text.now }
+    ensures { option_map (λ t. t.now) result ≡ spec.after beginning.now text.now }
 {
     text.strip_prefix(beginning)
 }
 
 /// A value without the `=` that may stand in front of it.
 pub fn without_equals(value: &str) -> &str
-    ensures { result.now ≡ without_equals value.now }
+    ensures { result.now ≡ spec.without_equals value.now }
 {
     match after(value, "=") {
         Some(rest) => rest,

@@ -1,6 +1,7 @@
 //! The words of the command.
 ghost use Rattle.std.specs.Prelude.{◌≡◌, ◌≢◌, map, string_bytes, IfOk, IfErr, Ok, Err};
-ghost use Rattle.audit_words.specs.Reading.{command_of, ended};
+ghost use Rattle.audit_words.specs.Reading.{command_of};
+ghost use Rattle.audit_words.specs.Reading as spec;
 
 use crate::commands::{Command, WordsFault};
 use crate::drafts::{Draft, Stop};
@@ -8,7 +9,7 @@ use std::alloc::Global;
 
 /// The reading is ended at a place.
 fn ended(place: usize, stop: Stop) -> Result<Command, WordsFault>
-    ensures { result ≡ ended place stop }
+    ensures { result ≡ spec.ended place stop }
 {
     match stop {
         Stop::Help => Ok(Command::Help),

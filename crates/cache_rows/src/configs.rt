@@ -44,3 +44,16 @@ pub fn config(alloc: Global, mut words: Row<'_>) -> Result<String, RowFault> {
     };
     Ok(format!(in alloc; "{} {api} {}", config.dl, config.auth_required)?)
 }
+
+/// `order BYTES BYTES`: how two configurations are ordered, or that one is refused.
+pub fn order(alloc: Global, mut words: Row<'_>) -> Result<String, RowFault> {
+    let (one, other) = (words.bytes(alloc)?, words.bytes(alloc)?);
+    let Ok(one) = IndexConfig::from_slice(alloc, one.as_slice()) else {
+        return Ok(String::from_str(alloc, "refused")?);
+    };
+    let Ok(other) = IndexConfig::from_slice(alloc, other.as_slice()) else {
+        return Ok(String::from_str(alloc, "refused")?);
+    };
+    let ordering = one.cmp(&other);
+    Ok(format!(in alloc; "{ordering:?}")?)
+}

@@ -1,10 +1,11 @@
 //! Index entries read as the versions of a crate, and line by line.
 use crate::revisions::revision_of;
-use crate::sources::Source;
+use crate::sources::{Source, written};
 use row_fixtures::{RevisionWord, Row, RowFault, shown, shown_word};
 use std::alloc::{AllocError, Global};
 use tame_entry::{
-    IndexEntry, IndexEntryVersion, LockedMmap, Revision, entries_read_as_bodies, entries_read_back,
+    IndexEntry, IndexEntryVersion, LockedMmap, Revision, ValidCacheEntry, entries_read_as_bodies,
+    entries_read_back,
 };
 use tame_names::{FileLock, MemFiles};
 use tame_records::{IndexKrate, IndexVersion};
@@ -55,6 +56,34 @@ pub fn under(alloc: Global, mut words: Row<'_>) -> Result<String, RowFault> {
     let source = Source::of(alloc, words)?;
     let entry = source.entry(alloc, &lock)?;
     read_under(alloc, &entry, &revision_of(&revision, revision.http()))
+}
+
+fn kept_line(
+    alloc: Global,
+    entry: &[u8],
+    wanted: Option<&Revision<'_>>,
+) -> Result<String, RowFault> {
+    match ValidCacheEntry::read(entry) {
+        Ok(entry) => match entry.to_krate(alloc, wanted)? {
+            Some(krate) => Ok(versions(alloc, &krate)?),
+            None => Ok(String::from_str(alloc, "nothing")?),
+        },
+        Err(error) => Ok(format!(in alloc; "{error:?}")?),
+    }
+}
+
+/// `krate WANTED REVISION BODY`: an entry of the cache as versions with their flags, where its
+/// revision is the wanted one; `-` wants none.
+pub fn krate(alloc: Global, mut words: Row<'_>) -> Result<String, RowFault> {
+    let wanted = RevisionWord::of(alloc, words.word())?;
+    let entry = written(alloc, &mut words)?;
+    match &wanted {
+        RevisionWord::Absent => kept_line(alloc, entry.as_slice(), None),
+        _ => {
+            let revision = revision_of(&wanted, wanted.http());
+            kept_line(alloc, entry.as_slice(), Some(&revision))
+        }
+    }
 }
 
 fn push_item(alloc: Global, out: &mut String, item: IndexEntryVersion<'_>) -> Result<(), RowFault> {

@@ -1,7 +1,7 @@
 //! Revisions as text.
 use row_fixtures::{RevisionWord, Row, RowFault, shown};
 use std::alloc::Global;
-use tame_entry::{HttpRevision, Revision, Sha1Hex};
+use tame_entry::{GitRevision, HttpRevision, Revision, Sha1Hex};
 use tame_names::{Items, MemSink};
 
 /// The revision that a word stands for, with that of HTTP beside it: where a revision is lent, the
@@ -52,4 +52,17 @@ pub fn parse(alloc: Global, mut words: Row<'_>) -> Result<String, RowFault> {
         Some(digits) => String::from_str(alloc, digits.as_str())?,
         None => String::from_str(alloc, "nothing")?,
     })
+}
+
+/// `commit HH TEXT`: whether the commit of twenty equal bytes is that of the digits.
+pub fn commit(alloc: Global, mut words: Row<'_>) -> Result<String, RowFault> {
+    let Some(byte) = words.byte_or_none()? else {
+        return Err(RowFault::Unread);
+    };
+    let text = words.text(alloc)?;
+    let Some(digits) = Sha1Hex::parse(text.as_str()) else {
+        return Err(RowFault::Unread);
+    };
+    let is_commit = GitRevision::Raw([byte; 20]) == GitRevision::Hex(digits);
+    Ok(format!(in alloc; "{is_commit}")?)
 }

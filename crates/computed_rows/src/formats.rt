@@ -28,11 +28,15 @@ pub fn names()
     ensures dot { path (codes "a.b") ≡ None }
     ensures three { prefix (codes "/") (codes "ABc") ≡ codes "3/A" }
     ensures empty { refusal_of [] ≡ Some (HasLength 0) }
-    ensures long { strict_refusal (Some 64) (codes "aaaaaaaabbbbbbbbccccccccddddddddaaaaaaaabbbbbbbbccccccccddddddddxxxxxxx") ≡ Some (HasLength 71) }
-    ensures unlimited { strict_refusal None (codes "aaaaaaaabbbbbbbbccccccccddddddddaaaaaaaabbbbbbbbccccccccddddddddxxxxxxx") ≡ None }
+    ensures long { strict_refusal (Some 64)
+        (codes "aaaaaaaabbbbbbbbccccccccddddddddaaaaaaaabbbbbbbbccccccccddddddddxxxxxxx")
+        ≡ Some (HasLength 71) }
+    ensures unlimited { strict_refusal None
+        (codes "aaaaaaaabbbbbbbbccccccccddddddddaaaaaaaabbbbbbbbccccccccddddddddxxxxxxx") ≡ None }
     ensures character { strict_refusal (Some 64) (codes "no.pe") ≡ Some (HasCharacter 46 2) }
     ensures digit { strict_refusal (Some 64) (codes "3nop") ≡ Some (HasCharacter 51 0) }
-    ensures reserved { strict_refusal None (codes "proc-macro") ≡ Some (IsReserved (codes "proc-macro") Standard) }
+    ensures reserved { strict_refusal None (codes "proc-macro")
+        ≡ Some (IsReserved (codes "proc-macro") Standard) }
 {}
 
 /// Bodies of lines, and paths.
@@ -47,23 +51,33 @@ pub fn lines_and_paths()
 
 /// Entries of the cache as bytes, and lines looked at without JSON.
 pub fn entries()
-    ensures bytes { entry (Http (Etag (codes "x"))) (pairs (codes "{\"name\":\"a\",\"vers\":\"0.1.0\",\"yanked\":false}"))
-        ≡ 3 ∷ 2 ∷ 0 ∷ 0 ∷ 0 ∷ codes "etag: x" ++ 0 ∷ codes "0.1.0" ++ 0 ∷ codes "{\"name\":\"a\",\"vers\":\"0.1.0\",\"yanked\":false}" ++ 0 ∷ [] }
+    ensures bytes { entry (Http (Etag (codes "x")))
+        (pairs (codes "{\"name\":\"a\",\"vers\":\"0.1.0\",\"yanked\":false}"))
+        ≡ 3 ∷ 2 ∷ 0 ∷ 0 ∷ 0 ∷ codes "etag: x" ++ 0 ∷ codes "0.1.0" ++ 0
+        ∷ codes "{\"name\":\"a\",\"vers\":\"0.1.0\",\"yanked\":false}" ++ 0 ∷ [] }
     ensures nothing { read_entry [] ≡ Err InvalidCacheEntry }
     ensures old { read_entry (2 ∷ []) ≡ Err OutdatedCacheVersion }
     ensures new { read_entry (4 ∷ []) ≡ Err UnknownCacheVersion }
     ensures number { read_entry (3 ∷ 3 ∷ 0 ∷ 0 ∷ 0 ∷ []) ≡ Err UnknownIndexVersion }
-    ensures version { raw_version (codes "{\"name\":\"a\",\"vers\":\"0.1.0\",\"yanked\":false}") ≡ codes "0.1.0" }
-    ensures behind { line_flag (codes "{\"name\":\"a\",\"vers\":\"0.1.0\",\"yanked\":true,\"links\":\"a,b\"}") ≡ Ok true }
-    ensures cut_off { line_flag (codes "{\"name\":\"a\",\"vers\":\"0.1.0\",\"yanked\":true,\"links\":\"a}b\"}") ≡ Ok false }
+    ensures version { raw_version (codes "{\"name\":\"a\",\"vers\":\"0.1.0\",\"yanked\":false}")
+        ≡ codes "0.1.0" }
+    ensures behind { line_flag
+        (codes "{\"name\":\"a\",\"vers\":\"0.1.0\",\"yanked\":true,\"links\":\"a,b\"}") ≡ Ok true }
+    ensures cut_off { line_flag
+        (codes "{\"name\":\"a\",\"vers\":\"0.1.0\",\"yanked\":true,\"links\":\"a}b\"}") ≡ Ok false }
 {}
 
 /// Where versions are downloaded from.
 pub fn downloads()
-    ensures markers { download_url (codes "ABc") (codes "0.1.0") (codes "https://complex.io/ohhi/embark/rust/cargo/{lowerprefix}/{crate}/{crate}/{prefix}-{version}")
+    ensures markers { download_url (codes "ABc") (codes "0.1.0")
+        (codes "https://complex.io/ohhi/embark/rust/cargo/{lowerprefix}/{crate}/{crate}/"
+        ++ codes "{prefix}-{version}")
         ≡ codes "https://complex.io/ohhi/embark/rust/cargo/3/a/ABc/ABc/3/A-0.1.0" }
-    ensures once { download_url (codes "a") (codes "{version}") (codes "https://r/{crate}/{version}") ≡ codes "https://r/a/{version}" }
-    ensures crates_io { download_url (codes "aB") (codes "0.1.0") (codes "https://crates.io/api/v1/crates") ≡ codes "https://static.crates.io/crates/aB/aB-0.1.0.crate" }
+    ensures once { download_url (codes "a") (codes "{version}")
+        (codes "https://r/{crate}/{version}") ≡ codes "https://r/a/{version}" }
+    ensures crates_io { download_url (codes "aB") (codes "0.1.0")
+        (codes "https://crates.io/api/v1/crates")
+        ≡ codes "https://static.crates.io/crates/aB/aB-0.1.0.crate" }
     ensures nameless { version_url (codes "a.b") (codes "0.1.0") (codes "https://r") ≡ None }
 {}
 
@@ -73,6 +87,7 @@ pub fn requests()
     ensures broken { handed (Etag (codes "a\nb")) ≡ Err (HttpFault InvalidHeaderValue) }
     ensures nothing { handed (Etag []) ≡ Ok None }
     ensures absent { named_file None ≡ None }
-    ensures crate_file { crate_url (codes "sparse+https://index.crates.io/") (codes "a") ≡ Some (codes "https://index.crates.io/1/a") }
+    ensures crate_file { crate_url (codes "sparse+https://index.crates.io/") (codes "a")
+        ≡ Some (codes "https://index.crates.io/1/a") }
     ensures git { is_sparse_url (codes "https://github.com/rust-lang/crates.io-index") ≡ false }
 {}

@@ -39,7 +39,8 @@ pub fn faults()
         ≡ codes "error: config error: a float\n" }
     ensures key { fault_line [] (fault.Settings (settings_fault.Unknown (codes "x")))
         ≡ codes "error: config error: unknown key x\n" }
-    ensures version { fault_line (codes "L") (fault.Lockfile (lockfile_fault.Rule None rule.Version))
+    ensures version { fault_line (codes "L")
+        (fault.Lockfile (lockfile_fault.Rule None rule.Version))
         ≡ codes "error: version error: couldn't load L: rule version\n" }
     ensures toml { fault_line (codes "L") (fault.Lockfile lockfile_fault.Toml)
         ≡ codes "error: parse error: couldn't load L: invalid TOML\n" }

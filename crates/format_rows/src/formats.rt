@@ -37,7 +37,8 @@ pub fn utf8(alloc: Global, mut words: Row<'_>) -> Result<String, RowFault> {
     Ok(format!(in alloc; "{is_text}")?)
 }
 
-/// `digest TEXT`: a digest, with its first and its last byte, or why it is none.
+/// `digest TEXT`: a digest, with its first and its last byte, whether it is shown so, and its debug
+/// text; or why it is none.
 pub fn digest(alloc: Global, mut words: Row<'_>) -> Result<String, RowFault> {
     let digest = match Chksum::parse(words.word()) {
         Ok(digest) => digest,
@@ -46,7 +47,7 @@ pub fn digest(alloc: Global, mut words: Row<'_>) -> Result<String, RowFault> {
     let text = digest.to_text(alloc)?;
     let (first, last) = (digest.0[0], digest.0[31]);
     let is_shown = format!(in alloc; "{digest}")?.as_str() == text.as_str();
-    Ok(format!(in alloc; "{text} {first} {last} {is_shown}")?)
+    Ok(format!(in alloc; "{text} {first} {last} {is_shown} [{digest:?}]")?)
 }
 
 /// `digests TEXT TEXT`: whether two digests are equal; the second one is parsed by `FromStr`.

@@ -2,6 +2,7 @@
 use audit_lock::{Lockfile, LockfileFault, Package, is_default_registry};
 use row_fixtures::{Row, RowFault};
 use std::alloc::{AllocError, Global};
+use tame_names::Text;
 
 fn fault_text(alloc: Global, fault: LockfileFault) -> Result<String, AllocError> {
     match fault {
@@ -61,6 +62,32 @@ pub fn packages(alloc: Global, text: &str) -> Result<String, RowFault> {
         push_package(&mut out, package)?;
     }
     Ok(out)
+}
+
+/// The first package's source and checksum, and how many dependencies it has; `-` for what it
+/// doesn't have.
+fn first_line(alloc: Global, packages: &[Package]) -> Result<String, RowFault> {
+    let Some(package) = packages.first() else {
+        return Ok(String::from_str(alloc, "no package")?);
+    };
+    let source = package.source.as_ref().map_or("-", Text::as_str);
+    let checksum = package.checksum.as_ref().map_or("-", Text::as_str);
+    let count = package.dependencies.as_slice().len();
+    Ok(format!(in alloc; "{source} {checksum} {count}")?)
+}
+
+/// `source VERSION MORE`: source, checksum and number of dependencies of the one package of a
+/// lockfile of this version, with these lines behind its name and version.
+pub fn source(alloc: Global, mut words: Row<'_>) -> Result<String, RowFault> {
+    let version = words.number()?;
+    let more = words.text(alloc)?;
+    let text = format!(in alloc;
+        "version = {version}\n[[package]]\nname = \"a\"\nversion = \"0.1.0\"\n{more}\n"
+    )?;
+    match Lockfile::read(alloc, text.as_str()) {
+        Ok(lockfile) => first_line(alloc, lockfile.packages()),
+        Err(fault) => Ok(fault_text(alloc, fault)?),
+    }
 }
 
 /// `registry SOURCE`: whether a source is the default registry.

@@ -2,10 +2,10 @@
 //! of the input is a case, and its answer is a line of the output.
 #![tactic(auto)]
 
+mod errors;
 mod formats;
 mod krates;
 mod lockfiles;
-mod messages;
 mod names;
 mod records;
 mod stage;
@@ -34,7 +34,7 @@ fn answer_of_formats(alloc: Global, row: Row<'_>) -> Result<String, RowFault> {
         "digests" => formats::digests(alloc, words),
         "request" => formats::request(alloc, words),
         "clone" => formats::clone(alloc, words),
-        "message" => messages::message(alloc, words),
+        "error" => errors::error(alloc, words),
         _ => Err(RowFault::Unread),
     }
 }
@@ -57,6 +57,7 @@ fn answer_of_records(alloc: Global, row: Row<'_>) -> Result<String, RowFault> {
         "kind" => krates::kind(alloc),
         "lock" => lockfiles::lock(alloc, words),
         "package" => lockfiles::package(alloc, words),
+        "source" => lockfiles::source(alloc, words),
         "registry" => lockfiles::registry(alloc, words),
         _ => answer_of_formats(alloc, row),
     }

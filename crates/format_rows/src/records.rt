@@ -152,7 +152,7 @@ pub fn version(alloc: Global, mut words: Row<'_>) -> Result<String, RowFault> {
         return Ok(String::from_str(alloc, "no record")?);
     };
     let mut out = version_line(alloc, &version)?;
-    let head = version.into_head();
+    let head = version.into_version_flag();
     write!(out, "; {} {}", head.version, head.yanked)?;
     Ok(out)
 }

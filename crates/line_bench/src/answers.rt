@@ -1,13 +1,13 @@
 //! What is kept of lines, by the quick reader and by the record.
 use std::alloc::{AllocError, Global};
 use tame_names::NoMemory;
-use tame_records::{IndexVersion, LineFault, VersionHead, quick_head, read_head};
+use tame_records::{IndexVersion, LineFault, VersionFlag, quick_version_flag, read_version_flag};
 
 /// What the readers say of a line.
 #[derive(Drop)]
 pub struct Answer {
-    /// Version and flag, by `read_head`.
-    head: Option<VersionHead>,
+    /// Version and flag, by `read_version_flag`.
+    head: Option<VersionFlag>,
     /// Whether the line has the form that is read in one pass.
     is_quick: bool,
     /// Whether the record of the line says the same.
@@ -15,9 +15,9 @@ pub struct Answer {
 }
 
 /// Version and flag of a line by its record.
-fn record_head(alloc: Global, line: &[u8]) -> Result<Option<VersionHead>, NoMemory> {
+fn record_version_flag(alloc: Global, line: &[u8]) -> Result<Option<VersionFlag>, NoMemory> {
     match IndexVersion::read_line(alloc, line) {
-        Ok(version) => Ok(Some(version.into_head())),
+        Ok(version) => Ok(Some(version.into_version_flag())),
         Err(LineFault::Json) => Ok(None),
         Err(LineFault::NoMemory) => Err(NoMemory),
     }
@@ -25,11 +25,11 @@ fn record_head(alloc: Global, line: &[u8]) -> Result<Option<VersionHead>, NoMemo
 
 /// What the readers say of a line.
 pub fn read_answer(alloc: Global, line: &[u8]) -> Result<Answer, NoMemory> {
-    let head = read_head(alloc, line)?;
-    let is_same = head == record_head(alloc, line)?;
+    let head = read_version_flag(alloc, line)?;
+    let is_same = head == record_version_flag(alloc, line)?;
     Ok(Answer {
         head,
-        is_quick: quick_head(line).is_some(),
+        is_quick: quick_version_flag(line).is_some(),
         is_same,
     })
 }
@@ -49,7 +49,7 @@ impl Answer {
     pub fn shown(&self, alloc: Global) -> Result<String, AllocError> {
         let mut out = match &self.head {
             None => String::from_str(alloc, "no record")?,
-            Some(head) => shown_head(alloc, head)?,
+            Some(head) => shown_version_flag(alloc, head)?,
         };
         if self.is_quick {
             out.push_str(", in one pass")?;
@@ -61,7 +61,7 @@ impl Answer {
     }
 }
 
-fn shown_head(alloc: Global, head: &VersionHead) -> Result<String, AllocError> {
+fn shown_version_flag(alloc: Global, head: &VersionFlag) -> Result<String, AllocError> {
     let version = head.version.as_str();
     let flag = if head.yanked { "yanked" } else { "not yanked" };
     if is_graphic(version) {

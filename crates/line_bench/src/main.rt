@@ -11,7 +11,7 @@ use std::process::ExitCode;
 use std::{env, fs, io};
 use tame_entry::{IndexEntryVersion, JsonLines};
 use tame_names::{Error, split};
-use tame_records::{IndexKrate, read_head};
+use tame_records::{IndexKrate, read_version_flag};
 
 /// How many lines there are, and how many of them are yanked.
 #[derive(Drop)]
@@ -56,13 +56,13 @@ fn deserialize(rt: &HostRuntime, bytes: &[u8]) -> Result<Count, Error> {
 }
 
 /// Version and flag of each line.
-fn heads(rt: &HostRuntime, bytes: &[u8]) -> Result<Count, Error> {
+fn version_flags(rt: &HostRuntime, bytes: &[u8]) -> Result<Count, Error> {
     let mut count = Count {
         lines: 0,
         yanked: 0,
     };
     for line in JsonLines::validate(bytes)?.lines() {
-        match read_head(rt.alloc(), line)? {
+        match read_version_flag(rt.alloc(), line)? {
             Some(head) => count.add(head.yanked),
             None => return Err(Error::Json { line: count.lines }),
         }
@@ -87,7 +87,7 @@ fn counted(rt: &HostRuntime, way: &str, bytes: &[u8]) -> io::Result<Count> {
     let done = match way {
         "read" => read(rt, bytes),
         "deserialize" => deserialize(rt, bytes),
-        "heads" => heads(rt, bytes),
+        "heads" => version_flags(rt, bytes),
         "scan" => scan(rt, bytes),
         _ => return Err(io::Error::from(ErrorKind::InvalidInput)),
     };

@@ -6,9 +6,9 @@ use Rattle.tame_names.specs.declared.errors.CacheError.{CacheError}
 use Rattle.tame_entry.specs.Entry.{ReadEntry, read_entry}
 use Rattle.std.proofs.lemmas.List.{take_at}
 use Rattle.tame_cache.specs.Disk.{File, Torn, TornFile, CutFile, content, with_piece}
-use Rattle.tame_cache.specs.Gate.{IsRefused, BeginsWithZero}
+use Rattle.tame_cache.specs.Gate.{IsUnreadable, BeginsWithZero}
 
-empty_refused : IsRefused (Some [])
+empty_refused : IsUnreadable (Some [])
 empty_refused = refl
 
 err_case : (t : Bool) (e : CacheError) (r : Result ReadEntry CacheError) → IsErr r → IsErr (cond t (Err e) r)
@@ -19,7 +19,7 @@ one_refused : (a : ℕ) → IsErr (read_entry (a ∷ []))
 one_refused a = err_case (nat_lt a 3) _ _ (err_case (nat_lt 3 a) _ _ refl)
 
 -- a file of at most one byte is no entry
-pub short_refused : (file : File) → length (content file) ≤ 1 → IsRefused file
+pub short_refused : (file : File) → length (content file) ≤ 1 → IsUnreadable file
 short_refused None short = tt
 short_refused (Some []) short = empty_refused
 short_refused (Some (a ∷ [])) short = one_refused a
@@ -55,21 +55,21 @@ torn_first x rest (Some old) file is torn =
     (first.0, torn.1 ∙ ap (λ (l : List ℕ). Some l) first.1)
 
 -- and unless it becomes 3 the file is no entry
-pub other_first : (y : ℕ) (rest : List ℕ) (file : File) → file ≡ Some (y ∷ rest) → y ≢ 3 → IsRefused file
-other_first y rest file is other = subst IsRefused (sym is) (not_three y rest other)
+pub other_first : (y : ℕ) (rest : List ℕ) (file : File) → file ≡ Some (y ∷ rest) → y ≢ 3 → IsUnreadable file
+other_first y rest file is other = subst IsUnreadable (sym is) (not_three y rest other)
 
 -- a front of a file with such a first byte
 cut_front : (x : ℕ) (rest new : List ℕ) → take (length new) (x ∷ rest) ≡ new → (new ≡ []) ⊎ ((more : List ℕ) × (new ≡ x ∷ more))
 cut_front x rest [] front = inl refl
 cut_front x rest (y ∷ ys) front = inr (take (length ys) rest, sym front)
 
-pub cut_other : (x len : ℕ) (rest : List ℕ) (from file : File) → from ≡ Some (x ∷ rest) → x ≢ 3 → CutFile len from file → IsRefused file
+pub cut_other : (x len : ℕ) (rest : List ℕ) (from file : File) → from ≡ Some (x ∷ rest) → x ≢ 3 → CutFile len from file → IsUnreadable file
 cut_other x len rest None file is other cut = absurd (cc)
 cut_other x len rest (Some old) file is other cut =
     let same : old ≡ x ∷ rest = cc in
     let front : take (length cut.0) (x ∷ rest) ≡ cut.0 = ap (λ (l : List ℕ). take (length cut.0) l) (sym same) ∙ cut.2.front in
     elim (cut_front x rest cut.0 front) [
-      | inl none ↦ subst IsRefused (sym (cut.1 ∙ ap (λ (l : List ℕ). Some l) none)) empty_refused
+      | inl none ↦ subst IsUnreadable (sym (cut.1 ∙ ap (λ (l : List ℕ). Some l) none)) empty_refused
       | inr more ↦ other_first x more.0 file (cut.1 ∙ ap (λ (l : List ℕ). Some l) more.1) other
     ]
 

@@ -4,17 +4,17 @@ use Rattle.std.specs.Prelude.{◌==◌}
 use Rattle.std.specs.Str.{bytes_eq}
 use Rattle.std.specs.String.{string_bytes}
 use Rattle.std.proofs.lemmas.Slice.Eq.{bytes_eq-Decides}
-use Rattle.tame_cache.specs.declared.memory_disk.Call.{Call}
-use Rattle.tame_cache.specs.declared.memory_disk.Change.TheVariants.{Sync}
+use Rattle.tame_cache.specs.declared.calls.Call.{Call}
+use Rattle.tame_cache.specs.declared.calls.Change.TheVariants.{Sync}
 use Rattle.tame_cache.specs.Disk.{File, Step, Synced, reads, IsAlone}
 use Rattle.tame_cache.specs.MemoryDisk.{half, lost, picked, spoiled}
-use Rattle.tame_cache.specs.Calls.{file_of, after, past_of}
+use Rattle.tame_cache.specs.Calls.{file_of, past_of, with_change}
 
 -- no change of the file was seen, or the copy has the picked one
 abbrev pub IsCopied : ℕ → List ℕ → List Step → List Step → List Step → Type 0
 IsCopied pick q copy seen all = ((copy ≡ []) × (seen ≡ [])) ⊎ ((file : File) × (rest : List Step) × (copy ≡ Synced file ∷ rest) × (file ≡ picked pick all))
 
-pub copied_more : (pick : ℕ) (q path : List ℕ) (copy new seen : List Step) (more : List Step) (calls : List Call) (item : Call) (file : File) → path ≡ string_bytes item.path → new ≡ after q copy path Sync file → more ≡ after q seen (string_bytes item.path) item.change (file_of item.file)
+pub copied_more : (pick : ℕ) (q path : List ℕ) (copy new seen : List Step) (more : List Step) (calls : List Call) (item : Call) (file : File) → path ≡ string_bytes item.path → new ≡ with_change q copy path Sync file → more ≡ with_change q seen (string_bytes item.path) item.change (file_of item.file)
     → file ≡ picked pick (past_of path [] calls) → IsCopied pick q copy seen (past_of q [] calls) → IsCopied pick q new more (past_of q [] calls)
 copied_more pick q path copy new seen more calls item file names added is possible copied = go (bytes_eq path q) refl
   where
@@ -22,7 +22,7 @@ copied_more pick q path copy new seen more calls item file names added is possib
     go true same = inr (file, copy, (added ∙ rw same), subst (λ (p : List ℕ). file ≡ picked pick (past_of p [] calls)) ((bytes_eq-Decides path q).0 same) possible)
     go false differs =
         let new_same : new ≡ copy = added ∙ rw differs in
-        let more_same : more ≡ seen = is ∙ ap (λ (p : List ℕ). after q seen p item.change (file_of item.file)) (sym names) ∙ rw differs in
+        let more_same : more ≡ seen = is ∙ ap (λ (p : List ℕ). with_change q seen p item.change (file_of item.file)) (sym names) ∙ rw differs in
         rw (new_same, more_same) copied
 
 none_picked : (a b c : Bool) → cond a (lost []) (cond b (reads []) (cond c (spoiled []) (half []))) ≡ None

@@ -5,7 +5,7 @@ use Rattle.std.specs.String.{string_bytes}
 use Rattle.std.specs.Str.{bytes_eq}
 use Rattle.std.proofs.lemmas.Bool.Decides.{nat_tests}
 use Rattle.std.proofs.lemmas.List.{take_more, take_all, take_min, length-replicate}
-use Rattle.tame_cache.specs.declared.memory_disk.Call.{Call}
+use Rattle.tame_cache.specs.declared.calls.Call.{Call}
 use Rattle.tame_cache.specs.Disk.{File, Step, Wrote, WasCut, Synced, Torn, TornFile, CutFile, with_piece, reads, may_leave}
 use Rattle.tame_cache.specs.Calls.{file_of, past_of}
 use Rattle.tame_cache.specs.MemoryDisk.{half, lost, pending, picked, spoiled, with_threes}

@@ -9,12 +9,12 @@ use Rattle.tame_names.specs.Paths.{ends_with_slash, join}
 use Rattle.tame_names.specs.declared.errors.CacheError.{CacheError}
 use Rattle.tame_names.proofs.Relative.{join_same, path_relative}
 use Rattle.tame_entry.specs.Entry.{Pair, ReadEntry, entry, has_no_zero, is_storable, read_entry}
-use Rattle.tame_entry.specs.Held.{ServerMap}
+use Rattle.tame_entry.specs.ServerMaps.{ServerMap}
 use Rattle.tame_entry.specs.Revision.{EntryRevision, Http, Commit, Unknown, IsFormed, IsRevision, entry_text}
 use Rattle.tame_entry.specs.declared.revisions.OwnedRevision.TheVariants.{Etag, LastModified}
 use Rattle.tame_entry.proofs.EntryLemmas.{entry_revision, honest_utf8}
 use Rattle.tame_cache.specs.Disk.{File, Step, Synced, reads, content, may_leave, EachMoment}
-use Rattle.tame_cache.specs.Gate.{IsOrderly, IsRefused}
+use Rattle.tame_cache.specs.Gate.{IsOrderly, IsUnreadable}
 use Rattle.tame_cache.specs.Kept.{Disk, History, IsAddedTo, IsFileKept, IsGood, IsGoodRead, IsGoodUnder, IsKept, IsWithoutFiles, IsWrittenFor, Keeps, KeepsFile, begins, cache_file, calls, crashes}
 use Rattle.tame_cache.proofs.Moments.{started, joined, ends, weaker}
 
@@ -45,7 +45,7 @@ good_read : (m : ServerMap) (p bytes : List ℕ) (r : Result ReadEntry CacheErro
 good_read m p bytes (Ok e) h = cc
 good_read m p bytes (Err f) h = tt
 
-pub refused_good : (m : ServerMap) (p : List ℕ) (file : File) → IsRefused file → IsGood m p file
+pub refused_good : (m : ServerMap) (p : List ℕ) (file : File) → IsUnreadable file → IsGood m p file
 refused_good m p None h = tt
 refused_good m p (Some bytes) h = good_read m p bytes (read_entry bytes) h
 
@@ -100,8 +100,8 @@ keeps_then m root old mid new first then_keeps p is =
 -- ---- a write of a file
 
 module _ (m : ServerMap) (path entry : List ℕ) (old new : List Step) (whole : IsGood m path (Some entry)) (kept : IsFileKept m path old)
-    (each : IsOrderly old → EachMoment old new (λ file. may_leave old file ⊎ (IsRefused file ⊎ (file ≡ Some entry)))) (ordered : IsOrderly old → IsOrderly new) where
-  one : (file : File) → may_leave old file ⊎ (IsRefused file ⊎ (file ≡ Some entry)) → IsGood m path file
+    (each : IsOrderly old → EachMoment old new (λ file. may_leave old file ⊎ (IsUnreadable file ⊎ (file ≡ Some entry)))) (ordered : IsOrderly old → IsOrderly new) where
+  one : (file : File) → may_leave old file ⊎ (IsUnreadable file ⊎ (file ≡ Some entry)) → IsGood m path file
   one file (inl now) = kept.all_good file now
   one file (inr (inl none)) = refused_good m path file none
   one file (inr (inr is)) = subst (IsGood m path) (sym is) whole
@@ -187,7 +187,7 @@ first_true false b h = h
 
 -- what a crash may leave of a file that is stored
 abbrev pub MayStore : List Step → List ℕ → File → Type 0
-MayStore past bytes file = may_leave past file ⊎ (IsRefused file ⊎ (file ≡ Some bytes))
+MayStore past bytes file = may_leave past file ⊎ (IsUnreadable file ⊎ (file ≡ Some bytes))
 
 -- the same of another name of the file and the entry
 pub moments_at : (old new : Disk) (q place bytes made : List ℕ) → place ≡ q → bytes ≡ made → (IsOrderly (old q) → EachMoment (old q) (new q) (MayStore (old q) bytes)) → IsOrderly (old place) → EachMoment (old place) (new place) (MayStore (old place) made)

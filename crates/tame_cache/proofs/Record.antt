@@ -5,23 +5,23 @@ use Rattle.std.specs.String.{string_bytes}
 use Rattle.std.specs.Str.{bytes_eq}
 use Rattle.std.proofs.lemmas.Slice.Eq.{bytes_eq-Decides}
 use Rattle.std.proofs.lemmas.List.{take_at, drop_at, take_min, length-take, length-take-le}
-use Rattle.tame_cache.specs.declared.memory_disk.Call.{Call}
-use Rattle.tame_cache.specs.declared.memory_disk.Change.{Change}
-use Rattle.tame_cache.specs.declared.memory_disk.Change.TheVariants.{Write, Cut, Sync}
+use Rattle.tame_cache.specs.declared.calls.Call.{Call}
+use Rattle.tame_cache.specs.declared.calls.Change.{Change}
+use Rattle.tame_cache.specs.declared.calls.Change.TheVariants.{Write, Cut, Sync}
 use Rattle.tame_cache.specs.Disk.{File, Step, Wrote, Torn, CutShort, TornFile, CutFile, content, with_piece, reads, may_leave, MayWrite}
-use Rattle.tame_cache.specs.Calls.{step_of, file_of, after, past_of}
+use Rattle.tame_cache.specs.Calls.{step_of, file_of, past_of, with_change}
 
-pub past_more : (path : List ℕ) (past : List Step) (calls : List Call) (call : Call) → past_of path past (calls ++ call ∷ []) ≡ after path (past_of path past calls) (string_bytes call.path) call.change (file_of call.file)
+pub past_more : (path : List ℕ) (past : List Step) (calls : List Call) (call : Call) → past_of path past (calls ++ call ∷ []) ≡ with_change path (past_of path past calls) (string_bytes call.path) call.change (file_of call.file)
 past_more path past [] call = refl
-past_more path past (first ∷ calls) call = past_more path (after path past (string_bytes first.path) first.change (file_of first.file)) calls call
+past_more path past (first ∷ calls) call = past_more path (with_change path past (string_bytes first.path) first.change (file_of first.file)) calls call
 
-pub after_same : (path : List ℕ) (past : List Step) (change : Change) (now : File) → after path past path change now ≡ step_of change now ∷ past
+pub after_same : (path : List ℕ) (past : List Step) (change : Change) (now : File) → with_change path past path change now ≡ step_of change now ∷ past
 after_same path past change now = let same = (bytes_eq-Decides path path).1 refl in rw same
 
-pub after_other : (path changed : List ℕ) (past : List Step) (change : Change) (now : File) → path ≢ changed → after path past changed change now ≡ past
+pub after_other : (path changed : List ℕ) (past : List Step) (change : Change) (now : File) → path ≢ changed → with_change path past changed change now ≡ past
 after_other path changed past change now other = go (bytes_eq changed path) refl
   where
-    go : (b : Bool) → bytes_eq changed path ≡ b → after path past changed change now ≡ past
+    go : (b : Bool) → bytes_eq changed path ≡ b → with_change path past changed change now ≡ past
     go true same = absurd (other (sym ((bytes_eq-Decides changed path).0 same)))
     go false differs = rw differs
 
@@ -31,10 +31,10 @@ reads_step (Cut len) file past = refl
 reads_step Sync file past = refl
 
 -- what a read gives after a call, by what a test of its path answered
-pub reads_same : (path changed : List ℕ) (past : List Step) (change : Change) (now : File) → bytes_eq changed path ≡ true → reads (after path past changed change now) ≡ now
+pub reads_same : (path changed : List ℕ) (past : List Step) (change : Change) (now : File) → bytes_eq changed path ≡ true → reads (with_change path past changed change now) ≡ now
 reads_same path changed past change now same = rw same (reads_step change now past)
 
-pub reads_other : (path changed : List ℕ) (past : List Step) (change : Change) (now : File) → bytes_eq changed path ≡ false → reads (after path past changed change now) ≡ reads past
+pub reads_other : (path changed : List ℕ) (past : List Step) (change : Change) (now : File) → bytes_eq changed path ≡ false → reads (with_change path past changed change now) ≡ reads past
 reads_other path changed past change now differs = rw differs
 
 -- a write that is whole is one that may be torn
@@ -89,15 +89,15 @@ noted_write (Ok u) old new at n now done failed torn =
 noted_write (Err e) old new at n now done failed torn = inl failed
 
 -- what a crash may leave after a call, by what a test of its path answered
-pub left_same : (path changed : List ℕ) (past : List Step) (change : Change) (now left : File) → bytes_eq changed path ≡ true → may_leave (step_of change now ∷ past) left → may_leave (after path past changed change now) left
+pub left_same : (path changed : List ℕ) (past : List Step) (change : Change) (now left : File) → bytes_eq changed path ≡ true → may_leave (step_of change now ∷ past) left → may_leave (with_change path past changed change now) left
 left_same path changed past change now left same here = rw same here
 
-pub left_other : (path changed : List ℕ) (past : List Step) (change : Change) (now left : File) → bytes_eq changed path ≡ false → may_leave past left → may_leave (after path past changed change now) left
+pub left_other : (path changed : List ℕ) (past : List Step) (change : Change) (now left : File) → bytes_eq changed path ≡ false → may_leave past left → may_leave (with_change path past changed change now) left
 left_other path changed past change now left differs here = rw differs here
 
 -- anything that is told of a file's changes after a call, by what a test of its path answered
-pub told_same : {X : Type 0} (f : List Step → X) (path changed : List ℕ) (past : List Step) (change : Change) (now : File) → bytes_eq changed path ≡ true → f (after path past changed change now) ≡ f (step_of change now ∷ past)
+pub told_same : {X : Type 0} (f : List Step → X) (path changed : List ℕ) (past : List Step) (change : Change) (now : File) → bytes_eq changed path ≡ true → f (with_change path past changed change now) ≡ f (step_of change now ∷ past)
 told_same f path changed past change now same = rw same refl
 
-pub told_other : {X : Type 0} (f : List Step → X) (path changed : List ℕ) (past : List Step) (change : Change) (now : File) → bytes_eq changed path ≡ false → f (after path past changed change now) ≡ f past
+pub told_other : {X : Type 0} (f : List Step → X) (path changed : List ℕ) (past : List Step) (change : Change) (now : File) → bytes_eq changed path ≡ false → f (with_change path past changed change now) ≡ f past
 told_other f path changed past change now differs = rw differs refl

@@ -4,7 +4,7 @@ use Rattle.std.specs.Prelude.{option_map}
 use Rattle.std.proofs.lemmas.Bool.{cases_eq}
 use Rattle.tame_cache.specs.declared.disk.Peek.TheVariants.{Byte}
 use Rattle.tame_cache.specs.Disk.{File, Step, Synced, TornFile, content, first_of, with_piece, reads, may_leave, MayWrite, MayCut, MaySync, IsAlone, EachMoment}
-use Rattle.tame_cache.specs.Gate.{IsRefused, IsOrderly, BeginsWithZero, IsStored}
+use Rattle.tame_cache.specs.Gate.{IsUnreadable, IsOrderly, BeginsWithZero, IsStored}
 use Rattle.tame_cache.proofs.Moments.{started, joined, weaker, ends, written, shortened, synced, reads_left}
 use Rattle.tame_cache.proofs.Bytes.{short_refused, torn_short, torn_first, other_first, cut_other, torn_behind, cut_behind, laid_bytes}
 
@@ -21,10 +21,10 @@ abbrev pub FirstTorn : List Step → File → Type 0
 FirstTorn old file = may_leave old file ⊎ ((from : File) × may_leave old from × TornFile 0 1 from file)
 
 -- where the gate stands open, a file is the one that is there, or refused
-pub shut_open : (old new : List Step) → (rest : List ℕ) → reads old ≡ Some (3 ∷ rest) → IsAlone old → EachMoment old new (FirstTorn old) → EachMoment old new (λ file. may_leave old file ⊎ IsRefused file)
-shut_open old new rest is alone each = weaker old new (FirstTorn old) (λ file. may_leave old file ⊎ IsRefused file) one each
+pub shut_open : (old new : List Step) → (rest : List ℕ) → reads old ≡ Some (3 ∷ rest) → IsAlone old → EachMoment old new (FirstTorn old) → EachMoment old new (λ file. may_leave old file ⊎ IsUnreadable file)
+shut_open old new rest is alone each = weaker old new (FirstTorn old) (λ file. may_leave old file ⊎ IsUnreadable file) one each
   where
-    one : (file : File) → FirstTorn old file → may_leave old file ⊎ IsRefused file
+    one : (file : File) → FirstTorn old file → may_leave old file ⊎ IsUnreadable file
     one file (inl now) = inl now
     one file (inr from) =
         let first = torn_first 3 rest from.0 file (alone from.0 from.1 ∙ is) from.2 in
@@ -52,7 +52,7 @@ shut_short old new short each = weaker old new (FirstTorn old) (λ file. length 
 -- a file that begins with another byte, cut, synced and begun again
 module _ (old : List Step) (byte : ℕ) (rest : List ℕ) (is : reads old ≡ Some (byte ∷ rest)) (alone : IsAlone old) (other : byte ≢ 3) where
   abbrev pub Foreign : File → Type 0
-  Foreign file = may_leave old file ⊎ IsRefused file
+  Foreign file = may_leave old file ⊎ IsUnreadable file
 
   pub foreign_cut : (cut : List Step) → MayCut 0 old cut → EachMoment old cut Foreign
   foreign_cut cut step = shortened old old cut Foreign 0 (started old Foreign (λ file now. inl now)) step (λ from file now torn. inr (cut_other byte 0 rest from file (alone from now ∙ is) other torn))

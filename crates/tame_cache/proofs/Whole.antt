@@ -2,7 +2,7 @@
 use Rattle.std.proofs.Common.{◌≡◌, ◌⊎◌, inl, inr, ⊎_elim, ℕ, List, ◌∷◌, drop, Some, sym, ◌∙◌, ap, arith}
 use Rattle.std.proofs.lemmas.Bool.{cases_eq}
 use Rattle.tame_cache.specs.Disk.{File, Step, reads, may_leave, EachMoment}
-use Rattle.tame_cache.specs.Gate.{IsRefused, IsOrderly, BeginsWithZero, DiffersInFirst}
+use Rattle.tame_cache.specs.Gate.{IsUnreadable, IsOrderly, BeginsWithZero, DiffersInFirst}
 use Rattle.tame_cache.proofs.Moments.{joined, weaker, ends, reads_left}
 use Rattle.tame_cache.proofs.Bytes.{other_first}
 
@@ -15,14 +15,14 @@ differs_orderly p3 p4 one each none file now = let differs = ends p3 p4 (Differs
 
 module _ (p0 : List Step) (entry tail : List ℕ) (is : entry ≡ 3 ∷ tail) where
   abbrev pub Kept : File → Type 0
-  Kept file = may_leave p0 file ⊎ (IsRefused file ⊎ (file ≡ Some entry))
+  Kept file = may_leave p0 file ⊎ (IsUnreadable file ⊎ (file ≡ Some entry))
 
   pub whole_settle : (p1 : List Step) → EachMoment p0 p1 (may_leave p0) → EachMoment p0 p1 Kept
   whole_settle p1 each = weaker p0 p1 (may_leave p0) Kept (λ file now. inl now) each
 
-  pub whole_close : (p1 p2 : List Step) → EachMoment p0 p1 (may_leave p0) → EachMoment p1 p2 (λ file. may_leave p1 file ⊎ IsRefused file) → EachMoment p0 p2 Kept
+  pub whole_close : (p1 p2 : List Step) → EachMoment p0 p1 (may_leave p0) → EachMoment p1 p2 (λ file. may_leave p1 file ⊎ IsUnreadable file) → EachMoment p0 p2 Kept
   whole_close p1 p2 first each =
-      joined p0 p1 p2 Kept (whole_settle p1 first) (weaker p1 p2 (λ file. may_leave p1 file ⊎ IsRefused file) Kept (λ file. ⊎_elim (λ now. inl (ends p0 p1 (may_leave p0) first file now)) (λ refused. inr (inl refused))) each)
+      joined p0 p1 p2 Kept (whole_settle p1 first) (weaker p1 p2 (λ file. may_leave p1 file ⊎ IsUnreadable file) Kept (λ file. ⊎_elim (λ now. inl (ends p0 p1 (may_leave p0) first file now)) (λ refused. inr (inl refused))) each)
 
   pub whole_lay : (p2 p3 : List Step) → EachMoment p0 p2 Kept → EachMoment p2 p3 BeginsWithZero → EachMoment p0 p3 Kept
   whole_lay p2 p3 so_far each =

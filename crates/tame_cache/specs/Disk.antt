@@ -1,4 +1,5 @@
--- A file of a disk as the list of its changes: what a read gives, what a crash now may leave, and what a crash might have left (this project).
+-- A file of a disk as the list of its changes: what a read gives, what a crash now may leave, and
+-- what a crash might have left (this project).
 use Rattle.std.specs.Prelude.{◌≡◌, ◌⊎◌, ℕ, ◌+◌, ◌≤◌, min, max, List, [], ◌∷◌, ◌++◌, length, take, drop, Option, Some, None}
 use Rattle.tame_cache.specs.declared.disk.Peek.{Peek}
 use Rattle.tame_cache.specs.declared.disk.Peek.TheVariants.{Absent, Empty, Byte}
@@ -22,14 +23,16 @@ first_of (Some (byte ∷ rest)) = Byte byte
 abbrev pub with_piece : List ℕ → ℕ → List ℕ → List ℕ
 with_piece bytes at piece = take at bytes ++ piece ++ drop (at + length piece) bytes
 
--- a write of n bytes at a place that a crash may have torn: any bytes in that range and past the old end, the same elsewhere, and any length between the old and the new one
+-- a write of n bytes at a place that a crash may have torn: any bytes in that range and past the
+-- old end, the same elsewhere, and any length between the old and the new one
 pub record Torn (at n : ℕ) (old new : List ℕ) : Type 0 where
   pub before : take (min at (length old)) new ≡ take at old
   pub after : drop (at + n) new ≡ drop (at + n) old
   pub no_shorter : length old ≤ length new
   pub no_longer : length new ≤ max (length old) (at + n)
 
--- a cut that a crash may have torn: any length between the old and the new one, and the bytes below it as they were
+-- a cut that a crash may have torn: any length between the old and the new one, and the bytes below
+-- it as they were
 pub record CutShort (len : ℕ) (old new : List ℕ) : Type 0 where
   pub no_shorter : min len (length old) ≤ length new
   pub front : take (length new) old ≡ new
@@ -43,7 +46,8 @@ abbrev pub CutFile : ℕ → File → File → Type 0
 CutFile len None new = new ≡ None
 CutFile len (Some old) new = (bytes : List ℕ) × (new ≡ Some bytes) × CutShort len old bytes
 
--- a change of a file: the range that was written, the length that it was cut to, or that it was synced; and what a read gives after it
+-- a change of a file: the range that was written, the length that it was cut to, or that it was
+-- synced; and what a read gives after it
 pub data Step : Type 0 where
   Wrote : (at n : ℕ) (now : File) → Step
   WasCut : (len : ℕ) (now : File) → Step
@@ -59,21 +63,27 @@ reads (Synced now ∷ older) = now
 -- what a crash now may leave
 abbrev pub may_leave : List Step → File → Type 0
 may_leave [] file = file ≡ None
-may_leave (Wrote at n now ∷ older) file = (file ≡ now) ⊎ ((old : File) × may_leave older old × TornFile at n old file)
-may_leave (WasCut len now ∷ older) file = (file ≡ now) ⊎ ((old : File) × may_leave older old × CutFile len old file)
+may_leave (Wrote at n now ∷ older) file =
+    (file ≡ now) ⊎ ((old : File) × may_leave older old × TornFile at n old file)
+may_leave (WasCut len now ∷ older) file =
+    (file ≡ now) ⊎ ((old : File) × may_leave older old × CutFile len old file)
 may_leave (Synced now ∷ older) file = file ≡ now
 
 -- what a crash might have left at some moment since the file had t changes
 abbrev pub left_since : ℕ → List Step → File → Type 0
 left_since t [] file = may_leave [] file
-left_since t (step ∷ older) file = may_leave (step ∷ older) file ⊎ ((t ≤ length older) × left_since t older file)
+left_since t (step ∷ older) file =
+    may_leave (step ∷ older) file ⊎ ((t ≤ length older) × left_since t older file)
 
--- a write of n bytes, failed or not: nothing was done, or it is one change more, which a read may find torn
+-- a write of n bytes, failed or not: nothing was done, or it is one change more, which a read may
+-- find torn
 abbrev pub MayWrite : ℕ → ℕ → List Step → List Step → Type 0
-MayWrite at n old new = (new ≡ old) ⊎ ((new ≡ Wrote at n (reads new) ∷ old) × TornFile at n (reads old) (reads new))
+MayWrite at n old new =
+    (new ≡ old) ⊎ ((new ≡ Wrote at n (reads new) ∷ old) × TornFile at n (reads old) (reads new))
 
 abbrev pub MayCut : ℕ → List Step → List Step → Type 0
-MayCut len old new = (new ≡ old) ⊎ ((new ≡ WasCut len (reads new) ∷ old) × CutFile len (reads old) (reads new))
+MayCut len old new =
+    (new ≡ old) ⊎ ((new ≡ WasCut len (reads new) ∷ old) × CutFile len (reads old) (reads new))
 
 -- a sync, failed or not: nothing was done, or it is one change more
 abbrev pub MaySync : List Step → List Step → Type 0

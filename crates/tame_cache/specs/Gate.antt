@@ -5,9 +5,9 @@ use Rattle.tame_cache.specs.Disk.{File, Step, content, first_of, reads, may_leav
 use Rattle.tame_cache.specs.declared.disk.Peek.{Peek}
 
 -- no readable entry: there is no file, or its bytes are refused
-abbrev pub IsRefused : File → Type 0
-IsRefused None = Unit {0}
-IsRefused (Some bytes) = IsErr (read_entry bytes)
+abbrev pub IsUnreadable : File → Type 0
+IsUnreadable None = Unit {0}
+IsUnreadable (Some bytes) = IsErr (read_entry bytes)
 
 -- where a read finds no file, a crash leaves none, or one of at most one byte
 abbrev pub IsOrderly : List Step → Type 0
@@ -28,7 +28,8 @@ pub record IsClosed (past : List Step) : Type 0 where
 
 -- two files that are equal behind their first bytes
 abbrev pub DiffersInFirst : File → File → Type 0
-DiffersInFirst one other = (x : ℕ) × (y : ℕ) × (rest : List ℕ) × (one ≡ Some (x ∷ rest)) × (other ≡ Some (y ∷ rest))
+DiffersInFirst one other =
+    (x : ℕ) × (y : ℕ) × (rest : List ℕ) × (one ≡ Some (x ∷ rest)) × (other ≡ Some (y ∷ rest))
 
 -- the file has these bytes, and a crash leaves no other
 pub record IsStored (bytes : List ℕ) (past : List Step) : Type 0 where

@@ -24,7 +24,8 @@ lost (Synced now ∷ older) = now
 -- a range of threes at a place; behind the end there is none
 abbrev pub with_threes : ℕ → ℕ → File → File
 with_threes at n None = if at == 0 then Some (replicate n 3) else None
-with_threes at n (Some bytes) = if nat_le at (length bytes) then Some (with_piece bytes at (replicate n 3)) else Some bytes
+with_threes at n (Some bytes) =
+    if nat_le at (length bytes) then Some (with_piece bytes at (replicate n 3)) else Some bytes
 
 -- each byte that was written since the last sync is a three
 abbrev pub spoiled : List Step → File
@@ -52,7 +53,8 @@ picked pick past =
     else if pick == 2 then spoiled past
     else half past
 
--- after a crash the file is the picked one, which is one that a crash may leave, and nothing is pending
+-- after a crash the file is the picked one, which is one that a crash may leave, and nothing is
+-- pending
 pub record IsCrashed (pick : ℕ) (path : List ℕ) (old new : MemCacheDisk) : Type 0 where
   pub picked : reads (past_in new path) ≡ picked pick (past_in old path)
   pub possible : may_leave (past_in old path) (reads (past_in new path))

@@ -1,14 +1,15 @@
 //! The entries of an index in a folder.
 ghost use Rattle.std.specs.Prelude.{◌≡◌, ◌≢◌, ◌⊎◌, ◌↔◌, ◌≤◌, ◌+◌, ℕ, List, Ok, Err, Some, IsTrue, IfOk, IfErr, length};
-ghost use Rattle.tame_names.specs.Counts.{HasCause, Rose};
+ghost use Rattle.tame_names.specs.Counts.{HasCause, CountRose};
 ghost use Rattle.tame_names.specs.KrateNames.{text_of};
-ghost use Rattle.tame_names.specs.Names.{IsIndexPath, path};
+ghost use Rattle.tame_names.specs.Names.{IsIndexPath};
+ghost use Rattle.tame_names.specs.Names as spec;
 ghost use Rattle.tame_entry.specs.Entry.{entry, is_storable, written_pairs};
-ghost use Rattle.tame_entry.specs.Held.{ServerMap};
+ghost use Rattle.tame_entry.specs.ServerMaps.{ServerMap};
 ghost use Rattle.tame_entry.specs.Revision.{revision_value};
 ghost use Rattle.tame_cache.specs.CacheFiles.{HandsOut};
 ghost use Rattle.tame_cache.specs.Disk.{EachMoment, File, may_leave, reads};
-ghost use Rattle.tame_cache.specs.Gate.{IsOrderly, IsRefused, IsStored};
+ghost use Rattle.tame_cache.specs.Gate.{IsOrderly, IsUnreadable, IsStored};
 ghost use Rattle.tame_cache.specs.Folders.{MakesOnly};
 ghost use Rattle.tame_cache.specs.Kept.{IsFileKept, IsKept, IsWrittenFor, Keeps, KeepsFile, cache_file, cache_file_of};
 
@@ -69,8 +70,10 @@ impl IndexCache {
 
     /// The path of a crate's file.
     pub fn cache_path(&self, alloc: Global, name: KrateName<'_>) -> Result<Text, NoMemory>
-        ensures file { IfOk result (λ q. cache_file_of self.now.path (text_of name.entry) ≡ Some q) }
-        ensures place { IfOk result (λ q. (p : List ℕ) × IsIndexPath p × (path (text_of name.entry) ≡ Some p) × (q ≡ cache_file self.now.path p)) }
+        ensures file { IfOk result (λ q. cache_file_of self.now.path (text_of name.entry)
+            ≡ Some q) }
+        ensures place { IfOk result (λ q. (p : List ℕ) × IsIndexPath p
+            × (spec.path (text_of name.entry) ≡ Some p) × (q ≡ cache_file self.now.path p)) }
     {
         let relative = name.relative_path(alloc, None)?;
         let folder = join(alloc, self.path.as_str(), ".cache")?;
@@ -85,7 +88,9 @@ impl IndexCache {
         lock: &'l FileLock,
         disk: &mut D,
     ) -> Result<Option<IndexEntry<'static, 'l>>, Error>
-        ensures read { D.tells → (q : List ℕ) → cache_file_of self.now.path (text_of name.entry) ≡ Some q → IfOk result (λ e. HandsOut e (reads (D.past disk.old q))) }
+        ensures read { D.tells → (q : List ℕ)
+            → cache_file_of self.now.path (text_of name.entry) ≡ Some q
+            → IfOk result (λ e. HandsOut e (reads (D.past disk.old q))) }
         ensures same { D.tells → (q : List ℕ) → D.past disk.new q ≡ D.past disk.old q }
         ensures folders { D.tells → D.folders disk.new ≡ D.folders disk.old }
         ensures calls { D.made disk.new ≤ D.made disk.old + 1 }
@@ -109,7 +114,9 @@ impl IndexCache {
         lock: &'l FileLock,
         disk: &mut D,
     ) -> Result<Option<IndexEntry<'static, 'l>>, Error>
-        ensures read { D.tells → (q : List ℕ) → cache_file_of self.now.path (text_of name.entry) ≡ Some q → IfOk result (λ e. HandsOut e (reads (D.past disk.old q))) }
+        ensures read { D.tells → (q : List ℕ)
+            → cache_file_of self.now.path (text_of name.entry) ≡ Some q
+            → IfOk result (λ e. HandsOut e (reads (D.past disk.old q))) }
         ensures same { D.tells → (q : List ℕ) → D.past disk.new q ≡ D.past disk.old q }
         ensures folders { D.tells → D.folders disk.new ≡ D.folders disk.old }
         ensures calls { D.made disk.new ≤ D.made disk.old + 1 }
@@ -131,29 +138,57 @@ impl IndexCache {
         disk: &mut D,
     ) -> Result<Kept, CacheFault>
         // what was stored, and when
-        ensures stored { D.tells → (q : List ℕ) → cache_file_of self.now.path (text_of name.entry) ≡ Some q
-            → result ≡ Ok Kept.Written → IsStored (entry (revision_value revision.now) (written_pairs cw.entry)) (D.past disk.new q) }
-        ensures storable { IfOk result (λ kept. (kept ≡ Kept.Written) ↔ IsTrue (is_storable (revision_value revision.now) (written_pairs cw.entry))) }
-        ensures attempted { result ≡ Err CacheFault.Disk → IsTrue (is_storable (revision_value revision.now) (written_pairs cw.entry)) }
-        ensures uncalled { (result ≡ Ok Kept.NotStored) ⊎ (result ≡ Err CacheFault.NoMemory) → disk.new ≡ disk.old }
+        ensures stored { D.tells → (q : List ℕ)
+            → cache_file_of self.now.path (text_of name.entry) ≡ Some q
+            → result ≡ Ok Kept.Written → IsStored
+            (entry (revision_value revision.now) (written_pairs cw.entry)) (D.past disk.new q) }
+        ensures storable { IfOk result
+            (λ kept. (kept ≡ Kept.Written)
+            ↔ IsTrue (is_storable (revision_value revision.now) (written_pairs cw.entry))) }
+        ensures attempted { result ≡ Err CacheFault.Disk
+            → IsTrue (is_storable (revision_value revision.now) (written_pairs cw.entry)) }
+        ensures uncalled { (result ≡ Ok Kept.NotStored) ⊎ (result ≡ Err CacheFault.NoMemory)
+            → disk.new ≡ disk.old }
 
-        // a crash at any moment leaves a file that it could have left before, a refused one, or the entry whole
-        ensures any_moment { D.tells → (q : List ℕ) → cache_file_of self.now.path (text_of name.entry) ≡ Some q → IsOrderly (D.past disk.old q)
-            → EachMoment (D.past disk.old q) (D.past disk.new q) (λ file. may_leave (D.past disk.old q) file ⊎ (IsRefused file ⊎ (file ≡ Some (entry (revision_value revision.now) (written_pairs cw.entry))))) }
-        ensures orderly { D.tells → (q : List ℕ) → cache_file_of self.now.path (text_of name.entry) ≡ Some q → IsOrderly (D.past disk.old q) → IsOrderly (D.past disk.new q) }
-        ensures others { D.tells → (q : List ℕ) → cache_file_of self.now.path (text_of name.entry) ≢ Some q → D.past disk.new q ≡ D.past disk.old q }
+        // a crash at any moment leaves a file that it could have left before, a refused one, or the
+        // entry whole
+        ensures any_moment { D.tells → (q : List ℕ)
+            → cache_file_of self.now.path (text_of name.entry) ≡ Some q
+            → IsOrderly (D.past disk.old q)
+            → EachMoment (D.past disk.old q) (D.past disk.new q)
+            (λ file. may_leave (D.past disk.old q) file
+            ⊎ (IsUnreadable file
+            ⊎ (file ≡ Some (entry (revision_value revision.now) (written_pairs cw.entry))))) }
+        ensures orderly { D.tells → (q : List ℕ)
+            → cache_file_of self.now.path (text_of name.entry) ≡ Some q
+            → IsOrderly (D.past disk.old q) → IsOrderly (D.past disk.new q) }
+        ensures others { D.tells → (q : List ℕ)
+            → cache_file_of self.now.path (text_of name.entry) ≢ Some q
+            → D.past disk.new q ≡ D.past disk.old q }
 
         // no folders are made but those above its file
-        ensures folders { D.tells → MakesOnly (λ q. cache_file_of self.now.path (text_of name.entry) ≡ Some q) (D.folders disk.old) (D.folders disk.new) }
+        ensures folders { D.tells → MakesOnly
+            (λ q. cache_file_of self.now.path (text_of name.entry) ≡ Some q) (D.folders disk.old)
+            (D.folders disk.new) }
 
-        // a kept file is kept at every moment, whatever stands at others, where what is written is what the server held; and so is a kept disk
-        ensures kept { D.tells → (m : ServerMap) (p : List ℕ) → path (text_of name.entry) ≡ Some p
-            → (IsTrue (is_storable (revision_value revision.now) (written_pairs cw.entry)) → IsWrittenFor m p (revision_value revision.now) (written_pairs cw.entry))
-            → IsFileKept m p (D.past disk.old (cache_file self.now.path p)) → KeepsFile m p (D.past disk.old (cache_file self.now.path p)) (D.past disk.new (cache_file self.now.path p)) }
-        ensures disk_kept { D.tells → (m : ServerMap) → ((p : List ℕ) → path (text_of name.entry) ≡ Some p → IsTrue (is_storable (revision_value revision.now) (written_pairs cw.entry)) → IsWrittenFor m p (revision_value revision.now) (written_pairs cw.entry))
-            → IsKept m self.now.path (D.past disk.old) → Keeps m self.now.path (D.past disk.old) (D.past disk.new) }
+        // a kept file is kept at every moment, whatever stands at others, where what is written is
+        // what the server held; and so is a kept disk
+        ensures kept { D.tells → (m : ServerMap) (p : List ℕ)
+            → spec.path (text_of name.entry) ≡ Some p
+            → (IsTrue (is_storable (revision_value revision.now) (written_pairs cw.entry))
+            → IsWrittenFor m p (revision_value revision.now) (written_pairs cw.entry))
+            → IsFileKept m p (D.past disk.old (cache_file self.now.path p))
+            → KeepsFile m p (D.past disk.old (cache_file self.now.path p))
+            (D.past disk.new (cache_file self.now.path p)) }
+        ensures disk_kept { D.tells → (m : ServerMap)
+            → ((p : List ℕ) → spec.path (text_of name.entry) ≡ Some p
+            → IsTrue (is_storable (revision_value revision.now) (written_pairs cw.entry))
+            → IsWrittenFor m p (revision_value revision.now) (written_pairs cw.entry))
+            → IsKept m self.now.path (D.past disk.old)
+            → Keeps m self.now.path (D.past disk.old) (D.past disk.new) }
         ensures calls { D.made disk.new ≤ D.made disk.old + 13 }
-        ensures cause { HasCause CacheFault.NoMemory (D.faults disk.old) (D.faults disk.new) result }
+        ensures cause { HasCause CacheFault.NoMemory (D.faults disk.old)
+            (D.faults disk.new) result }
     {
         let _lock = lock;
         let storable = cw.is_storable(alloc, revision)?;

@@ -1,7 +1,7 @@
 //! Calls counted, and made to fail by their numbers.
 ghost use Rattle.std.specs.Prelude.{◌≡◌, ◌≤◌, ◌+◌, IsErr};
-ghost use Rattle.tame_names.specs.Counts.{Rose};
-ghost use Rattle.tame_cache.specs.Counting.{IsCalled, IsToFail, WasStarved};
+ghost use Rattle.tame_names.specs.Counts.{CountRose};
+ghost use Rattle.tame_cache.specs.Counting.{IsCalled, IsToFail, RanOutOfMemory};
 ghost use Rattle.tame_cache.specs.Faults.{HasDiskCause};
 
 use crate::disk::DiskFault;
@@ -21,7 +21,7 @@ pub struct Counts {
 impl Counts {
     /// Counts a fault.
     pub fn fail(&mut self) -> DiskFault
-        ensures rose { Rose self.old.faults self.new.faults }
+        ensures rose { CountRose self.old.faults self.new.faults }
         ensures later { self.old.faults ≤ self.new.faults }
         ensures made { self.new.made ≡ self.old.made }
         ensures failing { self.new.failing ≡ self.old.failing }
@@ -34,12 +34,12 @@ impl Counts {
 
     /// Counts a fault for want of memory.
     pub fn starve(&mut self) -> DiskFault
-        ensures rose { Rose self.old.faults self.new.faults }
+        ensures rose { CountRose self.old.faults self.new.faults }
         ensures later { self.old.faults ≤ self.new.faults }
         ensures made { self.new.made ≡ self.old.made }
         ensures failing { self.new.failing ≡ self.old.failing }
         ensures stop { self.new.stop ≡ self.old.stop }
-        ensures starved { WasStarved self.old self.new }
+        ensures starved { RanOutOfMemory self.old self.new }
     {
         self.starved = self.starved.saturating_add(1);
         self.fail()

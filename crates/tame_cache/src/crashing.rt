@@ -2,18 +2,18 @@
 ghost use Rattle.std.specs.Prelude.{◌≡◌, ◌<◌, ◌≤◌, ◌+◌, ◌-◌, ◌^◌, [], ◌∷◌, ℕ, List, option_copied, IfOk};
 ghost use Rattle.tame_cache.specs.Disk.{File, Step};
 ghost use Rattle.tame_cache.specs.Calls.{file_of, past_of, step_of};
-ghost use Rattle.tame_cache.specs.MemoryDisk.{half, lost, pending, picked, spoiled, with_threes};
+ghost use Rattle.tame_cache.specs.MemoryDisk as spec;
 
-use crate::memory_disk::{
-    Call, Change, MemCacheDisk, add_call, copy_of, current, front_of, with_bytes,
-};
+use crate::calls::{Call, Change, add_call, copy_of, current, front_of, with_bytes};
+use crate::memory_disk::MemCacheDisk;
 use std::alloc::{AllocError, Global};
 use tame_names::NoMemory;
 
 /// The file as after its last sync, one change later.
 fn after_lost<'a>(found: Option<&'a Vec<u8>>, call: &'a Call) -> Option<&'a Vec<u8>>
-    ensures { (past : List Step) → file_of (option_copied found.entry) ≡ lost past
-        → file_of (option_copied result) ≡ lost (step_of call.now.change (file_of call.now.file) ∷ past) }
+    ensures { (past : List Step) → file_of (option_copied found.entry) ≡ spec.lost past
+        → file_of (option_copied result)
+        ≡ spec.lost (step_of call.now.change (file_of call.now.file) ∷ past) }
 {
     match call.change {
         Change::Sync => call.file.as_ref(),
@@ -24,7 +24,7 @@ fn after_lost<'a>(found: Option<&'a Vec<u8>>, call: &'a Call) -> Option<&'a Vec<
 
 /// The file as after its last sync.
 fn lost<'a>(calls: &'a [Call], path: &str) -> Option<&'a Vec<u8>>
-    ensures { file_of (option_copied result) ≡ lost (past_of path.now [] calls.now) }
+    ensures { file_of (option_copied result) ≡ spec.lost (past_of path.now [] calls.now) }
 {
     let mut found = None;
     for call in calls {
@@ -42,7 +42,7 @@ fn with_threes(
     at: u64,
     len: u64,
 ) -> Result<Option<Vec<u8>>, AllocError>
-    ensures { IfOk result (λ next. file_of next ≡ with_threes at len (file_of file)) }
+    ensures { IfOk result (λ next. file_of next ≡ spec.with_threes at len (file_of file)) }
 {
     let threes = vec![in alloc; 3u8; len as usize]?;
     match file {
@@ -60,7 +60,8 @@ fn after_spoiled(
     file: Option<Vec<u8>>,
     call: &Call,
 ) -> Result<Option<Vec<u8>>, AllocError>
-    ensures { IfOk result (λ next. (past : List Step) → file_of file ≡ spoiled past → file_of next ≡ spoiled (step_of call.now.change (file_of call.now.file) ∷ past)) }
+    ensures { IfOk result (λ next. (past : List Step) → file_of file ≡ spec.spoiled past
+        → file_of next ≡ spec.spoiled (step_of call.now.change (file_of call.now.file) ∷ past)) }
 {
     match call.change {
         Change::Sync => copy_of(alloc, call.file.as_ref()),
@@ -71,7 +72,7 @@ fn after_spoiled(
 
 /// The file with threes in place of what was written since its last sync.
 fn spoiled(alloc: Global, calls: &[Call], path: &str) -> Result<Option<Vec<u8>>, AllocError>
-    ensures { IfOk result (λ file. file_of file ≡ spoiled (past_of path.now [] calls.now)) }
+    ensures { IfOk result (λ file. file_of file ≡ spec.spoiled (past_of path.now [] calls.now)) }
 {
     let mut file = None;
     for call in calls {
@@ -85,7 +86,8 @@ fn spoiled(alloc: Global, calls: &[Call], path: &str) -> Result<Option<Vec<u8>>,
 /// The number of changes that aren't synced, after one change more.
 fn next_pending(count: usize, change: Change) -> usize
     requires { count < 2 ^ 64 - 1 }
-    ensures next { (past : List Step) (now : File) → count ≡ pending past → result ≡ pending (step_of change now ∷ past) }
+    ensures next { (past : List Step) (now : File) → count ≡ spec.pending past
+        → result ≡ spec.pending (step_of change now ∷ past) }
     ensures bound { result ≤ count + 1 }
 {
     match change {
@@ -97,7 +99,7 @@ fn next_pending(count: usize, change: Change) -> usize
 
 /// How many changes of a file aren't synced.
 fn pending(calls: &[Call], path: &str) -> usize
-    ensures { result ≡ pending (past_of path.now [] calls.now) }
+    ensures { result ≡ spec.pending (past_of path.now [] calls.now) }
 {
     let mut count = 0;
     for call in calls {
@@ -110,7 +112,7 @@ fn pending(calls: &[Call], path: &str) -> usize
 
 /// The file with the first half of the changes that aren't synced.
 fn half<'a>(calls: &'a [Call], path: &str) -> Option<&'a Vec<u8>>
-    ensures { file_of (option_copied result) ≡ half (past_of path.now [] calls.now) }
+    ensures { file_of (option_copied result) ≡ spec.half (past_of path.now [] calls.now) }
 {
     let pending = pending(calls, path);
     let mut left = pending - pending / 2;
@@ -131,7 +133,8 @@ fn picked(
     path: &str,
     pick: u8,
 ) -> Result<Option<Vec<u8>>, AllocError>
-    ensures { IfOk result (λ file. file_of file ≡ picked pick (past_of path.now [] calls.now)) }
+    ensures { IfOk result (λ file. file_of file
+        ≡ spec.picked pick (past_of path.now [] calls.now)) }
 {
     match pick {
         0 => copy_of(alloc, lost(calls, path)),
@@ -143,6 +146,7 @@ fn picked(
 
 impl MemCacheDisk {
     ghost use Rattle.tame_cache.specs.MemoryDisk.{IsCrashed, IsFresh};
+    ghost use Rattle.tame_cache.specs.MemoryDisk as spec;
 
     /// The disk after a crash, with nothing pending and no call that is to fail. Each file is, by
     /// the pick, 0 as after its last sync, 1 as a read gives, 2 with threes in place of what was

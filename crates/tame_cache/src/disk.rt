@@ -55,7 +55,8 @@ pub trait CacheDisk {
 
     /// Looks at the first byte of a file.
     fn peek(&mut self, path: &str) -> Result<Peek, DiskFault>
-        ensures first { tells → IfOk result (λ first. first ≡ first_of (reads (past self.old path.now))) }
+        ensures first { tells → IfOk result
+            (λ first. first ≡ first_of (reads (past self.old path.now))) }
         ensures same { tells → (q : List ℕ) → past self.new q ≡ past self.old q }
         ensures folders { tells → folders self.new ≡ folders self.old }
         ensures calls { made self.new ≤ made self.old + 1 }
@@ -63,16 +64,19 @@ pub trait CacheDisk {
 
     /// Reads a whole file; nothing where there is no file.
     fn read(&mut self, alloc: Global, path: &str) -> Result<Option<Vec<u8>>, DiskReadFault>
-        ensures file { tells → IfOk result (λ file. option_map (λ bytes. bytes.items) file ≡ reads (past self.old path.now)) }
+        ensures file { tells → IfOk result
+            (λ file. option_map (λ bytes. bytes.items) file ≡ reads (past self.old path.now)) }
         ensures same { tells → (q : List ℕ) → past self.new q ≡ past self.old q }
         ensures folders { tells → folders self.new ≡ folders self.old }
         ensures calls { made self.new ≤ made self.old + 1 }
-        ensures cause { HasCause DiskReadFault.NoMemory (faults self.old) (faults self.new) result };
+        ensures cause { HasCause DiskReadFault.NoMemory (faults self.old)
+            (faults self.new) result };
 
     /// Makes the folders above a path, and no others.
     fn make_dirs(&mut self, path: &str) -> Result<(), DiskFault>
         ensures same { tells → (q : List ℕ) → past self.new q ≡ past self.old q }
-        ensures folders { tells → MakesOnly (λ q. q ≡ path.now) (folders self.old) (folders self.new) }
+        ensures folders { tells → MakesOnly (λ q. q ≡ path.now) (folders self.old)
+            (folders self.new) }
         ensures made { tells → OnOk result (folders self.new ≡ folders self.old ++ path.now ∷ []) }
         ensures calls { made self.new ≤ made self.old + 1 }
         ensures cause { HasDiskCause (faults self.old) (faults self.new) result };
@@ -80,8 +84,12 @@ pub trait CacheDisk {
     /// Writes a piece at a place, over what is there and past the end. An absent file counts as
     /// empty. Until a sync a crash may leave any bytes in this range.
     fn write_at(&mut self, path: &str, at: u64, piece: &[u8]) -> Result<(), DiskFault>
-        ensures written { tells → OnOk result (at ≤ length (content (reads (past self.old path.now))) → reads (past self.new path.now) ≡ Some (with_piece (content (reads (past self.old path.now))) at piece.now)) }
-        ensures step { tells → MayWrite at (length piece.now) (past self.old path.now) (past self.new path.now) }
+        ensures written { tells → OnOk result
+            (at ≤ length (content (reads (past self.old path.now)))
+            → reads (past self.new path.now)
+            ≡ Some (with_piece (content (reads (past self.old path.now))) at piece.now)) }
+        ensures step { tells → MayWrite at (length piece.now) (past self.old path.now)
+            (past self.new path.now) }
         ensures others { tells → (q : List ℕ) → q ≢ path.now → past self.new q ≡ past self.old q }
         ensures folders { tells → folders self.new ≡ folders self.old }
         ensures calls { made self.new ≤ made self.old + 1 }
@@ -89,7 +97,9 @@ pub trait CacheDisk {
 
     /// Cuts a file to a length in bytes, where it is longer.
     fn cut(&mut self, path: &str, len: u64) -> Result<(), DiskFault>
-        ensures cut { tells → OnOk result (reads (past self.new path.now) ≡ option_map (take len) (reads (past self.old path.now))) }
+        ensures cut { tells → OnOk result
+            (reads (past self.new path.now)
+            ≡ option_map (take len) (reads (past self.old path.now))) }
         ensures step { tells → MayCut len (past self.old path.now) (past self.new path.now) }
         ensures others { tells → (q : List ℕ) → q ≢ path.now → past self.new q ≡ past self.old q }
         ensures folders { tells → folders self.new ≡ folders self.old }
@@ -98,7 +108,9 @@ pub trait CacheDisk {
 
     /// Brings a file onto the disk: a crash then leaves what a read gives.
     fn sync(&mut self, path: &str) -> Result<(), DiskFault>
-        ensures synced { tells → OnOk result (past self.new path.now ≡ Synced (reads (past self.old path.now)) ∷ past self.old path.now) }
+        ensures synced { tells → OnOk result
+            (past self.new path.now ≡ Synced (reads (past self.old path.now))
+            ∷ past self.old path.now) }
         ensures step { tells → MaySync (past self.old path.now) (past self.new path.now) }
         ensures others { tells → (q : List ℕ) → q ≢ path.now → past self.new q ≡ past self.old q }
         ensures folders { tells → folders self.new ≡ folders self.old }

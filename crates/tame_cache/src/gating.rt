@@ -3,15 +3,18 @@
 ghost use Rattle.std.specs.Prelude.{◌≡◌, ◌≢◌, ◌⊎◌, ◌≤◌, ◌+◌, List, ℕ, ◌∷◌, drop, OnOk};
 ghost use Rattle.tame_cache.specs.Disk.{File, reads, content, may_leave, TornFile, EachMoment};
 ghost use Rattle.tame_cache.specs.Faults.{HasDiskCause};
-ghost use Rattle.tame_cache.specs.Gate.{IsRefused, IsOrderly, IsSettled, IsClosed, DiffersInFirst, IsStored};
+ghost use Rattle.tame_cache.specs.Gate.{IsUnreadable, IsOrderly, IsSettled, IsClosed, DiffersInFirst, IsStored};
 
 use crate::disk::{CacheDisk, DiskFault, Peek};
 
 /// Writes the first byte and syncs.
 fn write_first<D: CacheDisk>(disk: &mut D, path: &str, byte: u8) -> Result<(), DiskFault>
-    ensures stored { D.tells → OnOk result (IsStored (byte ∷ drop 1 (content (reads (D.past disk.old path.now)))) (D.past disk.new path.now)) }
+    ensures stored { D.tells → OnOk result
+        (IsStored (byte ∷ drop 1 (content (reads (D.past disk.old path.now))))
+        (D.past disk.new path.now)) }
     ensures any_moment { D.tells → EachMoment (D.past disk.old path.now) (D.past disk.new path.now)
-        (λ file. may_leave (D.past disk.old path.now) file ⊎ ((old : File) × may_leave (D.past disk.old path.now) old × TornFile 0 1 old file)) }
+        (λ file. may_leave (D.past disk.old path.now) file
+        ⊎ ((old : File) × may_leave (D.past disk.old path.now) old × TornFile 0 1 old file)) }
     ensures others { D.tells → (q : List ℕ) → q ≢ path.now → D.past disk.new q ≡ D.past disk.old q }
     ensures folders { D.tells → D.folders disk.new ≡ D.folders disk.old }
     ensures calls { D.made disk.new ≤ D.made disk.old + 2 }
@@ -27,9 +30,11 @@ fn write_first<D: CacheDisk>(disk: &mut D, path: &str, byte: u8) -> Result<(), D
 pub fn close<D: CacheDisk>(disk: &mut D, path: &str, seen: Peek) -> Result<(), DiskFault>
     requires { D.tells → IsSettled seen (D.past disk.old path.now) }
     ensures closed { D.tells → OnOk result (IsClosed (D.past disk.new path.now)) }
-    ensures any_moment { D.tells → IsOrderly (D.past disk.old path.now) → EachMoment (D.past disk.old path.now) (D.past disk.new path.now)
-        (λ file. may_leave (D.past disk.old path.now) file ⊎ IsRefused file) }
-    ensures orderly { D.tells → IsOrderly (D.past disk.old path.now) → IsOrderly (D.past disk.new path.now) }
+    ensures any_moment { D.tells → IsOrderly (D.past disk.old path.now)
+        → EachMoment (D.past disk.old path.now) (D.past disk.new path.now)
+        (λ file. may_leave (D.past disk.old path.now) file ⊎ IsUnreadable file) }
+    ensures orderly { D.tells → IsOrderly (D.past disk.old path.now)
+        → IsOrderly (D.past disk.new path.now) }
     ensures others { D.tells → (q : List ℕ) → q ≢ path.now → D.past disk.new q ≡ D.past disk.old q }
     ensures folders { D.tells → D.folders disk.new ≡ D.folders disk.old }
     ensures calls { D.made disk.new ≤ D.made disk.old + 4 }
@@ -51,8 +56,11 @@ pub fn close<D: CacheDisk>(disk: &mut D, path: &str, seen: Peek) -> Result<(), D
 /// Opens the gate of a file that is on the disk. Two calls on the disk.
 pub fn open_gate<D: CacheDisk>(disk: &mut D, path: &str) -> Result<(), DiskFault>
     requires { D.tells → IsClosed (D.past disk.old path.now) }
-    ensures opened { D.tells → OnOk result (IsStored (3 ∷ drop 1 (content (reads (D.past disk.old path.now)))) (D.past disk.new path.now)) }
-    ensures any_moment { D.tells → EachMoment (D.past disk.old path.now) (D.past disk.new path.now) (DiffersInFirst (reads (D.past disk.old path.now))) }
+    ensures opened { D.tells → OnOk result
+        (IsStored (3 ∷ drop 1 (content (reads (D.past disk.old path.now))))
+        (D.past disk.new path.now)) }
+    ensures any_moment { D.tells → EachMoment (D.past disk.old path.now) (D.past disk.new path.now)
+        (DiffersInFirst (reads (D.past disk.old path.now))) }
     ensures others { D.tells → (q : List ℕ) → q ≢ path.now → D.past disk.new q ≡ D.past disk.old q }
     ensures folders { D.tells → D.folders disk.new ≡ D.folders disk.old }
     ensures calls { D.made disk.new ≤ D.made disk.old + 2 }

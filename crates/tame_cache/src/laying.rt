@@ -11,9 +11,12 @@ use crate::disk::{CacheDisk, DiskFault};
 /// on the disk.
 pub fn lay<D: CacheDisk>(disk: &mut D, path: &str, entry: &[u8]) -> Result<(), DiskFault>
     requires some { 0 < length entry.now }
-    requires closed { D.tells → (file : File) → may_leave (D.past disk.old path.now) file → BeginsWithZero file }
-    ensures laid { D.tells → OnOk result (IsStored (0 ∷ drop 1 entry.now) (D.past disk.new path.now)) }
-    ensures any_moment { D.tells → EachMoment (D.past disk.old path.now) (D.past disk.new path.now) BeginsWithZero }
+    requires closed { D.tells → (file : File) → may_leave (D.past disk.old path.now) file
+        → BeginsWithZero file }
+    ensures laid { D.tells → OnOk result
+        (IsStored (0 ∷ drop 1 entry.now) (D.past disk.new path.now)) }
+    ensures any_moment { D.tells → EachMoment (D.past disk.old path.now)
+        (D.past disk.new path.now) BeginsWithZero }
     ensures others { D.tells → (q : List ℕ) → q ≢ path.now → D.past disk.new q ≡ D.past disk.old q }
     ensures folders { D.tells → D.folders disk.new ≡ D.folders disk.old }
     ensures calls { D.made disk.new ≤ D.made disk.old + 3 }

@@ -1,7 +1,19 @@
 //! The cache: entries on a disk, stored so that no failed write and no crash leaves a readable lie.
+//!
+//! Promises: where only bodies that the server held are written under HTTP revisions, a file that
+//! is readable under one is the entry of such a body, after each call and each crash.
+//! Stands on the paths and locks of `tame_names`, the entries of `tame_entry`, and a disk that its
+//! caller brings, of which `MemCacheDisk` is one in memory that fails and crashes as it is told.
+//!
+//! ```ignore
+//! let cache = IndexCache::at_path(Text::of(alloc, "index")?);
+//! cache.write_to_cache(alloc, name, CacheWrite::Remote(lines), &revision, &lock, &mut disk)?;
+//! let entry = cache.read_cache_file(alloc, name, &lock, &mut disk)?;
+//! ```
 #![tactic(auto)]
 
 mod cache;
+mod calls;
 mod counting;
 mod crashing;
 mod disk;

@@ -2,32 +2,19 @@
 ghost use Rattle.std.specs.Prelude.{◌≡◌, ◌≢◌, ◌⊎◌, ◌<◌, ◌≤◌, ◌+◌, ◌-◌, ◌/◌, ◌^◌, ◌++◌, min, map, ⊤, Some, Err, [], ◌∷◌, List, ℕ, length, take, false, IfOk, IsErr, OnOk, OnErr, option_map, option_copied};
 ghost use Rattle.std.specs.String.{string_bytes};
 ghost use Rattle.tame_names.specs.Counts.{HasCause};
-ghost use Rattle.tame_cache.specs.Counting.{IsCalled, IsToFail, WasStarved};
+ghost use Rattle.tame_cache.specs.Counting.{IsCalled, IsToFail, RanOutOfMemory};
 ghost use Rattle.tame_cache.specs.Faults.{HasDiskCause};
 ghost use Rattle.tame_cache.specs.Disk.{Step, Synced, Wrote, MayCut, MaySync, MayWrite, content, reads, first_of, with_piece};
 ghost use Rattle.tame_cache.specs.Folders.{MakesOnly};
-ghost use Rattle.tame_cache.specs.Calls.{file_of, after, past_of};
+ghost use Rattle.tame_cache.specs.Calls.{file_of, past_of, with_change};
 
+use crate::calls::{
+    Call, Change, add_call, copy_of, current, current_content, front_of, with_bytes,
+};
 use crate::counting::Counts;
 use crate::disk::{CacheDisk, DiskFault, DiskReadFault, Peek};
 use std::alloc::{AllocError, Global};
 use tame_names::NoMemory;
-
-/// A change of a file: a write of this many bytes at a place, a cut to a length, or a sync.
-#[derive(Clone, Copy, Debug, PartialEq, Eq)]
-pub enum Change {
-    Write(u64, u64),
-    Cut(u64),
-    Sync,
-}
-
-/// A change of the file of a path, and what a read gives after it.
-#[derive(Drop)]
-pub struct Call {
-    pub path: String,
-    pub change: Change,
-    pub file: Option<Vec<u8>>,
-}
 
 /// A disk whose files are kept in memory, with each call that changed one. The calls whose numbers
 /// are listed, counted from 1, fail.
@@ -38,63 +25,6 @@ pub struct MemCacheDisk {
     folders: Vec<String>,
     tears: bool,
     counts: Counts,
-}
-
-/// What a read of a path gives.
-pub fn current<'a>(calls: &'a [Call], path: &str) -> Option<&'a Vec<u8>>
-    ensures { file_of (option_copied result) ≡ reads (past_of path.now [] calls.now) }
-{
-    let mut found = None;
-    for call in calls {
-        if call.path.as_str() == path {
-            found = call.file.as_ref();
-        }
-    }
-    found
-}
-
-fn current_content<'a>(calls: &'a [Call], path: &str) -> &'a [u8]
-    ensures { result.now ≡ content (reads (past_of path.now [] calls.now)) }
-{
-    match current(calls, path) {
-        None => &[],
-        Some(bytes) => bytes.as_slice(),
-    }
-}
-
-pub fn with_bytes(alloc: Global, old: &[u8], at: usize, piece: &[u8]) -> Result<Vec<u8>, AllocError>
-    requires { at ≤ length old.now }
-    ensures { IfOk result (λ bytes. bytes.items ≡ with_piece old.now at piece.now) }
-{
-    let mut bytes = old[..at].to_vec(alloc)?;
-    bytes.extend_from_slice(piece)?;
-    if piece.len() < old.len() - at {
-        bytes.extend_from_slice(&old[at + piece.len()..])?;
-    }
-    Ok(bytes)
-}
-
-pub fn copy_of(alloc: Global, file: Option<&Vec<u8>>) -> Result<Option<Vec<u8>>, AllocError>
-    ensures { IfOk result (λ now. file_of now ≡ file_of (option_copied file.entry)) }
-{
-    match file {
-        None => Ok(None),
-        Some(bytes) => Ok(Some(bytes.to_vec(alloc)?)),
-    }
-}
-
-pub fn front_of(
-    alloc: Global,
-    file: Option<&Vec<u8>>,
-    len: u64,
-) -> Result<Option<Vec<u8>>, AllocError>
-    ensures { IfOk result (λ now. file_of now ≡ option_map (take len) (file_of (option_copied file.entry))) }
-{
-    match file {
-        None => Ok(None),
-        Some(bytes) if len < bytes.len() as u64 => Ok(Some(bytes[..len as usize].to_vec(alloc)?)),
-        Some(bytes) => Ok(Some(bytes.to_vec(alloc)?)),
-    }
 }
 
 impl MemCacheDisk {
@@ -127,27 +57,9 @@ impl MemCacheDisk {
     }
 }
 
-pub fn add_call(
-    alloc: Global,
-    calls: &mut Vec<Call>,
-    path: &str,
-    change: Change,
-    now: Option<Vec<u8>>,
-) -> Result<(), AllocError>
-    ensures noted { OnOk result ((q : List ℕ) → past_of q [] calls.new.items ≡ after q (past_of q [] calls.old.items) path.now change (file_of now)) }
-    ensures same { OnErr result (calls.new.items ≡ calls.old.items) }
-{
-    let path = String::from_str(alloc, path)?;
-    calls.push(Call {
-        path,
-        change,
-        file: now,
-    })?;
-    Ok(())
-}
-
 fn add_folder(alloc: Global, folders: &mut Vec<String>, path: &str) -> Result<(), AllocError>
-    ensures added { OnOk result (map (λ p. string_bytes p) folders.new.items ≡ map (λ p. string_bytes p) folders.old.items ++ path.now ∷ []) }
+    ensures added { OnOk result (map (λ p. string_bytes p) folders.new.items
+        ≡ map (λ p. string_bytes p) folders.old.items ++ path.now ∷ []) }
     ensures same { OnErr result (folders.new.items ≡ folders.old.items) }
 {
     folders.push(String::from_str(alloc, path)?)?;
@@ -158,13 +70,20 @@ impl MemCacheDisk {
     ghost use Rattle.tame_cache.specs.MemoryDisk.{folders_in, past_in};
 
     /// Notes a change of a file.
-    fn note(&mut self, path: &str, change: Change, now: Option<Vec<u8>>) -> Result<(), DiskFault>
-        ensures noted { OnOk result ((q : List ℕ) → past_of q [] self.new.calls.items ≡ after q (past_of q [] self.old.calls.items) path.now change (file_of now)) }
+    fn record_change(
+        &mut self,
+        path: &str,
+        change: Change,
+        now: Option<Vec<u8>>,
+    ) -> Result<(), DiskFault>
+        ensures noted { OnOk result ((q : List ℕ)
+            → past_of q [] self.new.calls.items
+            ≡ with_change q (past_of q [] self.old.calls.items) path.now change (file_of now)) }
         ensures same { OnErr result (self.new.calls.items ≡ self.old.calls.items) }
         ensures folders { self.new.folders ≡ self.old.folders }
         ensures tears { self.new.tears ≡ self.old.tears }
         ensures counted { OnOk result (self.new.counts ≡ self.old.counts) }
-        ensures starved { OnErr result (WasStarved self.old.counts self.new.counts) }
+        ensures starved { OnErr result (RanOutOfMemory self.old.counts self.new.counts) }
         ensures cause { HasDiskCause self.old.counts.faults self.new.counts.faults result }
         ensures made { self.new.counts.made ≡ self.old.counts.made }
         ensures failing { self.new.counts.failing ≡ self.old.counts.failing }
@@ -178,7 +97,8 @@ impl MemCacheDisk {
 
     /// Sets a file that is on the disk.
     pub fn put_file(&mut self, alloc: Global, path: &str, bytes: &[u8]) -> Result<(), NoMemory>
-        ensures put { OnOk result (past_in self.new path.now ≡ Synced (Some bytes.now) ∷ past_in self.old path.now) }
+        ensures put { OnOk result (past_in self.new path.now
+            ≡ Synced (Some bytes.now) ∷ past_in self.old path.now) }
         ensures others { (q : List ℕ) → q ≢ path.now → past_in self.new q ≡ past_in self.old q }
         ensures same { OnErr result ((q : List ℕ) → past_in self.new q ≡ past_in self.old q) }
         ensures folders { folders_in self.new ≡ folders_in self.old }
@@ -219,14 +139,17 @@ impl MemCacheDisk {
 
     /// Writes a piece at a place.
     fn write_whole(&mut self, path: &str, at: u64, piece: &[u8]) -> Result<(), DiskFault>
-        ensures written { OnOk result (reads (past_in self.new path.now) ≡ Some (with_piece (content (reads (past_in self.old path.now))) at piece.now)) }
-        ensures step { MayWrite at (length piece.now) (past_in self.old path.now) (past_in self.new path.now) }
+        ensures written { OnOk result (reads (past_in self.new path.now)
+            ≡ Some (with_piece (content (reads (past_in self.old path.now))) at piece.now)) }
+        ensures step { MayWrite at (length piece.now) (past_in self.old path.now)
+            (past_in self.new path.now) }
         ensures same { OnErr result (past_in self.new path.now ≡ past_in self.old path.now) }
         ensures others { (q : List ℕ) → q ≢ path.now → past_in self.new q ≡ past_in self.old q }
         ensures folders { self.new.folders ≡ self.old.folders }
         ensures tears { self.new.tears ≡ self.old.tears }
         ensures counted { OnOk result (self.new.counts ≡ self.old.counts) }
-        ensures only { OnErr result ((length (content (reads (past_in self.old path.now))) < at) ⊎ WasStarved self.old.counts self.new.counts) }
+        ensures only { OnErr result ((length (content (reads (past_in self.old path.now))) < at)
+            ⊎ RanOutOfMemory self.old.counts self.new.counts) }
         ensures cause { HasDiskCause self.old.counts.faults self.new.counts.faults result }
         ensures made { self.new.counts.made ≡ self.old.counts.made }
         ensures failing { self.new.counts.failing ≡ self.old.counts.failing }
@@ -237,14 +160,15 @@ impl MemCacheDisk {
             return Err(self.counts.fail());
         }
         match with_bytes(self.alloc, old, at as usize, piece) {
-            Ok(now) => self.note(path, Change::Write(at, piece.len() as u64), Some(now)),
+            Ok(now) => self.record_change(path, Change::Write(at, piece.len() as u64), Some(now)),
             Err(_) => Err(self.counts.starve()),
         }
     }
 
     /// Does half of a write, where there is memory for it.
     fn write_half(&mut self, path: &str, at: u64, piece: &[u8])
-        ensures step { MayWrite at (length piece.now) (past_in self.old path.now) (past_in self.new path.now) }
+        ensures step { MayWrite at (length piece.now) (past_in self.old path.now)
+            (past_in self.new path.now) }
         ensures others { (q : List ℕ) → q ≢ path.now → past_in self.new q ≡ past_in self.old q }
         ensures folders { self.new.folders ≡ self.old.folders }
         ensures tears { self.new.tears ≡ self.old.tears }
@@ -284,7 +208,8 @@ impl CacheDisk for MemCacheDisk {
     }
 
     fn peek(&mut self, path: &str) -> Result<Peek, DiskFault>
-        ensures first { IfOk result (λ first. first ≡ first_of (reads (past_in self.old path.now))) }
+        ensures first { IfOk result (λ first. first
+            ≡ first_of (reads (past_in self.old path.now))) }
         ensures same { (q : List ℕ) → past_in self.new q ≡ past_in self.old q }
         ensures folders { folders_in self.new ≡ folders_in self.old }
         ensures calls { self.new.counts.made ≤ self.old.counts.made + 1 }
@@ -303,11 +228,13 @@ impl CacheDisk for MemCacheDisk {
     }
 
     fn read(&mut self, alloc: Global, path: &str) -> Result<Option<Vec<u8>>, DiskReadFault>
-        ensures file { IfOk result (λ file. option_map (λ bytes. bytes.items) file ≡ reads (past_in self.old path.now)) }
+        ensures file { IfOk result (λ file. option_map (λ bytes. bytes.items) file
+            ≡ reads (past_in self.old path.now)) }
         ensures same { (q : List ℕ) → past_in self.new q ≡ past_in self.old q }
         ensures folders { folders_in self.new ≡ folders_in self.old }
         ensures calls { self.new.counts.made ≤ self.old.counts.made + 1 }
-        ensures cause { HasCause DiskReadFault.NoMemory self.old.counts.faults self.new.counts.faults result }
+        ensures cause { HasCause DiskReadFault.NoMemory self.old.counts.faults
+            self.new.counts.faults result }
         ensures called { IsCalled self.old.counts self.new.counts result }
         ensures only { result ≡ Err DiskReadFault.Failed → IsToFail self.old.counts }
     {
@@ -325,12 +252,14 @@ impl CacheDisk for MemCacheDisk {
 
     fn make_dirs(&mut self, path: &str) -> Result<(), DiskFault>
         ensures same { (q : List ℕ) → past_in self.new q ≡ past_in self.old q }
-        ensures folders { MakesOnly (λ q. q ≡ path.now) (folders_in self.old) (folders_in self.new) }
+        ensures folders { MakesOnly (λ q. q ≡ path.now) (folders_in self.old)
+            (folders_in self.new) }
         ensures made { OnOk result (folders_in self.new ≡ folders_in self.old ++ path.now ∷ []) }
         ensures calls { self.new.counts.made ≤ self.old.counts.made + 1 }
         ensures cause { HasDiskCause self.old.counts.faults self.new.counts.faults result }
         ensures called { IsCalled self.old.counts self.new.counts result }
-        ensures only { OnErr result (IsToFail self.old.counts ⊎ WasStarved self.old.counts self.new.counts) }
+        ensures only { OnErr result (IsToFail self.old.counts
+            ⊎ RanOutOfMemory self.old.counts self.new.counts) }
     {
         self.counts.begin()?;
         match add_folder(self.alloc, &mut self.folders, path) {
@@ -340,8 +269,11 @@ impl CacheDisk for MemCacheDisk {
     }
 
     fn write_at(&mut self, path: &str, at: u64, piece: &[u8]) -> Result<(), DiskFault>
-        ensures written { OnOk result (at ≤ length (content (reads (past_in self.old path.now))) → reads (past_in self.new path.now) ≡ Some (with_piece (content (reads (past_in self.old path.now))) at piece.now)) }
-        ensures step { MayWrite at (length piece.now) (past_in self.old path.now) (past_in self.new path.now) }
+        ensures written { OnOk result (at ≤ length (content (reads (past_in self.old path.now)))
+            → reads (past_in self.new path.now)
+            ≡ Some (with_piece (content (reads (past_in self.old path.now))) at piece.now)) }
+        ensures step { MayWrite at (length piece.now) (past_in self.old path.now)
+            (past_in self.new path.now) }
         ensures others { (q : List ℕ) → q ≢ path.now → past_in self.new q ≡ past_in self.old q }
         ensures folders { folders_in self.new ≡ folders_in self.old }
         ensures calls { self.new.counts.made ≤ self.old.counts.made + 1 }
@@ -349,8 +281,10 @@ impl CacheDisk for MemCacheDisk {
         ensures called { IsCalled self.old.counts self.new.counts result }
         // which writes fail, and what they leave
         ensures only { OnErr result (IsToFail self.old.counts
-            ⊎ ((length (content (reads (past_in self.old path.now))) < at) ⊎ WasStarved self.old.counts self.new.counts)) }
-        ensures untorn { OnErr result (self.old.tears ≡ false → past_in self.new path.now ≡ past_in self.old path.now) }
+            ⊎ ((length (content (reads (past_in self.old path.now))) < at)
+            ⊎ RanOutOfMemory self.old.counts self.new.counts)) }
+        ensures untorn { OnErr result (self.old.tears ≡ false
+            → past_in self.new path.now ≡ past_in self.old path.now) }
         ensures tears { self.new.tears ≡ self.old.tears }
     {
         match self.counts.begin() {
@@ -365,35 +299,39 @@ impl CacheDisk for MemCacheDisk {
     }
 
     fn cut(&mut self, path: &str, len: u64) -> Result<(), DiskFault>
-        ensures cut { OnOk result (reads (past_in self.new path.now) ≡ option_map (take len) (reads (past_in self.old path.now))) }
+        ensures cut { OnOk result (reads (past_in self.new path.now)
+            ≡ option_map (take len) (reads (past_in self.old path.now))) }
         ensures step { MayCut len (past_in self.old path.now) (past_in self.new path.now) }
         ensures others { (q : List ℕ) → q ≢ path.now → past_in self.new q ≡ past_in self.old q }
         ensures folders { folders_in self.new ≡ folders_in self.old }
         ensures calls { self.new.counts.made ≤ self.old.counts.made + 1 }
         ensures cause { HasDiskCause self.old.counts.faults self.new.counts.faults result }
         ensures called { IsCalled self.old.counts self.new.counts result }
-        ensures only { OnErr result (IsToFail self.old.counts ⊎ WasStarved self.old.counts self.new.counts) }
+        ensures only { OnErr result (IsToFail self.old.counts
+            ⊎ RanOutOfMemory self.old.counts self.new.counts) }
     {
         self.counts.begin()?;
         match front_of(self.alloc, current(&self.calls, path), len) {
-            Ok(now) => self.note(path, Change::Cut(len), now),
+            Ok(now) => self.record_change(path, Change::Cut(len), now),
             Err(_) => Err(self.counts.starve()),
         }
     }
 
     fn sync(&mut self, path: &str) -> Result<(), DiskFault>
-        ensures synced { OnOk result (past_in self.new path.now ≡ Synced (reads (past_in self.old path.now)) ∷ past_in self.old path.now) }
+        ensures synced { OnOk result (past_in self.new path.now
+            ≡ Synced (reads (past_in self.old path.now)) ∷ past_in self.old path.now) }
         ensures step { MaySync (past_in self.old path.now) (past_in self.new path.now) }
         ensures others { (q : List ℕ) → q ≢ path.now → past_in self.new q ≡ past_in self.old q }
         ensures folders { folders_in self.new ≡ folders_in self.old }
         ensures calls { self.new.counts.made ≤ self.old.counts.made + 1 }
         ensures cause { HasDiskCause self.old.counts.faults self.new.counts.faults result }
         ensures called { IsCalled self.old.counts self.new.counts result }
-        ensures only { OnErr result (IsToFail self.old.counts ⊎ WasStarved self.old.counts self.new.counts) }
+        ensures only { OnErr result (IsToFail self.old.counts
+            ⊎ RanOutOfMemory self.old.counts self.new.counts) }
     {
         self.counts.begin()?;
         match copy_of(self.alloc, current(&self.calls, path)) {
-            Ok(now) => self.note(path, Change::Sync, now),
+            Ok(now) => self.record_change(path, Change::Sync, now),
             Err(_) => Err(self.counts.starve()),
         }
     }

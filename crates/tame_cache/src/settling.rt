@@ -13,9 +13,11 @@ pub fn settle<D: CacheDisk>(disk: &mut D, path: &str) -> Result<Peek, DiskFault>
     ensures settled { D.tells → IfOk result (λ seen. IsSettled seen (D.past disk.new path.now)) }
     // it changes no file
     ensures seen { D.tells → reads (D.past disk.new path.now) ≡ reads (D.past disk.old path.now) }
-    ensures any_moment { D.tells → EachMoment (D.past disk.old path.now) (D.past disk.new path.now) (may_leave (D.past disk.old path.now)) }
+    ensures any_moment { D.tells → EachMoment (D.past disk.old path.now) (D.past disk.new path.now)
+        (may_leave (D.past disk.old path.now)) }
     ensures others { D.tells → (q : List ℕ) → q ≢ path.now → D.past disk.new q ≡ D.past disk.old q }
-    ensures folders { D.tells → MakesOnly (λ q. q ≡ path.now) (D.folders disk.old) (D.folders disk.new) }
+    ensures folders { D.tells → MakesOnly (λ q. q ≡ path.now) (D.folders disk.old)
+        (D.folders disk.new) }
     ensures calls { D.made disk.new ≤ D.made disk.old + 4 }
     ensures cause { HasDiskCause (D.faults disk.old) (D.faults disk.new) result }
 {

@@ -3,7 +3,7 @@ ghost use Rattle.std.specs.Prelude.{◌≡◌, ◌≢◌, ◌⊎◌, ◌≤◌, 
 ghost use Rattle.tame_cache.specs.Disk.{may_leave, EachMoment};
 ghost use Rattle.tame_cache.specs.Folders.{MakesOnly};
 ghost use Rattle.tame_cache.specs.Faults.{HasDiskCause};
-ghost use Rattle.tame_cache.specs.Gate.{IsRefused, IsOrderly, IsStored};
+ghost use Rattle.tame_cache.specs.Gate.{IsUnreadable, IsOrderly, IsStored};
 
 use crate::disk::{CacheDisk, DiskFault};
 use crate::gating::{close, open_gate};
@@ -14,12 +14,17 @@ use crate::settling::settle;
 pub fn store<D: CacheDisk>(disk: &mut D, path: &str, entry: &[u8]) -> Result<(), DiskFault>
     requires { (rest : List ℕ) × (entry.now ≡ 3 ∷ rest) }
     ensures stored { D.tells → OnOk result (IsStored entry.now (D.past disk.new path.now)) }
-    // a crash at any moment leaves a file that it could have left before, a refused one, or the entry whole
-    ensures any_moment { D.tells → IsOrderly (D.past disk.old path.now) → EachMoment (D.past disk.old path.now) (D.past disk.new path.now)
-        (λ file. may_leave (D.past disk.old path.now) file ⊎ (IsRefused file ⊎ (file ≡ Some entry.now))) }
-    ensures orderly { D.tells → IsOrderly (D.past disk.old path.now) → IsOrderly (D.past disk.new path.now) }
+    // a crash at any moment leaves a file that it could have left before, a refused one, or the
+    // entry whole
+    ensures any_moment { D.tells → IsOrderly (D.past disk.old path.now)
+        → EachMoment (D.past disk.old path.now) (D.past disk.new path.now)
+        (λ file. may_leave (D.past disk.old path.now) file
+        ⊎ (IsUnreadable file ⊎ (file ≡ Some entry.now))) }
+    ensures orderly { D.tells → IsOrderly (D.past disk.old path.now)
+        → IsOrderly (D.past disk.new path.now) }
     ensures others { D.tells → (q : List ℕ) → q ≢ path.now → D.past disk.new q ≡ D.past disk.old q }
-    ensures folders { D.tells → MakesOnly (λ q. q ≡ path.now) (D.folders disk.old) (D.folders disk.new) }
+    ensures folders { D.tells → MakesOnly (λ q. q ≡ path.now) (D.folders disk.old)
+        (D.folders disk.new) }
     ensures calls { D.made disk.new ≤ D.made disk.old + 13 }
     ensures cause { HasDiskCause (D.faults disk.old) (D.faults disk.new) result }
 {

@@ -16,10 +16,11 @@ use Rattle.tame_records.specs.Lines.{lines, trimmed}
 use Rattle.tame_entry.specs.Lines.{plain, valid}
 use Rattle.tame_entry.specs.Commits.{is_commit}
 use Rattle.tame_entry.specs.Entry.{Pair, ReadEntry, entry, has_no_zero, first_part, head, later_parts, lines_in, pair_bytes, pair_of, pairs, read_entry, read_parts, read_text, second_pieces, with_revision}
+use Rattle.tame_entry.specs.Prefixes.{without_prefix}
 use Rattle.tame_entry.specs.Raw.{cut_at, raw_version}
-use Rattle.tame_entry.specs.Revision.{EntryRevision, Http, Commit, Unknown, IsRevision, after, date_or, entry_text, etag_or, is_honest_text, revision_of, without_name}
+use Rattle.tame_entry.specs.Revision.{EntryRevision, Http, Commit, Unknown, IsFormed, IsRevision, date_or, entry_text, etag_or, is_honest_text, revision_of, unnamed_revision}
 use Rattle.tame_entry.specs.declared.revisions.OwnedRevision.TheVariants.{Etag, LastModified}
-use Rattle.tame_entry.proofs.AfterLemmas.{after_name}
+use Rattle.tame_entry.proofs.PrefixLemmas.{prefix_gone}
 use Rattle.tame_entry.proofs.CommitLemmas.{commit_good, commit_utf8, none_found}
 use Rattle.tame_entry.proofs.Zeros.{NoZero, and_true, NoneZero, cut_end, lines_zero, piece_end, raw_zero}
 
@@ -32,7 +33,7 @@ first_low : (a b : Bool) → (a && b) ≡ true → (a ≡ true) × (b ≡ true)
 first_low true b h = (refl, h)
 first_low false b h = cc
 
-ascii : (bs : List ℕ) → list_all (λ b. nat_lt b 128) bs ≡ true → IsAscii bs
+pub ascii : (bs : List ℕ) → list_all (λ b. nat_lt b 128) bs ≡ true → IsAscii bs
 ascii [] h i = lit< tt
 ascii (b ∷ bs) h zero = is_low b (first_low (nat_lt b 128) _ h).0
 ascii (b ∷ bs) h (suc i) = ascii bs (first_low (nat_lt b 128) _ h).1 i
@@ -54,7 +55,7 @@ either_none : (t : Bool) (o : Option (List ℕ)) → o ≡ None → cond t o Non
 either_none true o e = e
 either_none false o e = refl
 
-no_etag : (d : List ℕ) → first_bad_digit d ≡ None → after (codes "etag: ") d ≡ None
+no_etag : (d : List ℕ) → first_bad_digit d ≡ None → without_prefix (codes "etag: ") d ≡ None
 no_etag [] h = refl
 no_etag (a ∷ []) h = either_none (a == 101) None refl
 no_etag (a ∷ b ∷ ds) h =
@@ -62,7 +63,7 @@ no_etag (a ∷ b ∷ ds) h =
     let other : (b == 116) ≡ false = grind (arith, nat_tests) in
     either_none (a == 101) _ (unequal (b == 116) _ other)
 
-no_date : (d : List ℕ) → first_bad_digit d ≡ None → after (codes "last-modified: ") d ≡ None
+no_date : (d : List ℕ) → first_bad_digit d ≡ None → without_prefix (codes "last-modified: ") d ≡ None
 no_date [] h = refl
 no_date (a ∷ ds) h =
     let first : is_ascii_hexdigit a ≡ true = (none_found (is_ascii_hexdigit a) a _ h).0 in
@@ -73,12 +74,18 @@ chosen : (t : Bool) (r s : Option EntryRevision) → t ≡ true → cond t r s �
 chosen t r s h = rw h refl
 
 -- the text of a revision is read as that revision
-pub revision_back : (r : EntryRevision) → IsRevision r → revision_of (entry_text r) ≡ Some r
-revision_back (Http (Etag text)) h = ap (λ o. etag_or o (date_or (after (codes "last-modified: ") (codes "etag: " ++ text)) (without_name (codes "etag: " ++ text)))) (after_name (codes "etag: ") text)
-revision_back (Http (LastModified text)) h = ap (λ o. etag_or None (date_or o (without_name (codes "last-modified: " ++ text)))) (after_name (codes "last-modified: ") text)
-revision_back (Commit digits) h =
+pub formed_back : (r : EntryRevision) → IsFormed r → revision_of (entry_text r) ≡ Some r
+formed_back (Http (Etag text)) h = ap (λ o. etag_or o (date_or (without_prefix (codes "last-modified: ") (codes "etag: " ++ text)) (unnamed_revision (codes "etag: " ++ text)))) (prefix_gone (codes "etag: ") text)
+formed_back (Http (LastModified text)) h = ap (λ o. etag_or None (date_or o (unnamed_revision (codes "last-modified: " ++ text)))) (prefix_gone (codes "last-modified: ") text)
+formed_back (Commit digits) h =
     let good = commit_good digits h in
     rw (no_etag digits good, no_date digits good) (chosen (is_commit digits) _ _ h)
+formed_back Unknown h = refl
+
+pub revision_back : (r : EntryRevision) → IsRevision r → revision_of (entry_text r) ≡ Some r
+revision_back (Http (Etag text)) h = formed_back (Http (Etag text)) tt
+revision_back (Http (LastModified text)) h = formed_back (Http (LastModified text)) tt
+revision_back (Commit digits) h = formed_back (Commit digits) h
 revision_back Unknown h = refl
 
 -- a text of a revision is UTF-8

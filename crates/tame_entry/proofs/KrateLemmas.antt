@@ -6,9 +6,9 @@ use Rattle.tame_names.specs.declared.errors.CacheError.TheVariants.{InvalidCrate
 use Rattle.tame_names.specs.declared.errors.Error.TheVariants as error
 use Rattle.tame_records.specs.Record.{record_of}
 use Rattle.tame_records.specs.declared.versions.IndexVersion.{IndexVersion}
-use Rattle.tame_entry.specs.Krates.{Versions, krate_of_lines, prepend, read_lines, read_pairs, with_record}
+use Rattle.tame_entry.specs.Krates.{KrateResult, krate_of_lines, prepend, read_lines, read_pairs, with_record}
 
-abbrev pub before : List IndexVersion → Versions → Versions
+abbrev pub before : List IndexVersion → KrateResult → KrateResult
 before vs (Ok more) = Ok (vs ++ more)
 before vs (Err e) = Err e
 
@@ -16,7 +16,7 @@ longer : (vs : List IndexVersion) (v : IndexVersion) → length (vs ++ v ∷ [])
 longer [] v = refl
 longer (w ∷ ws) v = let e = longer ws v in omega (arith, e)
 
-prepended : (vs : List IndexVersion) (v : IndexVersion) (more : Versions) → before vs (prepend v more) ≡ before (vs ++ v ∷ []) more
+prepended : (vs : List IndexVersion) (v : IndexVersion) (more : KrateResult) → before vs (prepend v more) ≡ before (vs ++ v ∷ []) more
 prepended vs v (Ok more) = ap Ok (sym (append_assoc vs (v ∷ []) more))
 prepended vs v (Err e) = refl
 
@@ -31,7 +31,7 @@ read_on ls rest line vs ws v steps is added =
     ∙ ap (λ k. before k (read_lines (length k) rest)) (sym added)
 
 -- a line that is read adds a version
-some_read : (o : Option IndexVersion) (n : ℕ) (more : Versions) (vs : List IndexVersion) (e : Error) (r : Versions) → with_record o n more ≡ Ok vs → (length vs == 0) ≡ true → r ≡ Err e
+some_read : (o : Option IndexVersion) (n : ℕ) (more : KrateResult) (vs : List IndexVersion) (e : Error) (r : KrateResult) → with_record o n more ≡ Ok vs → (length vs == 0) ≡ true → r ≡ Err e
 some_read None n more vs e r read is = grind (arith, nat_tests)
 some_read (Some v) n (Err f) vs e r read is = grind (arith, nat_tests)
 some_read (Some v) n (Ok ws) [] e r read is = grind (arith, nat_tests)

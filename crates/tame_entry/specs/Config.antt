@@ -1,4 +1,5 @@
--- The configuration of an index, and where a crate is downloaded from (Cargo Book, "Registry Index", index configuration).
+-- The configuration of an index, and where a crate is downloaded from (Cargo Book, "Registry
+-- Index", index configuration).
 use Rattle.std.specs.Prelude.{ℕ, codes, List, [], ◌∷◌, ◌++◌, flat_map, ◌==◌, bytes_eq, nat_eq, Bool, Option, Some, None, option_map, option_and_then, if◌then◌else◌}
 use Rattle.std.specs.List.{ends_with, list_any, slice_split}
 use Rattle.std.specs.Str.{str_to_ascii_lowercase}
@@ -7,13 +8,17 @@ use Rattle.serde_json.specs.Find.{get}
 use Rattle.tame_names.specs.Names.{is_name, prefix}
 use Rattle.tame_records.specs.Members.{flag_or_false, text_at, text_or_null}
 use Rattle.tame_records.specs.Record.{value_of}
-use Rattle.tame_entry.specs.Revision.{after}
+use Rattle.tame_entry.specs.Prefixes.{without_prefix}
 use Rattle.tame_entry.specs.declared.config.IndexConfig.{IndexConfig}
 
 -- `dl` is a text, `api` a text or null, `auth-required` a flag
 abbrev pub config_of_data : Data → Option IndexConfig
 config_of_data d =
-    option_and_then (λ dl. option_and_then (λ api. option_map (λ auth. record { dl = dl; api = api; auth_required = auth })
+    option_and_then (λ dl. option_and_then (λ api. option_map (λ auth. record {
+      dl = dl;
+      api = api;
+      auth_required = auth;
+    })
     (flag_or_false (get (codes "auth-required") d)))
     (text_or_null (get (codes "api") d)))
     (text_at (codes "dl") d)
@@ -34,10 +39,11 @@ slash = codes "/"
 -- what stands behind a `{`: a marker's end with its value, or text as it is
 abbrev pub filled_part : List ℕ → List ℕ → List ℕ → List ℕ
 filled_part name version part =
-    value_or name (after (codes "crate}") part)
-    (value_or version (after (codes "version}") part)
-    (value_or (prefix slash name) (after (codes "prefix}") part)
-    (value_or (str_to_ascii_lowercase (prefix slash name)) (after (codes "lowerprefix}") part)
+    value_or name (without_prefix (codes "crate}") part)
+    (value_or version (without_prefix (codes "version}") part)
+    (value_or (prefix slash name) (without_prefix (codes "prefix}") part)
+    (value_or (str_to_ascii_lowercase (prefix slash name))
+    (without_prefix (codes "lowerprefix}") part)
     (codes "{" ++ part))))
 
 abbrev pub is_brace : ℕ → Bool
@@ -52,13 +58,15 @@ abbrev pub filled : List ℕ → List ℕ → List ℕ → List ℕ
 filled name version dl = filled_parts name version (slice_split is_brace dl)
 
 abbrev pub crates_io_url : List ℕ → List ℕ → List ℕ
-crates_io_url name version = codes "https://static.crates.io/crates/" ++ name ++ slash ++ name ++ codes "-" ++ version ++ codes ".crate"
+crates_io_url name version =
+    codes "https://static.crates.io/crates/" ++ name ++ slash ++ name ++ codes "-" ++ version
+    ++ codes ".crate"
 
-abbrev pub ended : List ℕ → List ℕ
-ended dl = if ends_with nat_eq dl slash then dl else dl ++ slash
+abbrev pub with_slash : List ℕ → List ℕ
+with_slash dl = if ends_with nat_eq dl slash then dl else dl ++ slash
 
 abbrev pub plain_url : List ℕ → List ℕ → List ℕ → List ℕ
-plain_url name version dl = ended dl ++ name ++ slash ++ version ++ codes "/download"
+plain_url name version dl = with_slash dl ++ name ++ slash ++ version ++ codes "/download"
 
 -- crates.io has a place of its own; a text with a brace is filled; another one is a folder
 abbrev pub download_url : List ℕ → List ℕ → List ℕ → List ℕ

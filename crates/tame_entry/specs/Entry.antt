@@ -1,4 +1,5 @@
--- Cache entries as bytes (the cache of cargo: a version byte, a number of four bytes, a revision, and each version with its line).
+-- Cache entries as bytes (the cache of cargo: a version byte, a number of four bytes, a revision,
+-- and each version with its line).
 use Rattle.std.specs.Prelude.{ℕ, List, [], ◌∷◌, ◌++◌, length, take, drop, map, flat_map, ◌==◌, ◌&&◌, nat_lt, not, bytes_eq, Bool, Option, Some, None, unwrap_or, Result, Ok, Err, if◌then◌else◌}
 use Rattle.std.specs.List.{list_all}
 use Rattle.tame_names.specs.Pieces.{pieces}
@@ -84,10 +85,14 @@ with_revision (Some r) versions = Ok (record { revision = r; versions = versions
 -- a version and a line have to follow the revision
 abbrev pub read_text : Option (List ℕ) → List ℕ → Result ReadEntry CacheError
 read_text None versions = Err OutdatedRevision
-read_text (Some text) versions = if nat_lt (length (pieces 0 versions)) 2 then Err InvalidCacheEntry else with_revision (revision_of text) versions
+read_text (Some text) versions =
+    if nat_lt (length (pieces 0 versions)) 2 then Err InvalidCacheEntry
+    else with_revision (revision_of text) versions
 
 abbrev pub read_parts : List ℕ → Result ReadEntry CacheError
-read_parts bytes = if length bytes == 0 then Err InvalidCacheEntry else read_text (utf8_text (first_part bytes)) (later_parts bytes)
+read_parts bytes =
+    if length bytes == 0 then Err InvalidCacheEntry
+    else read_text (utf8_text (first_part bytes)) (later_parts bytes)
 
 abbrev pub read_number : List ℕ → Result ReadEntry CacheError
 read_number bytes =

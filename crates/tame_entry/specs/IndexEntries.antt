@@ -21,10 +21,10 @@ some_entry (Ok e) = Ok (Some e)
 some_entry (Err f) = Err f
 
 -- the bytes of the file that stands at a path
-abbrev pub IsMapped : Standing → Result (List ℕ) Error → Type 0
-IsMapped standing (Ok bytes) = standing ≡ File bytes
-IsMapped standing (Err (error.Io io_kind.NotFound)) = standing ≡ Nothing
-IsMapped standing (Err e) = (e ≡ error.NoMemory) ⊎ (e ≡ error.Io io_kind.Failed)
+abbrev pub IsFileAt : Standing → Result (List ℕ) Error → Type 0
+IsFileAt standing (Ok bytes) = standing ≡ File bytes
+IsFileAt standing (Err (error.Io io_kind.NotFound)) = standing ≡ Nothing
+IsFileAt standing (Err e) = (e ≡ error.NoMemory) ⊎ (e ≡ error.Io io_kind.Failed)
 
 -- a file of the cache is what its bytes are read as; others aren't files of the cache
 abbrev pub CachedAs : IndexEntry → Result (Option ReadEntry) CacheError → Type 0

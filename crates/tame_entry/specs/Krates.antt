@@ -17,51 +17,52 @@ use Rattle.tame_entry.specs.declared.index_entries.IndexEntryVersion.{IndexEntry
 
 -- ---- versions
 
-abbrev pub Versions : Type 0
-Versions = Result (List IndexVersion) Error
+-- the versions of a crate, or why it has none
+abbrev pub KrateResult : Type 0
+KrateResult = Result (List IndexVersion) Error
 
-abbrev pub prepend : IndexVersion → Versions → Versions
+abbrev pub prepend : IndexVersion → KrateResult → KrateResult
 prepend v (Ok vs) = Ok (v ∷ vs)
 prepend v (Err e) = Err e
 
-abbrev pub with_record : Option IndexVersion → ℕ → Versions → Versions
+abbrev pub with_record : Option IndexVersion → ℕ → KrateResult → KrateResult
 with_record None n more = Err (error.Json n)
 with_record (Some v) n more = prepend v more
 
 -- the records of lines that are numbered from n on, or the first line that has none
-abbrev pub read_lines : ℕ → List (List ℕ) → Versions
+abbrev pub read_lines : ℕ → List (List ℕ) → KrateResult
 read_lines n [] = Ok []
 read_lines n (line ∷ more) = with_record (record_of line) n (read_lines (suc n) more)
 
 -- no line is no crate
-abbrev pub krate_of_lines : List (List ℕ) → Versions
+abbrev pub krate_of_lines : List (List ℕ) → KrateResult
 krate_of_lines [] = Err error.NoCrateVersions
 krate_of_lines (line ∷ more) = read_lines 0 (line ∷ more)
 
--- versions and lines by turns: the records of the lines, or the first line that has none, or a version that
--- no line follows
-abbrev pub read_pairs : ℕ → List (List ℕ) → Versions
+-- versions and lines by turns: the records of the lines, or the first line that has none, or a
+-- version that no line follows
+abbrev pub read_pairs : ℕ → List (List ℕ) → KrateResult
 read_pairs n [] = Ok []
 read_pairs n (version ∷ []) = Err (error.Cache InvalidCrateVersion)
 read_pairs n (version ∷ line ∷ more) = with_record (record_of line) n (read_pairs (suc n) more)
 
 -- the versions of a readable entry
-abbrev pub krate_of_entry : ReadEntry → Versions
+abbrev pub krate_of_entry : ReadEntry → KrateResult
 krate_of_entry e = read_pairs 0 (pieces 0 e.versions)
 
-abbrev pub krate_of_file : Result ReadEntry CacheError → Versions
+abbrev pub krate_of_file : Result ReadEntry CacheError → KrateResult
 krate_of_file (Ok e) = krate_of_entry e
 krate_of_file (Err f) = Err (error.Cache f)
 
 -- what an index entry is as the versions of a crate
-abbrev pub deserialized : IndexEntry → Versions
+abbrev pub deserialized : IndexEntry → KrateResult
 deserialized (Remote json_lines) = krate_of_lines (lines_of json_lines)
 deserialized (Cache file) = krate_of_file (read_entry file)
 deserialized (Local file) = krate_of_lines (lines file)
 
 -- ---- only under a revision
 
-abbrev pub some_versions : Versions → Result (Option (List IndexVersion)) Error
+abbrev pub some_versions : KrateResult → Result (Option (List IndexVersion)) Error
 some_versions (Ok vs) = Ok (Some vs)
 some_versions (Err e) = Err e
 
@@ -71,14 +72,18 @@ is_wanted None held = true
 is_wanted (Some wanted) held = bytes_eq (entry_text held) (entry_text wanted)
 
 -- nothing exactly where another revision is wanted
-abbrev pub entry_under : Option EntryRevision → ReadEntry → Result (Option (List IndexVersion)) Error
-entry_under wanted e = if is_wanted wanted e.revision then some_versions (krate_of_entry e) else Ok None
+abbrev pub entry_under : Option EntryRevision → ReadEntry
+    → Result (Option (List IndexVersion)) Error
+entry_under wanted e =
+    if is_wanted wanted e.revision then some_versions (krate_of_entry e) else Ok None
 
-abbrev pub file_under : EntryRevision → Result ReadEntry CacheError → Result (Option (List IndexVersion)) Error
+abbrev pub file_under : EntryRevision → Result ReadEntry CacheError
+    → Result (Option (List IndexVersion)) Error
 file_under wanted (Ok e) = entry_under (Some wanted) e
 file_under wanted (Err f) = Err (error.Cache f)
 
-abbrev pub deserialized_under : EntryRevision → IndexEntry → Result (Option (List IndexVersion)) Error
+abbrev pub deserialized_under : EntryRevision → IndexEntry
+    → Result (Option (List IndexVersion)) Error
 deserialized_under wanted (Remote json_lines) = some_versions (deserialized (Remote json_lines))
 deserialized_under wanted (Cache file) = file_under wanted (read_entry file)
 deserialized_under wanted (Local file) = some_versions (deserialized (Local file))

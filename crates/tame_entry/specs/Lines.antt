@@ -7,7 +7,8 @@ use Rattle.tame_names.specs.declared.errors.InvalidJsonLines.TheVariants.{Empty,
 
 -- two bytes or more, the first `{` and the last `}`
 abbrev pub is_object_line : List ℕ → Bool
-is_object_line line = nat_le 2 (length line) && slice_index line 0 == 123 && slice_index line (length line - 1) == 125
+is_object_line line =
+    nat_le 2 (length line) && slice_index line 0 == 123 && slice_index line (length line - 1) == 125
 
 -- why a body isn't valid: there is no line, or this is the first that doesn't look like an object
 abbrev pub invalid : List ℕ → Option InvalidJsonLines

@@ -6,7 +6,8 @@ use Rattle.tame_names.specs.Utf8.{utf8_text}
 -- what stands before the first needle, and what stands behind it
 abbrev pub cut_at : ℕ → List ℕ → Option (List ℕ × List ℕ)
 cut_at needle [] = None
-cut_at needle (b ∷ bs) = if b == needle then Some ([], bs) else option_map (λ p. (b ∷ p.0, p.1)) (cut_at needle bs)
+cut_at needle (b ∷ bs) =
+    if b == needle then Some ([], bs) else option_map (λ p. (b ∷ p.0, p.1)) (cut_at needle bs)
 
 abbrev pub onto_first : ℕ → List (List ℕ) → List (List ℕ)
 onto_first b [] = []
@@ -23,7 +24,8 @@ without_space (b ∷ bs) = if b == 32 then bs else b ∷ bs
 
 abbrev pub between_quotes : List ℕ → List ℕ
 between_quotes text =
-    if nat_le 2 (length text) && slice_index text 0 == 34 && slice_index text (length text - 1) == 34 then take (length text - 1 - 1) (drop 1 text)
+    if nat_le 2 (length text) && slice_index text 0 == 34
+    && slice_index text (length text - 1) == 34 then take (length text - 1 - 1) (drop 1 text)
     else []
 
 -- what stands between quotes, after one space that may stand in front

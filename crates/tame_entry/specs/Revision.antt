@@ -5,6 +5,8 @@ use Rattle.std.specs.Str.{is_utf8}
 use Rattle.hex.specs.Hex.{encode_lower}
 use Rattle.tame_names.specs.Pieces.{ends_with}
 use Rattle.tame_entry.specs.Commits.{is_commit}
+use Rattle.tame_entry.specs.Prefixes.{without_prefix}
+use Rattle.tame_entry.specs.declared.revisions.GitRevision.{GitRevision}
 use Rattle.tame_entry.specs.declared.revisions.GitRevision.TheVariants as git
 use Rattle.tame_entry.specs.declared.revisions.HttpRevision.{HttpRevision}
 use Rattle.tame_entry.specs.declared.revisions.HttpRevision.TheVariants as http
@@ -20,7 +22,9 @@ use Rattle.tame_entry.specs.declared.revisions.Revision.TheVariants as revision
 -- what an honest server may use: not empty, only bytes 32 to 126, no space in front or at the end
 abbrev pub is_honest_text : List ℕ → Bool
 is_honest_text [] = false
-is_honest_text (b ∷ bs) = list_all (λ c. nat_le 32 c && nat_le c 126) (b ∷ bs) && not (b == 32) && not (ends_with 32 (b ∷ bs))
+is_honest_text (b ∷ bs) =
+    list_all (λ c. nat_le 32 c && nat_le c 126) (b ∷ bs) && not (b == 32)
+    && not (ends_with 32 (b ∷ bs))
 
 abbrev pub revision_text : OwnedRevision → List ℕ
 revision_text (Etag text) = text
@@ -66,14 +70,9 @@ IsRevision (Http r) = IsTrue (is_utf8 (revision_text r))
 IsRevision (Commit digits) = IsTrue (is_commit digits)
 IsRevision Unknown = Unit {0}
 
--- a text without what it begins with
-abbrev pub after : List ℕ → List ℕ → Option (List ℕ)
-after [] text = Some text
-after (p ∷ ps) [] = None
-after (p ∷ ps) (b ∷ bs) = if b == p then after ps bs else None
-
-abbrev pub without_name : List ℕ → Option EntryRevision
-without_name text =
+-- the revision of a text without a name
+abbrev pub unnamed_revision : List ℕ → Option EntryRevision
+unnamed_revision text =
     if is_commit text then Some (Commit text)
     else if bytes_eq text (codes "Unknown") then Some Unknown
     else None
@@ -88,7 +87,9 @@ etag_or None other = other
 
 -- the revision that a text of an entry is
 abbrev pub revision_of : List ℕ → Option EntryRevision
-revision_of text = etag_or (after (codes "etag: ") text) (date_or (after (codes "last-modified: ") text) (without_name text))
+revision_of text =
+    etag_or (without_prefix (codes "etag: ") text)
+    (date_or (without_prefix (codes "last-modified: ") text) (unnamed_revision text))
 
 -- ---- revisions as they are handed in
 
@@ -102,15 +103,23 @@ stored_value (stored.LastModified text) = Http (LastModified text.now)
 stored_value (stored.Commit digits) = Commit digits
 stored_value stored.Unknown = Unknown
 
+-- of a commit's bytes the digits in lower case
+abbrev pub commit_digits : GitRevision → List ℕ
+commit_digits (git.Raw bytes) = encode_lower bytes
+commit_digits (git.Hex digits) = digits
+
 abbrev pub revision_value : Revision → EntryRevision
 revision_value (revision.Http r) = Http (http_value r)
-revision_value (revision.Git (git.Raw bytes)) = Commit (encode_lower bytes)
-revision_value (revision.Git (git.Hex digits)) = Commit digits
+revision_value (revision.Git commit) = Commit (commit_digits commit)
 revision_value revision.Unknown = Unknown
 
 -- the text that a revision writes
 abbrev pub written_text : Revision → List ℕ
 written_text r = entry_text (revision_value r)
+
+-- commits are equal where their digits are
+abbrev pub equal_commits : GitRevision → GitRevision → Bool
+equal_commits a b = bytes_eq (commit_digits a) (commit_digits b)
 
 -- revisions are equal where they write equal texts
 abbrev pub equal_revisions : Revision → Revision → Bool

@@ -1,4 +1,5 @@
--- Whether a line says that its version is yanked, found from its end without reading the line as JSON.
+-- Whether a line says that its version is yanked, found from its end without reading the line as
+-- JSON.
 use Rattle.std.specs.Prelude.{ℕ, ◌-◌, codes, List, [], ◌∷◌, length, take, reverse, ◌==◌, bytes_eq, nat_eq, Bool, true, false, Option, Some, None, Result, Ok, Err, if◌then◌else◌}
 use Rattle.std.specs.List.{ends_with}
 use Rattle.semver.specs.Parse.{Parts}
@@ -12,7 +13,9 @@ abbrev pub Flag : Type 0
 Flag = Result Bool IoKind
 
 abbrev pub flag_value : List ℕ → Flag
-flag_value text = if bytes_eq text (codes "true") then Ok true else if bytes_eq text (codes "false") then Ok false else Err InvalidData
+flag_value text =
+    if bytes_eq text (codes "true") then Ok true else if bytes_eq text (codes "false") then Ok false
+    else Err InvalidData
 
 abbrev pub names_yanked : List ℕ → Bool
 names_yanked key = ends_with nat_eq key (codes "\"yanked\"")
@@ -29,8 +32,8 @@ abbrev pub decided : Option Flag → Flag → Flag
 decided None later = later
 decided (Some flag) later = flag
 
--- Back over the bytes: a `}` ends the search, a comma ends the part behind it, which may decide, and another byte
--- stands in front of the part. Without a decision the version isn't yanked.
+-- Back over the bytes: a `}` ends the search, a comma ends the part behind it, which may decide,
+-- and another byte stands in front of the part. Without a decision the version isn't yanked.
 abbrev pub flag_back : List ℕ → List ℕ → Flag
 flag_back [] part = Ok false
 flag_back (b ∷ back) part =
@@ -41,8 +44,8 @@ flag_back (b ∷ back) part =
 abbrev pub without_last : List ℕ → List ℕ
 without_last bytes = take (length bytes - 1) bytes
 
--- Back over the bytes to the last comma or `}`, which has to be a `}`. What it begins is, without the line's last
--- byte, the end of the first part.
+-- Back over the bytes to the last comma or `}`, which has to be a `}`. What it begins is, without
+-- the line's last byte, the end of the first part.
 abbrev pub flag_from : List ℕ → List ℕ → Flag
 flag_from [] behind = Err UnexpectedEof
 flag_from (b ∷ back) behind =

@@ -5,16 +5,18 @@ ghost use Rattle.std.specs.Str.{str_to_ascii_lowercase};
 ghost use Rattle.serde_json.specs.View.{view};
 ghost use Rattle.tame_names.specs.KrateNames.{text_of};
 ghost use Rattle.tame_names.specs.Names.{prefix};
-ghost use Rattle.tame_entry.specs.Config.{config_of, config_of_data, crates_io_url, download_url, ended, filled, filled_part, is_brace, plain_url, slash, version_url};
-ghost use Rattle.tame_entry.specs.Revision.{after};
+ghost use Rattle.tame_entry.specs.Config.{config_of_data, with_slash, filled_part, is_brace, slash};
+ghost use Rattle.tame_entry.specs.Config as spec;
+ghost use Rattle.tame_entry.specs.Prefixes.{without_prefix};
 
-use crate::entries::after;
+use crate::prefixes::without_prefix;
 use serde_json::Value;
 use std::alloc::{AllocError, Global};
 use tame_names::{KrateName, NoMemory, Text};
 use tame_records::{IndexVersion, LineFault, flag_or_false, read_value, text_or_null};
 
-/// The configuration of an index, its `config.json`.
+/// The configuration of an index, its `config.json`. Ordered by `dl`, then by `api`, an absent one
+/// first, then by the flag.
 #[derive(Debug, Drop, PartialEq, Eq, PartialOrd, Ord)]
 pub struct IndexConfig {
     /// Where crates are downloaded from.
@@ -25,30 +27,28 @@ pub struct IndexConfig {
     pub auth_required: bool,
 }
 
-fn config_of(alloc: Global, value: &Value) -> Result<Option<IndexConfig>, NoMemory>
-    ensures { IfOk result (λ c. c ≡ config_of_data (view value.now)) }
+fn config_of(alloc: Global, value: &Value) -> Result<IndexConfig, LineFault>
+    ensures ok { IfOk result (λ c. config_of_data (view value.now) ≡ Some c) }
+    ensures json { result ≡ Err LineFault.Json → config_of_data (view value.now) ≡ None }
 {
     let Some(dl) = value.get("dl").and_then(Value::as_str) else {
-        return Ok(None);
+        return Err(LineFault::Json);
     };
-    let Some(api) = text_or_null(value.get("api")) else {
-        return Ok(None);
-    };
-    let Some(auth_required) = flag_or_false(value.get("auth-required")) else {
-        return Ok(None);
-    };
-    Ok(Some(IndexConfig {
+    let api = text_or_null(value.get("api"))?;
+    let auth_required = flag_or_false(value.get("auth-required"))?;
+    Ok(IndexConfig {
         dl: Text::of(alloc, dl)?,
         api: Text::of_option(alloc, api)?,
         auth_required,
-    }))
+    })
 }
 
 // ---- markers
 
 /// What stands before the first `{`, and what stands behind it.
 fn cut_brace(text: &str) -> Option<(&str, &str)>
-    ensures { MatchOption result (slice_split is_brace text.now ≡ text.now ∷ []) (λ p. slice_split is_brace text.now ≡ p.0.now ∷ slice_split is_brace p.1.now) }
+    ensures { MatchOption result (slice_split is_brace text.now ≡ text.now ∷ [])
+        (λ p. slice_split is_brace text.now ≡ p.0.now ∷ slice_split is_brace p.1.now) }
 {
     text.split_once('{')
 }
@@ -59,8 +59,11 @@ fn push_prefix(
     name: KrateName<'_>,
     lower: bool,
 ) -> Result<(), NoMemory>
-    ensures whole { lower ≡ false → OnOk result (string_bytes out.new ≡ string_bytes out.old ++ prefix slash (text_of name.entry)) }
-    ensures lower { lower ≡ true → OnOk result (string_bytes out.new ≡ string_bytes out.old ++ str_to_ascii_lowercase (prefix slash (text_of name.entry))) }
+    ensures whole { lower ≡ false → OnOk result
+        (string_bytes out.new ≡ string_bytes out.old ++ prefix slash (text_of name.entry)) }
+    ensures lower { lower ≡ true → OnOk result
+        (string_bytes out.new ≡ string_bytes out.old
+        ++ str_to_ascii_lowercase (prefix slash (text_of name.entry))) }
 {
     let mut folders = String::new(alloc);
     name.prefix(&mut folders, '/')?;
@@ -78,21 +81,22 @@ fn push_part(
     name: KrateName<'_>,
     version: &str,
 ) -> Result<(), NoMemory>
-    ensures { OnOk result (string_bytes out.new ≡ string_bytes out.old ++ filled_part (text_of name.entry) version.now part.now) }
+    ensures { OnOk result (string_bytes out.new
+        ≡ string_bytes out.old ++ filled_part (text_of name.entry) version.now part.now) }
 {
-    if let Some(left) = after(part, "crate}") {
+    if let Some(left) = without_prefix(part, "crate}") {
         out.push_str(name.as_str())?;
         return Ok(out.push_str(left)?);
     }
-    if let Some(left) = after(part, "version}") {
+    if let Some(left) = without_prefix(part, "version}") {
         out.push_str(version)?;
         return Ok(out.push_str(left)?);
     }
-    if let Some(left) = after(part, "prefix}") {
+    if let Some(left) = without_prefix(part, "prefix}") {
         push_prefix(alloc, out, name, false)?;
         return Ok(out.push_str(left)?);
     }
-    if let Some(left) = after(part, "lowerprefix}") {
+    if let Some(left) = without_prefix(part, "lowerprefix}") {
         push_prefix(alloc, out, name, true)?;
         return Ok(out.push_str(left)?);
     }
@@ -108,7 +112,9 @@ fn push_parts(
     name: KrateName<'_>,
     version: &str,
 ) -> Result<(), NoMemory>
-    ensures { OnOk result (string_bytes out.new ≡ string_bytes out.old ++ flat_map (filled_part (text_of name.entry) version.now) (slice_split is_brace parts.now)) }
+    ensures { OnOk result (string_bytes out.new
+        ≡ string_bytes out.old ++ flat_map (filled_part (text_of name.entry) version.now)
+        (slice_split is_brace parts.now)) }
 {
     let mut left = parts;
     while let Some((part, behind)) = cut_brace(left) {
@@ -119,7 +125,7 @@ fn push_parts(
 }
 
 fn filled(alloc: Global, dl: &str, name: KrateName<'_>, version: &str) -> Result<Text, NoMemory>
-    ensures { IfOk result (λ t. t ≡ filled (text_of name.entry) version.now dl.now) }
+    ensures { IfOk result (λ t. t ≡ spec.filled (text_of name.entry) version.now dl.now) }
 {
     let mut out = String::new(alloc);
     match cut_brace(dl) {
@@ -135,7 +141,7 @@ fn filled(alloc: Global, dl: &str, name: KrateName<'_>, version: &str) -> Result
 // ---- the other forms
 
 fn crates_io_url(alloc: Global, name: KrateName<'_>, version: &str) -> Result<Text, NoMemory>
-    ensures { IfOk result (λ t. t ≡ crates_io_url (text_of name.entry) version.now) }
+    ensures { IfOk result (λ t. t ≡ spec.crates_io_url (text_of name.entry) version.now) }
 {
     let mut out = String::new(alloc);
     out.push_str("https://static.crates.io/crates/")?;
@@ -149,7 +155,7 @@ fn crates_io_url(alloc: Global, name: KrateName<'_>, version: &str) -> Result<Te
 }
 
 fn plain_url(alloc: Global, dl: &str, name: KrateName<'_>, version: &str) -> Result<Text, NoMemory>
-    ensures { IfOk result (λ t. t ≡ plain_url (text_of name.entry) version.now dl.now) }
+    ensures { IfOk result (λ t. t ≡ spec.plain_url (text_of name.entry) version.now dl.now) }
 {
     let mut out = String::new(alloc);
     out.push_str(dl)?;
@@ -173,16 +179,11 @@ impl IndexConfig {
     /// The configuration that bytes are: a UTF-8 JSON object without floats, of equal keys the
     /// last, with `dl`, `api` and `auth-required`; other members are ignored.
     pub fn from_slice(alloc: Global, bytes: &[u8]) -> Result<IndexConfig, LineFault>
-        ensures ok { IfOk result (λ c. config_of bytes.now ≡ Some c) }
-        ensures json { result ≡ Err LineFault.Json → config_of bytes.now ≡ None }
+        ensures ok { IfOk result (λ c. spec.config_of bytes.now ≡ Some c) }
+        ensures json { result ≡ Err LineFault.Json → spec.config_of bytes.now ≡ None }
     {
-        let Some(value) = read_value(alloc, bytes)? else {
-            return Err(LineFault::Json);
-        };
-        match config_of(alloc, &value)? {
-            Some(config) => Ok(config),
-            None => Err(LineFault::Json),
-        }
+        let value = read_value(alloc, bytes)?;
+        config_of(alloc, &value)
     }
 
     /// Where a version of a crate is downloaded from.
@@ -195,7 +196,8 @@ impl IndexConfig {
         name: KrateName<'_>,
         version: &str,
     ) -> Result<Text, NoMemory>
-        ensures { IfOk result (λ t. t ≡ download_url (text_of name.entry) version.now self.now.dl) }
+        ensures { IfOk result (λ t. t ≡ spec.download_url
+            (text_of name.entry) version.now self.now.dl) }
     {
         let dl = self.dl.as_str();
         if dl == "https://crates.io/api/v1/crates" {
@@ -214,7 +216,8 @@ pub fn version_url(
     version: &IndexVersion,
     index: &IndexConfig,
 ) -> Result<Option<Text>, NoMemory>
-    ensures { IfOk result (λ t. t ≡ version_url version.now.name version.now.version index.now.dl) }
+    ensures { IfOk result
+        (λ t. t ≡ spec.version_url version.now.name version.now.version index.now.dl) }
 {
     match KrateName::try_from(version.name.as_str()) {
         Ok(name) => Ok(Some(index.download_url(alloc, name, version.version.as_str())?)),

@@ -1,10 +1,23 @@
 //! Entries of the cache, read.
+//!
+//! ```text
+//! 0   1   2   3   4   5
+//! +---+---+---+---+---+------------------+---+---------+---+------+---+---------+--
+//! | 3 | 2 | 0 | 0 | 0 | text of revision | 0 | version | 0 | line | 0 | version | ..
+//! +---+---+---+---+---+------------------+---+---------+---+------+---+---------+--
+//!   |   '-----.-----'                        '------------.-----------'
+//!   |         '- of the index, the least byte first       '- once for each line
+//!   '- version of entries
+//! ```
 ghost use Rattle.std.specs.Prelude.{◌≡◌, ℕ, not, nat_lt, length, unwrap_or, option_map, Ok, Err, IfOk, IfErr};
 ghost use Rattle.tame_names.specs.Pieces.{pieces};
 ghost use Rattle.tame_names.specs.Utf8.{utf8_text};
-ghost use Rattle.tame_entry.specs.Entry.{first_part, later_parts, read_entry, read_number, read_parts, read_text, read_value};
-ghost use Rattle.tame_entry.specs.Revision.{after, revision_of, revision_value};
+ghost use Rattle.tame_entry.specs.Entry.{first_part, later_parts, read_entry, read_value};
+ghost use Rattle.tame_entry.specs.Entry as spec;
+ghost use Rattle.tame_entry.specs.Revision.{revision_value};
+ghost use Rattle.tame_entry.specs.Revision as revision_spec;
 
+use crate::prefixes::without_prefix;
 use crate::raw::cut_at;
 use crate::revisions::{GitRevision, HttpRevision, Revision};
 use crate::sha1::Sha1Hex;
@@ -16,9 +29,6 @@ pub const CURRENT_CACHE_VERSION: u8 = 3;
 /// The version of the index that entries are of.
 pub const INDEX_V_MAX: u32 = 2;
 
-/// The version of the index as four bytes, the least first.
-pub const INDEX_NUMBER: [u8; 4] = [2, 0, 0, 0];
-
 /// A readable entry: its revision, and its versions with their lines, each ended by a zero byte.
 #[derive(Drop)]
 pub struct ValidCacheEntry<'b> {
@@ -26,21 +36,14 @@ pub struct ValidCacheEntry<'b> {
     pub version_entries: &'b [u8],
 }
 
-/// What stands behind a text's beginning.
-pub fn after<'t>(text: &'t str, name: &str) -> Option<&'t str>
-    ensures { option_map (λ t. t.now) result ≡ after name.now text.now }
-{
-    text.strip_prefix(name)
-}
-
 /// The revision that a text of an entry is.
 fn revision_of(text: &str) -> Option<Revision<'_>>
-    ensures { option_map revision_value result ≡ revision_of text.now }
+    ensures { option_map revision_value result ≡ revision_spec.revision_of text.now }
 {
-    if let Some(etag) = after(text, "etag: ") {
+    if let Some(etag) = without_prefix(text, "etag: ") {
         return Some(Revision::Http(HttpRevision::Etag(etag)));
     }
-    if let Some(date) = after(text, "last-modified: ") {
+    if let Some(date) = without_prefix(text, "last-modified: ") {
         return Some(Revision::Http(HttpRevision::LastModified(date)));
     }
     if let Some(digits) = Sha1Hex::parse(text) {
@@ -60,8 +63,10 @@ fn has_two_parts(bytes: &[u8]) -> bool
 }
 
 fn read_text<'b>(revision: &'b [u8], versions: &'b [u8]) -> Result<ValidCacheEntry<'b>, CacheError>
-    ensures ok { IfOk result (λ e. read_text (utf8_text revision.now) versions.now ≡ Ok (read_value e)) }
-    ensures refused { IfErr result (λ f. read_text (utf8_text revision.now) versions.now ≡ Err f) }
+    ensures ok { IfOk result (λ e. spec.read_text (utf8_text revision.now) versions.now
+        ≡ Ok (read_value e)) }
+    ensures refused { IfErr result
+        (λ f. spec.read_text (utf8_text revision.now) versions.now ≡ Err f) }
 {
     let Some(text) = utf8_text(revision) else {
         return Err(CacheError::OutdatedRevision);
@@ -90,8 +95,8 @@ fn parts(bytes: &[u8]) -> (&[u8], &[u8])
 }
 
 fn read_parts(bytes: &[u8]) -> Result<ValidCacheEntry<'_>, CacheError>
-    ensures ok { IfOk result (λ e. read_parts bytes.now ≡ Ok (read_value e)) }
-    ensures refused { IfErr result (λ f. read_parts bytes.now ≡ Err f) }
+    ensures ok { IfOk result (λ e. spec.read_parts bytes.now ≡ Ok (read_value e)) }
+    ensures refused { IfErr result (λ f. spec.read_parts bytes.now ≡ Err f) }
 {
     if bytes.is_empty() {
         return Err(CacheError::InvalidCacheEntry);
@@ -101,13 +106,13 @@ fn read_parts(bytes: &[u8]) -> Result<ValidCacheEntry<'_>, CacheError>
 }
 
 fn read_number(bytes: &[u8]) -> Result<ValidCacheEntry<'_>, CacheError>
-    ensures ok { IfOk result (λ e. read_number bytes.now ≡ Ok (read_value e)) }
-    ensures refused { IfErr result (λ f. read_number bytes.now ≡ Err f) }
+    ensures ok { IfOk result (λ e. spec.read_number bytes.now ≡ Ok (read_value e)) }
+    ensures refused { IfErr result (λ f. spec.read_number bytes.now ≡ Err f) }
 {
     if bytes.len() < 4 {
         return Err(CacheError::InvalidCacheEntry);
     }
-    if &bytes[..4] == INDEX_NUMBER.as_slice() {
+    if &bytes[..4] == INDEX_V_MAX.to_le_bytes().as_slice() {
         read_parts(&bytes[4..])
     } else {
         Err(CacheError::UnknownIndexVersion)

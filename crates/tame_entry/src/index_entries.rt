@@ -1,8 +1,8 @@
 //! Index entries, from a server, from the cache or from a local registry.
 ghost use Rattle.std.specs.Prelude.{◌≡◌, ◌≤◌, ℕ, List, Ok, Err, Some, None, option_map, IfOk, IfErr};
 ghost use Rattle.tame_entry.specs.Entry.{read_entry, read_value};
-ghost use Rattle.tame_names.specs.Counts.{Rose};
-ghost use Rattle.tame_entry.specs.IndexEntries.{CachedAs, IsMapped, version_text};
+ghost use Rattle.tame_names.specs.Counts.{CountRose};
+ghost use Rattle.tame_entry.specs.IndexEntries.{CachedAs, IsFileAt, version_text};
 
 use crate::entries::ValidCacheEntry;
 use crate::json_lines::JsonLines;
@@ -42,9 +42,9 @@ impl<'l> LockedMmap<'l> {
         path: &str,
         lock: &'l FileLock,
     ) -> Result<LockedMmap<'l>, Error>
-        ensures read { F.tells → IsMapped ((F.host files.old).stands path.now) result }
+        ensures read { F.tells → IsFileAt ((F.host files.old).stands path.now) result }
         ensures failed { result ≡ Err (Error.Io IoKind.Failed)
-            → Rose (F.faults files.old) (F.faults files.new) }
+            → CountRose (F.faults files.old) (F.faults files.new) }
         ensures later { F.faults files.old ≤ F.faults files.new }
         ensures same { F.tells → F.host files.new ≡ F.host files.old }
     {
@@ -87,7 +87,8 @@ impl<'r> IndexEntryVersion<'r> {
     /// The version's text and the line. Without a text from an entry it is what stands in the
     /// line; a text that isn't UTF-8 is the empty text.
     pub fn raw(&self) -> (&'r str, &'r [u8])
-        ensures version { result.0.now ≡ version_text (option_map (λ v. v.now) self.now.version) self.now.json.now }
+        ensures version { result.0.now
+            ≡ version_text (option_map (λ v. v.now) self.now.version) self.now.json.now }
         ensures line { result.1.now ≡ self.now.json.now }
     {
         let version = match self.version {

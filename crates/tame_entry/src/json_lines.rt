@@ -1,7 +1,9 @@
 //! The body of an index file, cut into lines.
 ghost use Rattle.std.specs.Prelude.{◌≡◌, List, ℕ, IfOk, IfErr, Some, None, position, not};
-ghost use Rattle.tame_entry.specs.Lines.{invalid, is_object_line};
-ghost use Rattle.tame_records.specs.Lines.{lines, trimmed};
+ghost use Rattle.tame_entry.specs.Lines.{invalid};
+ghost use Rattle.tame_entry.specs.Lines as spec;
+ghost use Rattle.tame_records.specs.Lines.{trimmed};
+ghost use Rattle.tame_records.specs.Lines as lines_spec;
 ghost use Rattle.tame_names.specs.Pieces.{pieces};
 
 use tame_names::{InvalidJsonLines, SplitIter, split};
@@ -15,14 +17,14 @@ pub struct JsonLines<'r> {
 }
 
 fn is_object_line(line: &[u8]) -> bool
-    ensures { result ≡ is_object_line line.now }
+    ensures { result ≡ spec.is_object_line line.now }
 {
     line.len() >= 2 && line[0] == b'{' && line[line.len() - 1] == b'}'
 }
 
 /// The first line that doesn't look like an object.
 fn first_bad_line(text: &[u8]) -> Option<usize>
-    ensures { result ≡ position (λ line. not (is_object_line line)) (pieces 10 text.now) }
+    ensures { result ≡ position (λ line. not (spec.is_object_line line)) (pieces 10 text.now) }
 {
     split(text, b'\n').position(|line| !is_object_line(line))
 }
@@ -33,7 +35,8 @@ impl<'r> JsonLines<'r> {
     /// The lines of a body. Newlines that end it are dropped; a body without any line, or with
     /// a line that doesn't look like a JSON object, is refused.
     pub fn validate(re: &'r [u8]) -> Result<JsonLines<'r>, InvalidJsonLines>
-        ensures ok { IfOk result (λ json_lines. (lines_of json_lines ≡ lines re.now) × (invalid re.now ≡ None)) }
+        ensures ok { IfOk result (λ json_lines. (lines_of json_lines ≡ lines_spec.lines re.now)
+            × (invalid re.now ≡ None)) }
         ensures refused { IfErr result (λ e. invalid re.now ≡ Some e) }
     {
         let text = trimmed(re);

@@ -3,7 +3,8 @@ ghost use Rattle.std.specs.Prelude.{◌≡◌, ◌⊎◌, List, map, option_map,
 ghost use Rattle.tame_names.specs.Pieces.{pieces};
 ghost use Rattle.tame_records.specs.Record.{record_of};
 ghost use Rattle.tame_entry.specs.Entry.{read_value};
-ghost use Rattle.tame_entry.specs.Krates.{deserialized, deserialized_under, entry_under, is_wanted, krate_of_entry, krate_of_lines, read_lines, read_pairs};
+ghost use Rattle.tame_entry.specs.Krates.{deserialized, deserialized_under, entry_under, krate_of_entry};
+ghost use Rattle.tame_entry.specs.Krates as spec;
 ghost use Rattle.tame_entry.specs.Revision.{revision_value};
 
 use crate::entries::ValidCacheEntry;
@@ -16,7 +17,8 @@ use tame_records::{IndexKrate, IndexVersion, LineFault, trimmed};
 /// The record of a line with a number.
 fn read_line(alloc: Global, line: &[u8], number: usize) -> Result<IndexVersion, Error>
     ensures ok { IfOk result (λ v. record_of line.now ≡ Some v) }
-    ensures refused { IfErr result (λ e. (e ≡ Error.NoMemory) ⊎ ((e ≡ Error.Json number) × (record_of line.now ≡ None))) }
+    ensures refused { IfErr result
+        (λ e. (e ≡ Error.NoMemory) ⊎ ((e ≡ Error.Json number) × (record_of line.now ≡ None))) }
 {
     match IndexVersion::read_line(alloc, line) {
         Ok(version) => Ok(version),
@@ -31,7 +33,9 @@ impl IndexEntryVersion<'_> {
     /// The record of its line; `Json` of line 0 where it has none.
     pub fn deserialize(&self, alloc: Global) -> Result<IndexVersion, Error>
         ensures ok { IfOk result (λ v. record_of self.now.json.now ≡ Some v) }
-        ensures refused { IfErr result (λ e. (e ≡ Error.NoMemory) ⊎ ((e ≡ Error.Json 0) × (record_of self.now.json.now ≡ None))) }
+        ensures refused { IfErr result
+            (λ e. (e ≡ Error.NoMemory)
+            ⊎ ((e ≡ Error.Json 0) × (record_of self.now.json.now ≡ None))) }
     {
         read_line(alloc, self.json, 0)
     }
@@ -39,8 +43,9 @@ impl IndexEntryVersion<'_> {
 
 /// The records of lines.
 fn read_lines(alloc: Global, lines: SplitIter<'_>) -> Result<IndexKrate, Error>
-    ensures ok { IfOk result (λ k. read_lines 0 lines.entry ≡ Ok k.versions) }
-    ensures refused { IfErr result (λ e. (e ≡ Error.NoMemory) ⊎ (read_lines 0 lines.entry ≡ Err e)) }
+    ensures ok { IfOk result (λ k. spec.read_lines 0 lines.entry ≡ Ok k.versions) }
+    ensures refused { IfErr result
+        (λ e. (e ≡ Error.NoMemory) ⊎ (spec.read_lines 0 lines.entry ≡ Err e)) }
 {
     let mut versions = Items::new(alloc);
     for line in lines {
@@ -52,8 +57,9 @@ fn read_lines(alloc: Global, lines: SplitIter<'_>) -> Result<IndexKrate, Error>
 
 /// The versions of lines; no line is `NoCrateVersions`.
 fn krate_of_lines(alloc: Global, lines: SplitIter<'_>) -> Result<IndexKrate, Error>
-    ensures ok { IfOk result (λ k. krate_of_lines lines.entry ≡ Ok k.versions) }
-    ensures refused { IfErr result (λ e. (e ≡ Error.NoMemory) ⊎ (krate_of_lines lines.entry ≡ Err e)) }
+    ensures ok { IfOk result (λ k. spec.krate_of_lines lines.entry ≡ Ok k.versions) }
+    ensures refused { IfErr result
+        (λ e. (e ≡ Error.NoMemory) ⊎ (spec.krate_of_lines lines.entry ≡ Err e)) }
 {
     let krate = read_lines(alloc, lines)?;
     if krate.versions.as_slice().is_empty() {
@@ -64,8 +70,9 @@ fn krate_of_lines(alloc: Global, lines: SplitIter<'_>) -> Result<IndexKrate, Err
 
 /// The records of the lines that stand behind their versions.
 fn read_pairs(alloc: Global, parts: SplitIter<'_>) -> Result<IndexKrate, Error>
-    ensures ok { IfOk result (λ k. read_pairs 0 parts.entry ≡ Ok k.versions) }
-    ensures refused { IfErr result (λ e. (e ≡ Error.NoMemory) ⊎ (read_pairs 0 parts.entry ≡ Err e)) }
+    ensures ok { IfOk result (λ k. spec.read_pairs 0 parts.entry ≡ Ok k.versions) }
+    ensures refused { IfErr result
+        (λ e. (e ≡ Error.NoMemory) ⊎ (spec.read_pairs 0 parts.entry ≡ Err e)) }
 {
     let mut versions = Items::new(alloc);
     let mut left = parts;
@@ -80,7 +87,8 @@ fn read_pairs(alloc: Global, parts: SplitIter<'_>) -> Result<IndexKrate, Error>
 }
 
 fn is_wanted(wanted: Option<&Revision<'_>>, held: &Revision<'_>) -> bool
-    ensures { result ≡ is_wanted (option_map (λ r. revision_value r.now) wanted.entry) (revision_value held.now) }
+    ensures { result ≡ spec.is_wanted (option_map (λ r. revision_value r.now) wanted.entry)
+        (revision_value held.now) }
 {
     match wanted {
         Some(wanted) => held == wanted,
@@ -98,8 +106,13 @@ impl ValidCacheEntry<'_> {
         alloc: Global,
         revision: Option<&Revision<'_>>,
     ) -> Result<Option<IndexKrate>, Error>
-        ensures ok { IfOk result (λ k. entry_under (option_map (λ r. revision_value r.now) revision.entry) (read_value self.now) ≡ Ok (option_map (λ k. k.versions) k)) }
-        ensures refused { IfErr result (λ e. (e ≡ Error.NoMemory) ⊎ (entry_under (option_map (λ r. revision_value r.now) revision.entry) (read_value self.now) ≡ Err e)) }
+        ensures ok { IfOk result (λ k. entry_under
+            (option_map (λ r. revision_value r.now) revision.entry) (read_value self.now)
+            ≡ Ok (option_map (λ k. k.versions) k)) }
+        ensures refused { IfErr result
+            (λ e. (e ≡ Error.NoMemory)
+            ⊎ (entry_under (option_map (λ r. revision_value r.now) revision.entry)
+            (read_value self.now) ≡ Err e)) }
     {
         if !is_wanted(revision, &self.revision) {
             return Ok(None);
@@ -116,7 +129,8 @@ impl IndexEntry<'_, '_> {
     /// is a file of the cache that isn't readable, or that ends in a version without a line.
     pub fn deserialize(&self, alloc: Global) -> Result<IndexKrate, Error>
         ensures ok { IfOk result (λ k. deserialized self.now ≡ Ok k.versions) }
-        ensures refused { IfErr result (λ e. (e ≡ Error.NoMemory) ⊎ (deserialized self.now ≡ Err e)) }
+        ensures refused { IfErr result
+            (λ e. (e ≡ Error.NoMemory) ⊎ (deserialized self.now ≡ Err e)) }
     {
         match self {
             IndexEntry::Remote(lines) => krate_of_lines(alloc, lines.lines()),
@@ -139,8 +153,11 @@ impl IndexEntry<'_, '_> {
         alloc: Global,
         revision: &Revision<'_>,
     ) -> Result<Option<IndexKrate>, Error>
-        ensures ok { IfOk result (λ k. deserialized_under (revision_value revision.now) self.now ≡ Ok (option_map (λ k. k.versions) k)) }
-        ensures refused { IfErr result (λ e. (e ≡ Error.NoMemory) ⊎ (deserialized_under (revision_value revision.now) self.now ≡ Err e)) }
+        ensures ok { IfOk result (λ k. deserialized_under (revision_value revision.now) self.now
+            ≡ Ok (option_map (λ k. k.versions) k)) }
+        ensures refused { IfErr result
+            (λ e. (e ≡ Error.NoMemory)
+            ⊎ (deserialized_under (revision_value revision.now) self.now ≡ Err e)) }
     {
         match self {
             IndexEntry::Cache(file) => {

@@ -1,8 +1,9 @@
 //! The version that stands in a line, found without reading the line as JSON.
 ghost use Rattle.std.specs.Prelude.{◌≡◌, ◌∷◌, ℕ, List, [], option_map, MatchOption};
 ghost use Rattle.std.specs.Iterator.{YieldsFirstRef, item_count};
-ghost use Rattle.tame_entry.specs.Entry.{has_no_zero};
-ghost use Rattle.tame_entry.specs.Raw.{between_quotes, comma_parts, cut_at, names_version, quoted_value, raw_version, version_in, without_space};
+ghost use Rattle.tame_entry.specs.Entry as entry_spec;
+ghost use Rattle.tame_entry.specs.Raw.{comma_parts};
+ghost use Rattle.tame_entry.specs.Raw as spec;
 
 use memchr::memchr;
 use std::marker::Model;
@@ -10,7 +11,7 @@ use tame_names::utf8_text;
 
 /// What stands before the first needle, and what stands behind it.
 pub fn cut_at(bytes: &[u8], needle: u8) -> Option<(&[u8], &[u8])>
-    ensures { option_map (λ p. (p.0.now, p.1.now)) result ≡ cut_at needle bytes.now }
+    ensures { option_map (λ p. (p.0.now, p.1.now)) result ≡ spec.cut_at needle bytes.now }
 {
     match memchr(needle, bytes) {
         Some(at) => Some((&bytes[..at], &bytes[at + 1..])),
@@ -20,7 +21,7 @@ pub fn cut_at(bytes: &[u8], needle: u8) -> Option<(&[u8], &[u8])>
 
 /// Whether no byte is zero.
 pub fn has_no_zero(bytes: &[u8]) -> bool
-    ensures { result ≡ has_no_zero bytes.now }
+    ensures { result ≡ entry_spec.has_no_zero bytes.now }
 {
     cut_at(bytes, 0).is_none()
 }
@@ -35,6 +36,7 @@ struct CommaParts<'a> {
 impl<'a> Model for CommaParts<'a> {
     ghost use Rattle.std.specs.Prelude.{List, ℕ};
     ghost use Rattle.tame_entry.specs.Raw.{comma_parts};
+    ghost use Rattle.tame_entry.specs.Raw as spec;
 
     ghost Value = { List (List ℕ) };
 
@@ -43,7 +45,8 @@ impl<'a> Model for CommaParts<'a> {
 
 /// The first part that a comma ends, and what is left behind it.
 fn first_part(bytes: &[u8]) -> Option<(&[u8], &[u8])>
-    ensures { MatchOption result (comma_parts bytes.now ≡ []) (λ p. comma_parts bytes.now ≡ p.0.now ∷ comma_parts p.1.now) }
+    ensures { MatchOption result (comma_parts bytes.now ≡ [])
+        (λ p. comma_parts bytes.now ≡ p.0.now ∷ comma_parts p.1.now) }
 {
     cut_at(bytes, b',')
 }
@@ -71,7 +74,7 @@ impl<'a> Iterator for CommaParts<'a> {
 
 /// The text without one space in front, where it begins with one.
 pub fn without_space(text: &[u8]) -> &[u8]
-    ensures { result.now ≡ without_space text.now }
+    ensures { result.now ≡ spec.without_space text.now }
 {
     match text {
         [b' ', more @ ..] => more,
@@ -80,7 +83,7 @@ pub fn without_space(text: &[u8]) -> &[u8]
 }
 
 fn between_quotes(text: &[u8]) -> &[u8]
-    ensures { result.now ≡ between_quotes text.now }
+    ensures { result.now ≡ spec.between_quotes text.now }
 {
     if text.len() >= 2 && text[0] == b'"' && text[text.len() - 1] == b'"' {
         &text[1..text.len() - 1]
@@ -91,13 +94,13 @@ fn between_quotes(text: &[u8]) -> &[u8]
 
 /// What stands between quotes, after one space that may stand in front.
 fn quoted_value(text: &[u8]) -> &[u8]
-    ensures { result.now ≡ quoted_value text.now }
+    ensures { result.now ≡ spec.quoted_value text.now }
 {
     between_quotes(without_space(text))
 }
 
 fn names_version(key: &[u8]) -> bool
-    ensures { result ≡ names_version key.now }
+    ensures { result ≡ spec.names_version key.now }
 {
     key.ends_with(b"\"vers\"")
 }
@@ -105,7 +108,7 @@ fn names_version(key: &[u8]) -> bool
 /// The value of the first part whose key ends with `"vers"`; a part without a colon ends the
 /// search.
 fn version_in(line: &[u8]) -> &[u8]
-    ensures { result.now ≡ version_in (comma_parts line.now) }
+    ensures { result.now ≡ spec.version_in (comma_parts line.now) }
 {
     for part in (CommaParts { left: line }) {
         let Some((key, value)) = cut_at(part, b':') else {
@@ -120,7 +123,7 @@ fn version_in(line: &[u8]) -> &[u8]
 
 /// The version that stands in a line; the empty text where none is found.
 pub fn raw_version(line: &[u8]) -> &str
-    ensures { result.now ≡ raw_version line.now }
+    ensures { result.now ≡ spec.raw_version line.now }
 {
     utf8_text(version_in(line)).unwrap_or("")
 }

@@ -1,8 +1,8 @@
 //! The revisions that bodies are sent and kept under.
 ghost use Rattle.std.specs.Prelude.{◌≡◌, ◌++◌, length, IfOk, OnOk};
 ghost use Rattle.tame_names.specs.Output.{AddsPrefix, HasPutCause};
-ghost use Rattle.tame_entry.specs.Entry.{has_no_zero};
-ghost use Rattle.tame_entry.specs.Revision.{IsFormed, entry_name, entry_value, equal_revisions, http_value, revision_value, stored_value, written_text};
+ghost use Rattle.tame_entry.specs.Entry as spec;
+ghost use Rattle.tame_entry.specs.Revision.{IsFormed, commit_digits, entry_name, entry_value, equal_commits, equal_revisions, http_value, revision_value, stored_value, written_text};
 
 use crate::raw::has_no_zero;
 use crate::sha1::Sha1Hex;
@@ -77,6 +77,18 @@ impl HttpRevision<'_> {
     }
 }
 
+impl GitRevision {
+    /// The digits of the commit: of its bytes, in lower case, or those that were handed in.
+    fn digits(&self) -> Sha1Hex
+        ensures { result ≡ commit_digits self.now }
+    {
+        match self {
+            GitRevision::Raw(bytes) => Sha1Hex::from(*bytes),
+            GitRevision::Hex(digits) => *digits,
+        }
+    }
+}
+
 /// A revision with a commit's digits.
 #[derive(Clone, Copy)]
 enum StoredRevision<'s> {
@@ -104,8 +116,10 @@ impl StoredRevision<'_> {
 
 /// Puts two pieces, the second behind the first.
 fn put_both<S: Sink>(sink: &mut S, first: &[u8], second: &[u8]) -> Result<u64, SinkFault>
-    ensures put { S.tells → OnOk result (S.holds sink.new ≡ S.holds sink.old ++ first.now ++ second.now) }
-    ensures part { S.tells → AddsPrefix (S.holds sink.old) (first.now ++ second.now) (S.holds sink.new) }
+    ensures put { S.tells → OnOk result
+        (S.holds sink.new ≡ S.holds sink.old ++ first.now ++ second.now) }
+    ensures part { S.tells → AddsPrefix (S.holds sink.old) (first.now ++ second.now)
+        (S.holds sink.new) }
     ensures count { IfOk result (λ n. n ≡ length (first.now ++ second.now)) }
     ensures cause { HasPutCause (S.faults sink.old) (S.faults sink.new) result }
 {
@@ -115,7 +129,7 @@ fn put_both<S: Sink>(sink: &mut S, first: &[u8], second: &[u8]) -> Result<u64, S
 }
 
 fn both_without_zero(first: &[u8], second: &[u8]) -> bool
-    ensures { result ≡ has_no_zero (first.now ++ second.now) }
+    ensures { result ≡ spec.has_no_zero (first.now ++ second.now) }
 {
     has_no_zero(first) && has_no_zero(second)
 }
@@ -127,16 +141,17 @@ impl<'s> Revision<'s> {
         match self {
             Revision::Http(HttpRevision::Etag(text)) => StoredRevision::Etag(text),
             Revision::Http(HttpRevision::LastModified(text)) => StoredRevision::LastModified(text),
-            Revision::Git(GitRevision::Raw(bytes)) => StoredRevision::Commit(Sha1Hex::from(*bytes)),
-            Revision::Git(GitRevision::Hex(digits)) => StoredRevision::Commit(*digits),
+            Revision::Git(commit) => StoredRevision::Commit(commit.digits()),
             Revision::Unknown => StoredRevision::Unknown,
         }
     }
 
     /// Puts the text of this revision in an entry, and answers the number of its bytes.
     pub fn write<S: Sink>(&self, sink: &mut S) -> Result<u64, SinkFault>
-        ensures put { S.tells → OnOk result (S.holds sink.new ≡ S.holds sink.old ++ written_text self.now) }
-        ensures part { S.tells → AddsPrefix (S.holds sink.old) (written_text self.now) (S.holds sink.new) }
+        ensures put { S.tells → OnOk result
+            (S.holds sink.new ≡ S.holds sink.old ++ written_text self.now) }
+        ensures part { S.tells → AddsPrefix (S.holds sink.old) (written_text self.now)
+            (S.holds sink.new) }
         ensures count { IfOk result (λ n. n ≡ length (written_text self.now)) }
         ensures cause { HasPutCause (S.faults sink.old) (S.faults sink.new) result }
     {
@@ -147,7 +162,7 @@ impl<'s> Revision<'s> {
 
     /// Whether no zero byte stands in the text of this revision.
     pub fn has_no_zero(&self) -> bool
-        ensures { result ≡ has_no_zero (written_text self.now) }
+        ensures { result ≡ spec.has_no_zero (written_text self.now) }
     {
         let stored = self.stored();
         let (name, value) = stored.parts();
@@ -167,10 +182,26 @@ impl<'s> Revision<'s> {
     }
 }
 
-// ---- equal where they write equal texts
+// ---- equal where their digits, or what they write, are equal
 
 ghost use Rattle.std.proofs.Common.{rules};
 ghost use Rattle.std.specs.Cmp.Rules.{comparing};
+
+impl PartialEq for GitRevision {
+    ghost eq = { equal_commits };
+
+    ghost laws = { Prim.search (comparing, rules) };
+
+    /// Whether the digits are equal, where those of bytes are in lower case.
+    fn eq(&self, other: &GitRevision) -> bool {
+        let (one, two) = (self.digits(), other.digits());
+        one.as_str() == two.as_str()
+    }
+}
+
+impl Eq for GitRevision {
+    ghost laws = { Prim.search (comparing, rules) };
+}
 
 impl PartialEq for Revision<'_> {
     ghost eq = { equal_revisions };

@@ -1,7 +1,7 @@
 //! SHA-1 digests of commits as hex digits.
 ghost use Rattle.std.specs.Prelude.{◌≡◌, true, false, IsTrue, MatchOption};
 ghost use Rattle.hex.specs.Hex.{encode_lower};
-ghost use Rattle.tame_entry.specs.Commits.{is_commit};
+ghost use Rattle.tame_entry.specs.Commits as spec;
 
 use hex::encode_to_slice;
 use std::marker::Model;
@@ -18,13 +18,13 @@ pub struct Sha1Hex {
 
 impl Model for Sha1Hex {
     ghost use Rattle.std.specs.Prelude.{List, ℕ, IsTrue};
-    ghost use Rattle.tame_entry.specs.Commits.{is_commit};
+    ghost use Rattle.tame_entry.specs.Commits as spec;
 
     ghost Value = { List ℕ };
 
     ghost view = { λ s. s.digits };
 
-    ghost invariant = { λ s. IsTrue (is_commit s.digits) };
+    ghost invariant = { λ s. IsTrue (spec.is_commit s.digits) };
 
     ghost inverse = { λ d. record { digits = d } };
 }
@@ -49,7 +49,8 @@ impl Sha1Hex {
 
     /// The digits that a text is, in the case that it has.
     pub fn parse(text: &str) -> Option<Sha1Hex>
-        ensures { MatchOption result (is_commit text.now ≡ false) (λ s. (is_commit text.now ≡ true) × (s ≡ text.now)) }
+        ensures { MatchOption result (spec.is_commit text.now ≡ false)
+            (λ s. (spec.is_commit text.now ≡ true) × (s ≡ text.now)) }
     {
         if !is_commit(text) {
             return None;
@@ -69,7 +70,7 @@ impl Sha1Hex {
     /// The digits, as text.
     pub fn as_str(&self) -> &str
         ensures text { result.now ≡ self.now }
-        ensures digits { IsTrue (is_commit self.now) }
+        ensures digits { IsTrue (spec.is_commit self.now) }
     {
         match std::str::from_utf8(&self.digits) {
             Ok(text) => text,
@@ -80,7 +81,7 @@ impl Sha1Hex {
 
 /// Whether a text is 40 hex digits.
 fn is_commit(text: &str) -> bool
-    ensures { result ≡ is_commit text.now }
+    ensures { result ≡ spec.is_commit text.now }
 {
     text.len() == 40 && is_hex_text(text)
 }

@@ -1,13 +1,14 @@
 //! Entries of the cache, written.
 ghost use Rattle.std.specs.Prelude.{◌≡◌, ◌⊎◌, ◌≤◌, ◌++◌, ℕ, List, Err, length, map, flat_map, IfOk, IfErr, OnOk};
 ghost use Rattle.std.specs.List.{list_all};
-ghost use Rattle.tame_names.specs.Counts.{Rose};
+ghost use Rattle.tame_names.specs.Counts.{CountRose};
 ghost use Rattle.tame_names.specs.Output.{AddsPrefix};
-ghost use Rattle.tame_entry.specs.Entry.{entry, is_storable, is_storable_pair, pair_bytes, pair_of, version_pair, written_pairs};
+ghost use Rattle.tame_entry.specs.Entry.{is_storable_pair, pair_bytes, pair_of, version_pair, written_pairs};
+ghost use Rattle.tame_entry.specs.Entry as spec;
 ghost use Rattle.tame_entry.specs.JsonLines.{lines_of};
 ghost use Rattle.tame_entry.specs.Revision.{IsFormed, revision_value};
 
-use crate::entries::{CURRENT_CACHE_VERSION, INDEX_NUMBER};
+use crate::entries::{CURRENT_CACHE_VERSION, INDEX_V_MAX};
 use crate::json_lines::JsonLines;
 use crate::raw::{has_no_zero, raw_version};
 use crate::revisions::Revision;
@@ -55,7 +56,8 @@ fn append_line(out: &mut Vec<u8>, line: &[u8]) -> Result<(), NoMemory>
 
 /// The bytes, and behind them a version with the line that it writes.
 fn with_version(alloc: Global, bytes: Vec<u8>, version: &IndexVersion) -> Result<Vec<u8>, NoMemory>
-    ensures { IfOk result (λ all. all.items ≡ bytes.items ++ pair_bytes (version_pair version.now)) }
+    ensures { IfOk result (λ all. all.items
+        ≡ bytes.items ++ pair_bytes (version_pair version.now)) }
 {
     let mut out = bytes;
     out.extend_from_slice(version.version.as_str().as_bytes())?;
@@ -70,7 +72,8 @@ fn with_versions(
     bytes: Vec<u8>,
     versions: &[IndexVersion],
 ) -> Result<Vec<u8>, NoMemory>
-    ensures { IfOk result (λ all. all.items ≡ bytes.items ++ flat_map pair_bytes (map version_pair versions.now)) }
+    ensures { IfOk result (λ all. all.items
+        ≡ bytes.items ++ flat_map pair_bytes (map version_pair versions.now)) }
 {
     let mut all = bytes;
     for version in versions {
@@ -80,7 +83,8 @@ fn with_versions(
 }
 
 fn append_lines(out: &mut Vec<u8>, lines: JsonLines<'_>) -> Result<(), NoMemory>
-    ensures { OnOk result (out.new.items ≡ out.old.items ++ flat_map pair_bytes (map pair_of (lines_of lines.entry))) }
+    ensures { OnOk result (out.new.items
+        ≡ out.old.items ++ flat_map pair_bytes (map pair_of (lines_of lines.entry))) }
 {
     for line in lines.lines() {
         append_line(out, line)?;
@@ -113,7 +117,8 @@ fn version_is_storable(alloc: Global, version: &IndexVersion) -> Result<bool, No
 }
 
 fn versions_are_storable(alloc: Global, versions: &[IndexVersion]) -> Result<bool, NoMemory>
-    ensures { IfOk result (λ storable. storable ≡ list_all is_storable_pair (map version_pair versions.now)) }
+    ensures { IfOk result (λ storable. storable
+        ≡ list_all is_storable_pair (map version_pair versions.now)) }
 {
     for version in versions {
         if !version_is_storable(alloc, version)? {
@@ -126,7 +131,8 @@ fn versions_are_storable(alloc: Global, versions: &[IndexVersion]) -> Result<boo
 impl CacheWrite<'_> {
     /// Whether no zero byte stands in the versions and lines that are written.
     fn pairs_are_storable(&self, alloc: Global) -> Result<bool, NoMemory>
-        ensures { IfOk result (λ storable. storable ≡ list_all is_storable_pair (written_pairs self.now)) }
+        ensures { IfOk result (λ storable. storable
+            ≡ list_all is_storable_pair (written_pairs self.now)) }
     {
         match self {
             CacheWrite::Remote(lines) => Ok(lines_are_storable(*lines)),
@@ -136,7 +142,8 @@ impl CacheWrite<'_> {
 
     /// Whether these lines can be stored under a revision: no zero byte stands in what is written.
     pub fn is_storable(&self, alloc: Global, revision: &Revision<'_>) -> Result<bool, NoMemory>
-        ensures { IfOk result (λ storable. storable ≡ is_storable (revision_value revision.now) (written_pairs self.now)) }
+        ensures { IfOk result (λ storable. storable
+            ≡ spec.is_storable (revision_value revision.now) (written_pairs self.now)) }
     {
         if !revision.has_no_zero() {
             return Ok(false);
@@ -146,7 +153,8 @@ impl CacheWrite<'_> {
 
     /// The bytes, and behind them what is written of each version.
     fn with_pairs(&self, alloc: Global, bytes: Vec<u8>) -> Result<Vec<u8>, NoMemory>
-        ensures { IfOk result (λ all. all.items ≡ bytes.items ++ flat_map pair_bytes (written_pairs self.now)) }
+        ensures { IfOk result (λ all. all.items
+            ≡ bytes.items ++ flat_map pair_bytes (written_pairs self.now)) }
     {
         match self {
             CacheWrite::Remote(lines) => {
@@ -161,11 +169,12 @@ impl CacheWrite<'_> {
     /// The whole entry of these lines under a revision.
     pub fn entry(&self, alloc: Global, revision: &Revision<'_>) -> Result<Vec<u8>, NoMemory>
         ensures formed { OnOk result (IsFormed (revision_value revision.now)) }
-        ensures entry { IfOk result (λ bytes. bytes.items ≡ entry (revision_value revision.now) (written_pairs self.now)) }
+        ensures entry { IfOk result (λ bytes. bytes.items
+            ≡ spec.entry (revision_value revision.now) (written_pairs self.now)) }
     {
         let mut out = Vec::new(alloc);
         out.push(CURRENT_CACHE_VERSION)?;
-        out.extend_from_slice(&INDEX_NUMBER)?;
+        out.extend_from_slice(&INDEX_V_MAX.to_le_bytes())?;
         revision.append_to(&mut out)?;
         out.push(0)?;
         self.with_pairs(alloc, out)
@@ -179,11 +188,16 @@ impl CacheWrite<'_> {
         sink: &mut S,
         revision: &Revision<'_>,
     ) -> Result<u64, Error>
-        ensures put { S.tells → OnOk result (S.holds sink.new ≡ S.holds sink.old ++ entry (revision_value revision.now) (written_pairs self.now)) }
-        ensures part { S.tells → AddsPrefix (S.holds sink.old) (entry (revision_value revision.now) (written_pairs self.now)) (S.holds sink.new) }
-        ensures count { IfOk result (λ n. n ≡ length (entry (revision_value revision.now) (written_pairs self.now))) }
+        ensures put { S.tells → OnOk result
+            (S.holds sink.new ≡ S.holds sink.old
+            ++ spec.entry (revision_value revision.now) (written_pairs self.now)) }
+        ensures part { S.tells → AddsPrefix (S.holds sink.old)
+            (spec.entry (revision_value revision.now) (written_pairs self.now)) (S.holds sink.new) }
+        ensures count { IfOk result (λ n. n
+            ≡ length (spec.entry (revision_value revision.now) (written_pairs self.now))) }
         ensures later { S.faults sink.old ≤ S.faults sink.new }
-        ensures failed { IfErr result (λ e. (e ≡ Error.NoMemory) ⊎ ((e ≡ Error.Io IoKind.Failed) × Rose (S.faults sink.old) (S.faults sink.new))) }
+        ensures failed { IfErr result (λ e. (e ≡ Error.NoMemory)
+            ⊎ ((e ≡ Error.Io IoKind.Failed) × CountRose (S.faults sink.old) (S.faults sink.new))) }
         ensures same { S.tells → result ≡ Err Error.NoMemory → S.holds sink.new ≡ S.holds sink.old }
     {
         let bytes = self.entry(alloc, revision)?;
@@ -192,7 +206,8 @@ impl CacheWrite<'_> {
 
     /// The number of bytes of the entry of these lines under a revision.
     pub fn entry_len(&self, alloc: Global, revision: &Revision<'_>) -> Result<u64, NoMemory>
-        ensures { IfOk result (λ n. n ≡ length (entry (revision_value revision.now) (written_pairs self.now))) }
+        ensures { IfOk result (λ n. n ≡ length
+            (spec.entry (revision_value revision.now) (written_pairs self.now))) }
     {
         Ok(self.entry(alloc, revision)?.len() as u64)
     }

@@ -1,6 +1,6 @@
 -- The folder of cargo's home (Cargo Book, "Configuration", "Environment variables").
 use Rattle.std.specs.Prelude.{◌≡◌, ◌≤◌, ◌++◌, ◌∷◌, ◌⊎◌, [], ℕ, codes, List, Result, Ok, Err}
-use Rattle.tame_names.specs.Counts.{Rose}
+use Rattle.tame_names.specs.Counts.{CountRose}
 use Rattle.tame_names.specs.Paths.{join}
 use Rattle.tame_names.specs.Standing.{Host}
 use Rattle.tame_names.specs.declared.errors.Error.{Error}
@@ -24,7 +24,8 @@ below_user Unset = Err (error.Io io.NoHome)
 below_user NotUtf8 = Err (error.NonUtf8Path (codes "HOME"))
 below_user (Value user) = Ok (join user (codes ".cargo"))
 
--- the folder that cargo's own variable names, in the current folder; where it names none, the one in the user's home
+-- the folder that cargo's own variable names, in the current folder; where it names none, the one
+-- in the user's home
 abbrev pub home_named : EnvValue → EnvValue → List ℕ → Result (List ℕ) Error
 home_named Unset user current = below_user user
 home_named NotUtf8 user current = Err (error.NonUtf8Path (codes "CARGO_HOME"))
@@ -33,11 +34,13 @@ home_named (Value home) user current = Ok (join current home)
 -- cargo's home on a host, or why it can't be told
 abbrev pub home_of : Host → Result (List ℕ) Error
 home_of host =
-    home_named (stated (host.environment (codes "CARGO_HOME"))) (stated (host.environment (codes "HOME"))) host.current
+    home_named (stated (host.environment (codes "CARGO_HOME")))
+    (stated (host.environment (codes "HOME"))) host.current
 
 -- ---- what asking for it does
 
--- the reasons why it can't be told: a variable isn't UTF-8, none names it, a call failed, or memory ran out
+-- the reasons why it can't be told: a variable isn't UTF-8, none names it, a call failed, or memory
+-- ran out
 abbrev pub IsHomeError : Error → Type 0
 IsHomeError (error.NonUtf8Path name) = Unit {0}
 IsHomeError (error.Io io.NoHome) = Unit {0}
@@ -64,4 +67,4 @@ AddsHomeCall before now _ = now ≡ before
 -- the count never falls, and a failed answer raised it
 pub record HasHomeCause {T : Type 0} (before now : ℕ) (result : Result T Error) : Type 0 where
   pub later : before ≤ now
-  pub rose : result ≡ Err (error.Io io.Failed) → Rose before now
+  pub rose : result ≡ Err (error.Io io.Failed) → CountRose before now

@@ -1,7 +1,8 @@
 //! The folder of cargo's home.
 ghost use Rattle.std.specs.Prelude.{◌≡◌, ◌≢◌, ◌⊎◌, Ok, Err, IfOk, IfErr};
 ghost use Rattle.tame_names.specs.Paths.{join};
-ghost use Rattle.tame_location.specs.Homes.{AddsHomeCall, HasHomeCause, IsHomeError, IsTold, below_user, home_of, stated};
+ghost use Rattle.tame_location.specs.Homes.{AddsHomeCall, HasHomeCause, IsHomeError, IsTold, home_of};
+ghost use Rattle.tame_location.specs.Homes as spec;
 
 use std::alloc::Global;
 use tame_names::{EnvValue, Error, FileFault, Files, IoKind, NoMemory, Text, join};
@@ -20,7 +21,7 @@ fn failed(fault: FileFault) -> Error
 /// A variable of the environment; an empty one counts as none.
 fn variable<F: Files>(alloc: Global, files: &mut F, name: &str) -> Result<EnvValue, Error>
     ensures ok { F.tells → IfOk result (λ value.
-        value ≡ stated ((F.host files.old).environment name.now)) }
+        value ≡ spec.stated ((F.host files.old).environment name.now)) }
     ensures only { IfErr result (λ e. (e ≡ Error.Io IoKind.Failed) ⊎ (e ≡ Error.NoMemory)) }
     ensures cause { HasHomeCause (F.faults files.old) (F.faults files.new) result }
     ensures failed { F.tells → AddsHomeCall (F.failed files.old) (F.failed files.new) result }
@@ -36,7 +37,7 @@ fn variable<F: Files>(alloc: Global, files: &mut F, name: &str) -> Result<EnvVal
 
 /// The value of a variable that has this text.
 fn stated(text: Text) -> EnvValue
-    ensures { result ≡ stated (EnvValue.Value text) }
+    ensures { result ≡ spec.stated (EnvValue.Value text) }
 {
     if text.as_str().is_empty() {
         EnvValue::Unset
@@ -82,8 +83,8 @@ fn not_utf8(alloc: Global, name: &str) -> Error
 
 /// `.cargo` in the user's home.
 fn below_user(alloc: Global, user: EnvValue) -> Result<Text, Error>
-    ensures ok { IfOk result (λ home. below_user user ≡ Ok home) }
-    ensures refused { IfErr result (λ e. IsTold e → below_user user ≡ Err e) }
+    ensures ok { IfOk result (λ home. spec.below_user user ≡ Ok home) }
+    ensures refused { IfErr result (λ e. IsTold e → spec.below_user user ≡ Err e) }
     ensures only { IfErr result IsHomeError }
     ensures unfailed { result ≢ Err (Error.Io IoKind.Failed) }
 {

@@ -13,7 +13,7 @@ use Rattle.tame_names.specs.Names.{HasCharacter, HasLength, IsReserved, by_chara
 below : (c : ℕ) → is_name_char c ≡ true → c < 128
 below c h = grind (arith, nat_tests)
 
-none_found : (b : Bool) (x : ℕ × ℕ) (rest : Option (ℕ × ℕ)) → cond (not b) (Some x) rest ≡ None → (b ≡ true) × (rest ≡ None)
+pub none_found : (b : Bool) (x : ℕ × ℕ) (rest : Option (ℕ × ℕ)) → cond (not b) (Some x) rest ≡ None → (b ≡ true) × (rest ≡ None)
 none_found true x rest h = (refl, h)
 none_found false x rest h = cc
 
@@ -35,7 +35,7 @@ name-IsAscii text utf8 named =
 
 -- ---- names of cargo are names
 
-char_name : (first : Bool) (c : ℕ) → cond first (is_ascii_alphabetic c || c == 95) (is_name_char c) ≡ true → is_name_char c ≡ true
+pub char_name : (first : Bool) (c : ℕ) → cond first (is_ascii_alphabetic c || c == 95) (is_name_char c) ≡ true → is_name_char c ≡ true
 char_name true c h = grind (arith, nat_tests)
 char_name false c h = h
 
@@ -45,11 +45,11 @@ none_either n (c ∷ cs) h =
     let both = none_found (is_char_at (n, c)) (n, c) (find (λ (p : ℕ × ℕ). not (is_char_at p)) (enumerate_from (n + 1) cs)) h in
     rw (char_name (n == 0) c both.0) (none_either (n + 1) cs both.1)
 
-no_bad : (limit : Option ℕ) (text : List ℕ) (o : Option (ℕ × ℕ)) → by_characters limit text o ≡ None → o ≡ None
+pub no_bad : (limit : Option ℕ) (text : List ℕ) (o : Option (ℕ × ℕ)) → by_characters limit text o ≡ None → o ≡ None
 no_bad limit text None h = refl
 no_bad limit text (Some p) h = cc
 
-not_first : {A : Type 0} (b : Bool) (x : A) (o : Option A) → cond b (Some x) o ≡ None → (b ≡ false) × (o ≡ None)
+pub not_first : {A : Type 0} (b : Bool) (x : A) (o : Option A) → cond b (Some x) o ≡ None → (b ≡ false) × (o ≡ None)
 not_first true x o h = cc
 not_first false x o h = (refl, h)
 

@@ -7,3 +7,4 @@ pub mod Prefixes
 pub mod Cases
 pub mod Relative
 pub mod Trims
+mod Ruled

@@ -3,17 +3,22 @@ use Rattle.std.specs.Prelude.{◌≡◌, ◌≢◌, ◌+◌, ◌-◌, ◌^◌, �
 use Rattle.std.specs.List.{list_any}
 
 -- a count rose: it is higher at the second moment, or it stands at its end there
-abbrev pub Rose : ℕ → ℕ → Type 0
-Rose before now = min (before + 1) (2 ^ 64 - 1) ≤ now
+abbrev pub CountRose : ℕ → ℕ → Type 0
+CountRose before now = min (before + 1) (2 ^ 64 - 1) ≤ now
 
--- a count is quiet: it is the same at both moments, and below its end
-abbrev pub IsQuiet : ℕ → ℕ → Type 0
-IsQuiet before now = (now ≡ before) × (before < 2 ^ 64 - 1)
+-- a count rose by this much, or stands at its end
+abbrev pub CountRoseBy : ℕ → ℕ → ℕ → Type 0
+CountRoseBy more before now = min (before + more) (2 ^ 64 - 1) ≤ now
+
+-- a count stayed: it is the same at both moments, and below its end
+abbrev pub CountStayed : ℕ → ℕ → Type 0
+CountStayed before now = (now ≡ before) × (before < 2 ^ 64 - 1)
 
 -- the count never falls, and a call that failed raised it; want of memory is no fault
-pub record HasCause {T E : Type 0} (no_memory : E) (before now : ℕ) (result : Result T E) : Type 0 where
+pub record HasCause {T E : Type 0} (no_memory : E) (before now : ℕ)
+    (result : Result T E) : Type 0 where
   pub later : before ≤ now
-  pub failed : IfErr result (λ e. e ≢ no_memory → Rose before now)
+  pub failed : IfErr result (λ e. e ≢ no_memory → CountRose before now)
 
 -- ---- calls that are to fail, by their numbers
 

@@ -1,6 +1,7 @@
 pub mod Counts
 pub mod KrateNames
 pub mod MemoryFiles
+pub mod NameRules
 pub mod Names
 pub mod Output
 pub mod Paths

@@ -18,7 +18,8 @@ use Rattle.tame_names.specs.declared.memory_files.MemVariable.{MemVariable}
 -- the first at the path; slashes at the end of either don't count
 abbrev pub file_at : List MemFile → List ℕ → Option MemFile
 file_at [] path = None
-file_at (file ∷ files) path = if bytes_eq (plain_path file.path) (plain_path path) then Some file else file_at files path
+file_at (file ∷ files) path =
+    if bytes_eq (plain_path file.path) (plain_path path) then Some file else file_at files path
 
 abbrev pub node_standing : MemNode → Standing
 node_standing (node.File bytes) = File bytes
@@ -36,10 +37,16 @@ standing_in files path = standing_of (file_at files path)
 -- the value of a variable: that of the first with this name, or none
 abbrev pub value_in : List MemVariable → List ℕ → EnvValue
 value_in [] name = Unset
-value_in (variable ∷ variables) name = if bytes_eq variable.name name then variable.value else value_in variables name
+value_in (variable ∷ variables) name =
+    if bytes_eq variable.name name then variable.value else value_in variables name
 
 abbrev pub host_in : MemFiles → Host
-host_in m = record { stands = standing_in m.files; input = m.input; environment = value_in m.variables; current = m.current }
+host_in m = record {
+  stands = standing_in m.files;
+  input = m.input;
+  environment = value_in m.variables;
+  current = m.current;
+}
 
 -- ---- its calls
 
@@ -49,8 +56,10 @@ IsReadable Nothing = Unit {0}
 IsReadable (File bytes) = Unit {0}
 IsReadable _ = ⊥
 
--- one call more is counted; where its number is listed it fails, else not, if it can succeed, but that memory may run out; each failure is counted
-pub record Counted {T : Type 0} (can : Type 0) (old new : MemFiles) (result : Result T FileFault) : Type 0 where
+-- one call more is counted; where its number is listed it fails, else not, if it can succeed, but
+-- that memory may run out; each failure is counted
+pub record Counted {T : Type 0} (can : Type 0) (old new : MemFiles)
+    (result : Result T FileFault) : Type 0 where
   pub count : new.calls ≡ next_call old.calls
   pub listed : new.fails ≡ old.fails
   pub fails : IsListed new.calls old.fails → IsErr result

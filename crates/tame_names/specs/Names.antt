@@ -1,5 +1,6 @@
 -- Names of crates and their places in an index.
--- Cargo Book, "Registry Index" (characters of a name, folders of index files) and "The Manifest Format" (names).
+-- Cargo Book, "Registry Index" (characters of a name, folders of index files) and "The Manifest
+-- Format" (names).
 use Rattle.std.specs.Prelude.{◌≡◌, ℕ, codes, List, ◌++◌, length, take, drop, Bool, true, false, not, nat_lt, ◌==◌, ◌||◌, bytes_eq, Option, Some, None, is_none, option_map, unwrap_or, find, if◌then◌else◌, encode_utf8}
 use Rattle.std.specs.List.{enumerate_from, list_any}
 use Rattle.std.specs.Char.{is_ascii_alphabetic, is_ascii_alphanumeric}
@@ -10,7 +11,8 @@ use Rattle.tame_names.specs.declared.errors.InvalidKrateName.TheVariants.{Invali
 use Rattle.tame_names.specs.declared.errors.ReservedNameKind.{ReservedNameKind}
 use Rattle.tame_names.specs.declared.errors.ReservedNameKind.TheVariants.{Keyword, Artifact, Windows, Standard}
 
--- why a text is no name: its number of characters, a character and its place, or what it is reserved as
+-- why a text is no name: its number of characters, a character and its place, or what it is
+-- reserved as
 pub data NameRefusal : Type 0 where
   HasLength : (count : ℕ) → NameRefusal
   HasCharacter : (character place : ℕ) → NameRefusal
@@ -51,13 +53,20 @@ first_bad text = find (λ p. not (is_char_at p)) (enumerate_from 0 (chars text))
 
 -- reserved names, compared with case
 abbrev pub keywords : List (List ℕ)
-keywords = pieces 32 (codes "Self abstract as async await become box break const continue crate do dyn else enum extern false final fn for if impl in let loop macro match mod move mut override priv pub ref return self static struct super trait true try type typeof unsafe unsized use virtual where while yield")
+keywords =
+    pieces 32 (codes "Self abstract as async await become box break const continue crate do dyn")
+    ++ pieces 32
+    (codes "else enum extern false final fn for if impl in let loop macro match mod move")
+    ++ pieces 32 (codes "mut override priv pub ref return self static struct super trait true try")
+    ++ pieces 32 (codes "type typeof unsafe unsized use virtual where while yield")
 
 abbrev pub artifacts : List (List ℕ)
 artifacts = pieces 32 (codes "build deps examples incremental")
 
 abbrev pub windows : List (List ℕ)
-windows = pieces 32 (codes "aux con nul prn com1 com2 com3 com4 com5 com6 com7 com8 com9 lpt1 lpt2 lpt3 lpt4 lpt5 lpt6 lpt7 lpt8 lpt9")
+windows =
+    pieces 32 (codes "aux con nul prn com1 com2 com3 com4 com5 com6 com7 com8 com9 lpt1 lpt2 lpt3")
+    ++ pieces 32 (codes "lpt4 lpt5 lpt6 lpt7 lpt8 lpt9")
 
 abbrev pub libraries : List (List ℕ)
 libraries = pieces 32 (codes "alloc core proc-macro proc_macro std test")
@@ -84,14 +93,17 @@ is_longer (Some limit) count = nat_lt limit count
 
 -- a bad character within the limit comes before the length, and reserved names come last
 abbrev pub by_characters : Option ℕ → List ℕ → Option (ℕ × ℕ) → Option NameRefusal
-by_characters limit text (Some p) = Some (if is_within limit p.0 then HasCharacter p.1 p.0 else HasLength (length (chars text)))
+by_characters limit text (Some p) =
+    Some (if is_within limit p.0 then HasCharacter p.1 p.0 else HasLength (length (chars text)))
 by_characters limit text None =
     if is_longer limit (length (chars text)) then Some (HasLength (length (chars text)))
     else option_map (λ kind. IsReserved text kind) (reserved_kind text)
 
--- why a text is no name to cargo, with a limit on its characters or without one
+-- why a text is no name to cargo, with a limit on its characters or without one; NameRules says in
+-- no order which texts are names
 abbrev pub strict_refusal : Option ℕ → List ℕ → Option NameRefusal
-strict_refusal limit text = if length text == 0 then Some (HasLength 0) else by_characters limit text (first_bad text)
+strict_refusal limit text =
+    if length text == 0 then Some (HasLength 0) else by_characters limit text (first_bad text)
 
 -- ---- places
 

@@ -1,6 +1,6 @@
 -- What a sink holds after a put.
 use Rattle.std.specs.Prelude.{◌≡◌, ◌≤◌, ℕ, List, ◌++◌, take, Result, Ok, Err, IsErr}
-use Rattle.tame_names.specs.Counts.{Rose}
+use Rattle.tame_names.specs.Counts.{CountRose}
 
 -- a part from the front of a piece was added
 abbrev pub AddsPrefix : List ℕ → List ℕ → List ℕ → Type 0
@@ -14,4 +14,4 @@ Puts before piece now (Err fault) = AddsPrefix before piece now
 -- the count never falls, and each failure raised it
 pub record HasPutCause {T E : Type 0} (before now : ℕ) (result : Result T E) : Type 0 where
   pub later : before ≤ now
-  pub failed : IsErr result → Rose before now
+  pub failed : IsErr result → CountRose before now

@@ -14,7 +14,8 @@ abbrev pub plain_path : List ℕ → List ℕ
 plain_path [] = []
 plain_path (b ∷ bs) = b ∷ without_end 47 bs
 
--- the second path where the first is empty or the second begins with `/`; else both, with one `/` between them
+-- the second path where the first is empty or the second begins with `/`; else both, with one `/`
+-- between them
 abbrev pub join : List ℕ → List ℕ → List ℕ
 join folder path =
     if length folder == 0 || begins_with_slash path then path

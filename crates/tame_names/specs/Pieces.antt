@@ -8,12 +8,14 @@ onto_first b (piece ∷ more) = (b ∷ piece) ∷ more
 
 abbrev pub pieces : ℕ → List ℕ → List (List ℕ)
 pieces needle [] = []
-pieces needle (b ∷ bs) = if b == needle then [] ∷ pieces needle bs else onto_first b (pieces needle bs)
+pieces needle (b ∷ bs) =
+    if b == needle then [] ∷ pieces needle bs else onto_first b (pieces needle bs)
 
 -- without the needles at the end
 abbrev pub without_end : ℕ → List ℕ → List ℕ
 without_end needle [] = []
-without_end needle (b ∷ bs) = if b == needle && length (without_end needle bs) == 0 then [] else b ∷ without_end needle bs
+without_end needle (b ∷ bs) =
+    if b == needle && length (without_end needle bs) == 0 then [] else b ∷ without_end needle bs
 
 -- whether this is the last byte
 abbrev pub ends_with : ℕ → List ℕ → Bool

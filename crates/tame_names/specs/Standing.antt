@@ -1,4 +1,5 @@
--- What a host has: what stands at its paths, its input, its environment and its current folder; and what calls on it may answer (this project).
+-- What a host has: what stands at its paths, its input, its environment and its current folder; and
+-- what calls on it may answer (this project).
 use Rattle.std.specs.Prelude.{◌≡◌, ◌≤◌, ◌<◌, ℕ, List, [], ◌∷◌, ◌++◌, length, Option, Some, None, Result, Ok, Err}
 use Rattle.tame_names.specs.declared.host.EnvValue.{EnvValue}
 use Rattle.tame_names.specs.declared.host.FailedCall.{FailedCall}
@@ -13,7 +14,8 @@ use Rattle.tame_names.specs.declared.host.ReadAnswer.TheVariants as answer
 
 -- ---- what a host has
 
--- what stands at a path: nothing, a file with its bytes, a folder with its entries, or another thing
+-- what stands at a path: nothing, a file with its bytes, a folder with its entries, or another
+-- thing
 pub data Standing : Type 0 where
   Nothing : Standing
   File : (bytes : List ℕ) → Standing
@@ -32,11 +34,13 @@ pub record Host : Type 0 where
 
 -- ---- what calls answer
 
--- absent exactly where nothing is there, whole exactly where a file within the limit is, over exactly where a longer one is, with its length
+-- absent exactly where nothing is there, whole exactly where a file within the limit is, over
+-- exactly where a longer one is, with its length
 abbrev pub Reads : Standing → ℕ → Result ReadAnswer FileFault → Type 0
 Reads s limit (Ok answer.Absent) = s ≡ Nothing
 Reads s limit (Ok (answer.Whole bytes)) = (s ≡ File bytes.items) × (length bytes.items ≤ limit)
-Reads s limit (Ok (answer.Over n)) = (bytes : List ℕ) × (s ≡ File bytes) × (n ≡ length bytes) × (limit < n)
+Reads s limit (Ok (answer.Over n)) =
+    (bytes : List ℕ) × (s ≡ File bytes) × (n ≡ length bytes) × (limit < n)
 Reads s limit (Err fault) = Unit {0}
 
 -- a number of bytes that is over the limit is above it
@@ -62,6 +66,7 @@ abbrev pub with_fault : List FailedCall → FileCall → Option (List ℕ) → F
 with_fault before call path file_fault.Failed = before ++ record { call = call; path = path } ∷ []
 with_fault before call path file_fault.NoMemory = before
 
-abbrev pub failed_calls : {T : Type 0} → List FailedCall → FileCall → Option (List ℕ) → Result T FileFault → List FailedCall
+abbrev pub failed_calls : {T : Type 0} → List FailedCall → FileCall → Option (List ℕ)
+    → Result T FileFault → List FailedCall
 failed_calls before call path (Err fault) = with_fault before call path fault
 failed_calls before call path (Ok a) = before

@@ -1,10 +1,20 @@
-//! Crate names with their place in an index, texts and lists that contracts see as lists,
-//! and the traits through which the product reaches files and output.
+//! Crate names with their place in an index, texts and lists that contracts see as lists, and the
+//! traits through which the product reaches files (`Files`) and output (`Sink`).
+//!
+//! A name is accepted exactly by its rule, and its path is a function of it. What a call on a host
+//! answers is a function of what the host has, and a fault of a sink leaves a part of the piece
+//! from the front. It stands on std, on `memchr` and on `thiserror`, and on no crate here.
+//!
+//! ```text
+//! let name = KrateName::crates_io("Serde")?;
+//! let path = name.relative_path(alloc, None)?;    // "se/rd/serde"
+//! ```
 #![tactic(auto)]
 
 mod conversions;
 mod errors;
 mod host;
+mod laws;
 mod lists;
 mod locks;
 mod memory_files;
@@ -21,6 +31,7 @@ pub use errors::{
     InvalidUrlError, IoKind, LocalRegistryError, LockError, NoMemory, ReservedNameKind,
 };
 pub use host::{EnvValue, FailedCall, FileCall, FileFault, Files, Listed, PathKind, ReadAnswer};
+pub use laws::names_by_their_rules;
 pub use lists::Items;
 pub use locks::{FileLock, LockState};
 pub use memory_files::{MemFile, MemFiles, MemNode, MemVariable};

@@ -1,7 +1,8 @@
 //! A host in memory.
 ghost use Rattle.std.specs.Prelude.{◌≡◌, ◌≢◌, ◌≤◌, [], ⊤, Ok, Some, None, Err, IfOk, IfErr, IsTrue, ◌↔◌, option_copied, option_map};
-ghost use Rattle.tame_names.specs.Counts.{HasCause, Rose, next_call};
-ghost use Rattle.tame_names.specs.MemoryFiles.{Counted, IsReadable, file_at, host_in, standing_in, value_in};
+ghost use Rattle.tame_names.specs.Counts.{HasCause, CountRose, next_call};
+ghost use Rattle.tame_names.specs.MemoryFiles.{Counted, IsReadable, host_in, standing_in, value_in};
+ghost use Rattle.tame_names.specs.MemoryFiles as spec;
 ghost use Rattle.tame_names.specs.Standing.{IsAboveLimit, Reads, File, failed_calls, kind_of, listing, with_fault};
 
 use crate::errors::NoMemory;
@@ -122,7 +123,7 @@ impl MemFiles {
         ensures failed { self.new.failed ≡ with_fault self.old.failed call
             (option_map (λ text. text.now) path.entry) result }
         ensures later { self.old.faults ≤ self.new.faults }
-        ensures rose { result ≢ FileFault.NoMemory → Rose self.old.faults self.new.faults }
+        ensures rose { result ≢ FileFault.NoMemory → CountRose self.old.faults self.new.faults }
         ensures counted { result ≡ FileFault.Failed → self.new.faults ≡ next_call self.old.faults }
         ensures uncounted { result ≢ FileFault.Failed → self.new.faults ≡ self.old.faults }
     {
@@ -158,7 +159,7 @@ impl MemFiles {
 }
 
 fn file_at<'a>(files: &'a [MemFile], path: &str) -> Option<&'a MemFile>
-    ensures { option_copied result ≡ file_at files.now path.now }
+    ensures { option_copied result ≡ spec.file_at files.now path.now }
 {
     for file in files {
         if is_same_path(file.path.as_str(), path) {

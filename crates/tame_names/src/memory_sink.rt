@@ -89,7 +89,8 @@ impl Sink for MemSink {
         ensures fails { IsListed self.new.calls self.old.fails → IsErr result }
         // any other fails only where it has no room and memory runs out
         ensures unlisted { ¬ (IsListed self.new.calls self.old.fails)
-            → OnErr result (vec_capacity self.old.bytes < vec_len self.old.bytes + length piece.now) }
+            → OnErr result (vec_capacity self.old.bytes
+            < vec_len self.old.bytes + length piece.now) }
         ensures counted { OnErr result (self.new.faults ≡ next_call self.old.faults) }
         ensures uncounted { OnOk result (self.new.faults ≡ self.old.faults) }
     {

@@ -2,7 +2,8 @@
 ghost use Rattle.std.specs.Prelude.{◌≡◌, ℕ, List, ◌++◌, IsTrue, IfOk, IfErr, Some, None, OnOk, OnErr, IsOk, length, option_map, string_bytes};
 ghost use Rattle.std.specs.Prelude.{encode_utf8};
 ghost use Rattle.std.specs.Str.{chars, str_to_ascii_lowercase, IsAscii};
-ghost use Rattle.tame_names.specs.Names.{IsIndexPath, is_name_char, is_char_at, first_bad, first_invalid, refusal, refusal_of, strict_refusal, is_longer, is_name, is_within, prefix, relative_path, separator, path};
+ghost use Rattle.tame_names.specs.Names.{IsIndexPath, refusal, refusal_of, is_name, separator, path};
+ghost use Rattle.tame_names.specs.Names as spec;
 
 use crate::errors::{InvalidKrateName, NoMemory};
 use crate::reserved::reserved_name;
@@ -24,14 +25,14 @@ pub struct KrateName<'n> {
 }
 
 fn is_name_char(character: char) -> bool
-    ensures { result ≡ is_name_char character }
+    ensures { result ≡ spec.is_name_char character }
 {
     character.is_ascii_alphanumeric() || character == '-' || character == '_'
 }
 
 /// Whether a character may stand at its place in a name of cargo.
 fn is_char_at(place: usize, character: char) -> bool
-    ensures { result ≡ is_char_at (place, character) }
+    ensures { result ≡ spec.is_char_at (place, character) }
 {
     if place == 0 {
         character.is_ascii_alphabetic() || character == '_'
@@ -42,13 +43,13 @@ fn is_char_at(place: usize, character: char) -> bool
 
 /// The first character that a name may not have, with its place among the characters.
 fn first_invalid(name: &str) -> Option<(usize, char)>
-    ensures { result ≡ first_invalid name.now }
+    ensures { result ≡ spec.first_invalid name.now }
 {
     name.chars().enumerate().find(|p| !is_name_char(p.1))
 }
 
 fn first_bad(name: &str) -> Option<(usize, char)>
-    ensures { result ≡ first_bad name.now }
+    ensures { result ≡ spec.first_bad name.now }
 {
     name.chars().enumerate().find(|p| !is_char_at(p.0, p.1))
 }
@@ -60,7 +61,7 @@ fn count_of(name: &str) -> usize
 }
 
 fn is_within(limit: Option<usize>, place: usize) -> bool
-    ensures { result ≡ is_within limit place }
+    ensures { result ≡ spec.is_within limit place }
 {
     match limit {
         None => true,
@@ -69,7 +70,7 @@ fn is_within(limit: Option<usize>, place: usize) -> bool
 }
 
 fn is_longer(limit: Option<usize>, count: usize) -> bool
-    ensures { result ≡ is_longer limit count }
+    ensures { result ≡ spec.is_longer limit count }
 {
     match limit {
         None => false,
@@ -79,7 +80,7 @@ fn is_longer(limit: Option<usize>, count: usize) -> bool
 
 /// Why a text is no name to cargo, if it isn't.
 fn strict_refusal(name: &str, limit: Option<usize>) -> Option<InvalidKrateName>
-    ensures { option_map refusal result ≡ strict_refusal limit name.now }
+    ensures { option_map refusal result ≡ spec.strict_refusal limit name.now }
 {
     if name.is_empty() {
         return Some(InvalidKrateName::InvalidLength(0));
@@ -120,8 +121,10 @@ impl<'n> KrateName<'n> {
     }
 
     fn strict(name: &'n str, limit: Option<usize>) -> Result<KrateName<'n>, InvalidKrateName>
-        ensures ok { IfOk result (λ n. (text_of n ≡ name.now) × (strict_refusal limit name.now ≡ None)) }
-        ensures refused { IfErr result (λ e. strict_refusal limit name.now ≡ Some (refusal e)) }
+        ensures ok { IfOk result (λ n. (text_of n ≡ name.now)
+            × (spec.strict_refusal limit name.now ≡ None)) }
+        ensures refused { IfErr result
+            (λ e. spec.strict_refusal limit name.now ≡ Some (refusal e)) }
     {
         match strict_refusal(name, limit) {
             Some(refused) => Err(refused),
@@ -132,18 +135,21 @@ impl<'n> KrateName<'n> {
     /// The text as a name that crates.io takes: a name of cargo of at most 64 characters. A bad
     /// character among the first 64 comes before the length, and reserved names come last.
     pub fn crates_io(name: &'n str) -> Result<KrateName<'n>, InvalidKrateName>
-        ensures ok { IfOk result (λ n. (text_of n ≡ name.now) × (strict_refusal (Some 64) name.now ≡ None)) }
-        ensures refused { IfErr result (λ e. strict_refusal (Some 64) name.now ≡ Some (refusal e)) }
+        ensures ok { IfOk result (λ n. (text_of n ≡ name.now)
+            × (spec.strict_refusal (Some 64) name.now ≡ None)) }
+        ensures refused { IfErr result
+            (λ e. spec.strict_refusal (Some 64) name.now ≡ Some (refusal e)) }
         // cargo accepts what crates.io accepts
-        ensures accepted { IsOk result → strict_refusal None name.now ≡ None }
+        ensures accepted { IsOk result → spec.strict_refusal None name.now ≡ None }
     {
         KrateName::strict(name, Some(CRATES_IO_LIMIT))
     }
 
     /// The text as a name that cargo takes: it begins with a letter or `_`, and isn't reserved.
     pub fn cargo(name: &'n str) -> Result<KrateName<'n>, InvalidKrateName>
-        ensures ok { IfOk result (λ n. (text_of n ≡ name.now) × (strict_refusal None name.now ≡ None)) }
-        ensures refused { IfErr result (λ e. strict_refusal None name.now ≡ Some (refusal e)) }
+        ensures ok { IfOk result (λ n. (text_of n ≡ name.now)
+            × (spec.strict_refusal None name.now ≡ None)) }
+        ensures refused { IfErr result (λ e. spec.strict_refusal None name.now ≡ Some (refusal e)) }
         // every name of cargo is a name
         ensures accepted { IsOk result → refusal_of name.now ≡ None }
     {
@@ -154,7 +160,8 @@ impl<'n> KrateName<'n> {
     ///
     /// Where memory runs out a part of them may have been appended.
     fn push_prefix(&self, acc: &mut String, sep: char) -> Result<(), AllocError>
-        ensures { OnOk result (string_bytes acc.new ≡ string_bytes acc.old ++ prefix (encode_utf8 sep) (text_of self.now)) }
+        ensures { OnOk result (string_bytes acc.new
+            ≡ string_bytes acc.old ++ spec.prefix (encode_utf8 sep) (text_of self.now)) }
     {
         let len = self.text.len();
         if len == 1 {
@@ -175,7 +182,9 @@ impl<'n> KrateName<'n> {
 
     /// Appends the folders of this name in an index, parted by `sep`; they keep the name's case.
     pub fn prefix(&self, acc: &mut String, sep: char) -> Result<(), NoMemory>
-        ensures appended { OnOk result (string_bytes acc.new ≡ string_bytes acc.old ++ prefix (encode_utf8 sep) (text_of self.now)) }
+        ensures appended { OnOk result
+            (string_bytes acc.new ≡ string_bytes acc.old
+            ++ spec.prefix (encode_utf8 sep) (text_of self.now)) }
         ensures same { OnErr result (string_bytes acc.new ≡ string_bytes acc.old) }
     {
         let mut folders = String::new(*acc.allocator());
@@ -187,11 +196,13 @@ impl<'n> KrateName<'n> {
     /// The place of this name's file in an index: its folders and the name, parted by `sep`
     /// (`/` where none is given), all in ASCII lower case.
     pub fn relative_path(&self, alloc: Global, sep: Option<char>) -> Result<Text, NoMemory>
-        ensures parts { IfOk result (λ p. p ≡ relative_path (separator sep) (text_of self.now)) }
+        ensures parts { IfOk result (λ p. p
+            ≡ spec.relative_path (separator sep) (text_of self.now)) }
         ensures path { sep ≡ None → IfOk result (λ p. path (text_of self.now) ≡ Some p) }
         ensures index_path { sep ≡ None → IfOk result IsIndexPath }
         // names that are equal up to ASCII case have one path
-        ensures one_path { (other : List ℕ) → IsTrue (is_name other) → str_to_ascii_lowercase other ≡ str_to_ascii_lowercase (text_of self.now)
+        ensures one_path { (other : List ℕ) → IsTrue (is_name other)
+            → str_to_ascii_lowercase other ≡ str_to_ascii_lowercase (text_of self.now)
             → path other ≡ path (text_of self.now) }
     {
         let sep = sep.unwrap_or('/');
@@ -216,7 +227,7 @@ impl KrateName<'static> {
 
     /// The name that a text of the program is, which crates.io has to accept.
     pub fn from_static(name: &'static str) -> KrateName<'static>
-        requires { strict_refusal (Some 64) name.now ≡ None }
+        requires { spec.strict_refusal (Some 64) name.now ≡ None }
         ensures { text_of result ≡ name.now }
     {
         KrateName { text: name }

@@ -1,6 +1,6 @@
 //! Where output goes.
 ghost use Rattle.std.specs.Prelude.{◌≡◌, ◌≤◌, ◌++◌, ℕ, List, length, OnOk, IfOk, IfErr};
-ghost use Rattle.tame_names.specs.Counts.{Rose};
+ghost use Rattle.tame_names.specs.Counts.{CountRose};
 ghost use Rattle.tame_names.specs.Output.{AddsPrefix, HasPutCause, Puts};
 
 use crate::errors::{Error, IoKind};
@@ -37,7 +37,8 @@ pub fn put_counted<S: Sink>(sink: &mut S, piece: &[u8]) -> Result<u64, Error>
     ensures part { S.tells → AddsPrefix (S.holds sink.old) piece.now (S.holds sink.new) }
     ensures count { IfOk result (λ n. n ≡ length piece.now) }
     ensures later { S.faults sink.old ≤ S.faults sink.new }
-    ensures failed { IfErr result (λ e. (e ≡ Error.Io IoKind.Failed) × Rose (S.faults sink.old) (S.faults sink.new)) }
+    ensures failed { IfErr result (λ e. (e ≡ Error.Io IoKind.Failed)
+        × CountRose (S.faults sink.old) (S.faults sink.new)) }
 {
     match sink.put(piece) {
         Ok(()) => Ok(piece.len() as u64),

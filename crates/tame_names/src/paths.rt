@@ -1,6 +1,7 @@
 //! Paths as text.
 ghost use Rattle.std.specs.Prelude.{◌≡◌, bytes_eq, IfOk};
-ghost use Rattle.tame_names.specs.Paths.{begins_with_slash, ends_with_slash, join, plain_path};
+ghost use Rattle.tame_names.specs.Paths.{plain_path};
+ghost use Rattle.tame_names.specs.Paths as spec;
 
 use crate::errors::NoMemory;
 use crate::pieces::without_end;
@@ -8,7 +9,7 @@ use crate::texts::Text;
 use std::alloc::Global;
 
 fn begins_with_slash(path: &str) -> bool
-    ensures { result ≡ begins_with_slash path.now }
+    ensures { result ≡ spec.begins_with_slash path.now }
 {
     match path.as_bytes() {
         [first, ..] => *first == b'/',
@@ -17,7 +18,7 @@ fn begins_with_slash(path: &str) -> bool
 }
 
 fn ends_with_slash(path: &str) -> bool
-    ensures { result ≡ ends_with_slash path.now }
+    ensures { result ≡ spec.ends_with_slash path.now }
 {
     let bytes = path.as_bytes();
     !bytes.is_empty() && bytes[bytes.len() - 1] == b'/'
@@ -39,7 +40,7 @@ pub fn is_same_path(one: &str, other: &str) -> bool
 /// A path below a folder: the path itself where the folder is empty or the path begins with `/`,
 /// else both, with one `/` between them.
 pub fn join(alloc: Global, folder: &str, path: &str) -> Result<Text, NoMemory>
-    ensures { IfOk result (λ whole. whole ≡ join folder.now path.now) }
+    ensures { IfOk result (λ whole. whole ≡ spec.join folder.now path.now) }
 {
     if folder.is_empty() || begins_with_slash(path) {
         return Text::of(alloc, path);

@@ -1,7 +1,8 @@
 //! Bytes cut at a needle.
 ghost use Rattle.std.specs.Prelude.{◌≡◌, ◌<◌, ℕ, List, [], ◌∷◌, ◌++◌, length, if◌then◌else◌};
 ghost use Rattle.std.specs.Iterator.{YieldsFirstRef, item_count};
-ghost use Rattle.tame_names.specs.Pieces.{ends_with, pieces, without_end};
+ghost use Rattle.tame_names.specs.Pieces.{ends_with, pieces};
+ghost use Rattle.tame_names.specs.Pieces as spec;
 ghost use Rattle.std.specs.List.{join_with_byte};
 
 use memchr::memchr;
@@ -50,7 +51,7 @@ impl<'a> Iterator for SplitIter<'a> {
 
 /// The bytes without the needles at their end.
 pub fn without_end(bytes: &[u8], needle: u8) -> &[u8]
-    ensures { result.now ≡ without_end needle bytes.now }
+    ensures { result.now ≡ spec.without_end needle bytes.now }
 {
     let mut end = bytes.len();
     while end > 0 && bytes[end - 1] == needle {
@@ -62,7 +63,8 @@ pub fn without_end(bytes: &[u8], needle: u8) -> &[u8]
 /// Cuts `haystack` at each `needle`. A needle at the end is followed by no last piece.
 pub fn split(haystack: &[u8], needle: u8) -> SplitIter<'_>
     ensures pieces { result ≡ pieces needle haystack.now }
-    ensures joined { haystack.now ≡ join_with_byte needle result ++ (if ends_with needle haystack.now then needle ∷ [] else []) }
+    ensures joined { haystack.now ≡ join_with_byte needle result
+        ++ (if ends_with needle haystack.now then needle ∷ [] else []) }
 {
     SplitIter {
         left: haystack,

@@ -1,6 +1,6 @@
 //! A text that contracts see as the list of its bytes.
 ghost use Rattle.std.specs.Prelude.{◌≡◌, List, ℕ, IfOk, option_map, string_bytes};
-ghost use Rattle.tame_names.specs.Utf8.{utf8_text};
+ghost use Rattle.tame_names.specs.Utf8 as spec;
 
 use crate::errors::NoMemory;
 use std::alloc::Global;
@@ -62,7 +62,7 @@ impl Text {
 
 /// The bytes as text, where they are UTF-8 (RFC 3629).
 pub fn utf8_text(bytes: &[u8]) -> Option<&str>
-    ensures { option_map (λ text. text.now) result ≡ utf8_text bytes.now }
+    ensures { option_map (λ text. text.now) result ≡ spec.utf8_text bytes.now }
 {
     match std::str::from_utf8(bytes) {
         Ok(text) => Some(text),

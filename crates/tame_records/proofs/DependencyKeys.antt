@@ -4,11 +4,11 @@ use Rattle.std.specs.Prelude.{if◌then◌else◌}
 use Rattle.std.proofs.lemmas.Slice.Eq.{bytes_eq-Decides}
 use Rattle.serde_json.specs.Data.{Data, Members, no_members, put}
 use Rattle.serde_json.specs.Written.{has_float}
-use Rattle.tame_records.specs.Heads.{KnowsDependency, all_members, note_dependency_key, dependency_key_fits, dependency_key}
+use Rattle.tame_records.specs.VersionFlags.{KnowsDependency, all_members, with_dependency_key, dependency_key_fits, dependency_key}
 use Rattle.tame_records.specs.declared.keys.DependencyKey.{DependencyKey}
 use Rattle.tame_records.specs.declared.keys.DependencyKey.TheVariants as dependency
 use Rattle.tame_records.specs.declared.keys.DependencySeen.{DependencySeen}
-use Rattle.tame_records.proofs.HeadMembers.{all_put, has_here, has_put, whole_put}
+use Rattle.tame_records.proofs.FlagMembers.{all_put, has_here, has_put, whole_put}
 
 -- ---- a name from its key
 
@@ -99,7 +99,7 @@ module _ (found : Members) (s : DependencySeen) (knows : KnowsDependency found s
   dependency_fit : (x : DependencyKey) → dependency_key k ≡ x → dependency_key_fits x d ≡ true → all_members (λ k d. dependency_key_fits (dependency_key k) d) (put k d found) ≡ true
   dependency_fit x is fit = all_put (λ k d. dependency_key_fits (dependency_key k) d) k d found (ap (λ (y : DependencyKey). dependency_key_fits y d) is ∙ fit) knows.fits
 
-  pub dependency_knows_more : (x : DependencyKey) → dependency_key k ≡ x → dependency_key_fits x d ≡ true → KnowsDependency (put k d found) (note_dependency_key x s)
+  pub dependency_knows_more : (x : DependencyKey) → dependency_key k ≡ x → dependency_key_fits x d ≡ true → KnowsDependency (put k d found) (with_dependency_key x s)
   dependency_knows_more dependency.Name is fit = record {
     fits = dependency_fit dependency.Name is fit;
     whole = whole_put k d found whole knows.whole;

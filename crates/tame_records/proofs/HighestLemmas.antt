@@ -10,7 +10,7 @@ use Rattle.std.specs.declared.cmp.Ordering.{Ordering}
 use Rattle.itertools.specs.Extremes.{by_cmp, by_cmp_reversed, flipped, position_of, wins}
 use Rattle.semver.specs.Parse.{Parts}
 use Rattle.tame_records.specs.declared.versions.IndexVersion.{IndexVersion}
-use Rattle.tame_records.specs.Highest.{IsHighestNormal, IsLastGreatest, IsNormal, by_normal_rank, normal_rank, parts_cmp, rank}
+use Rattle.tame_records.specs.Highest.{IsHighestNormal, IsLastGreatest, IsNormal, by_normal_precedence, normal_precedence, parts_cmp, precedence}
 use Rattle.tame_records.proofs.Greatest.{both, greatest_mapped, last_greatest}
 
 -- ---- where there is a place
@@ -37,17 +37,17 @@ ranked false (Some p) h = (refl, (p, refl, go (length p.3 == 0) h))
     go false e = cc
 
 -- a version that has a normal rank is normal
-pub is_normal : (v : IndexVersion) → is_some (normal_rank v) ≡ true → IsNormal v
+pub is_normal : (v : IndexVersion) → is_some (normal_precedence v) ≡ true → IsNormal v
 is_normal v h =
-    let parts = ranked v.yanked (rank v) h in
+    let parts = ranked v.yanked (precedence v) h in
     record { not_yanked = parts.0; no_pre = rw parts.1.1 (zero_length (length parts.1.0.3) parts.1.2) }
   where
     zero_length : (n : ℕ) → (n == 0) ≡ true → n ≡ 0
     zero_length n e = search (rules, nat_tests)
 
 -- a version without a normal rank isn't normal
-pub not_normal : (v : IndexVersion) → normal_rank v ≡ None → IsNormal v → ⊥
-not_normal v none h = unranked v.yanked (rank v) none h.not_yanked h.no_pre
+pub not_normal : (v : IndexVersion) → normal_precedence v ≡ None → IsNormal v → ⊥
+not_normal v none h = unranked v.yanked (precedence v) none h.not_yanked h.no_pre
   where
     unranked : (yanked : Bool) (r : Option Parts) → cond yanked None (option_and_then (λ (p : Parts). cond (length p.3 == 0) (Some p) None) r) ≡ None → yanked ≡ false → IsSomeAnd r (λ (p : Parts). length p.3 ≡ 0) → ⊥
     unranked true r none kept pre = cc
@@ -63,30 +63,30 @@ below_none : (r : Option Parts) → is_lt (option_cmp parts_cmp r None) ≡ true
 below_none None h = cc
 below_none (Some p) h = cc
 
-unranked_front : (vs : List IndexVersion) → AllByRecursion (λ x. is_lt (option_cmp parts_cmp None (normal_rank x)) ≡ false) vs → AllByRecursion (λ x. ¬ (IsNormal x)) vs
+unranked_front : (vs : List IndexVersion) → AllByRecursion (λ x. is_lt (option_cmp parts_cmp None (normal_precedence x)) ≡ false) vs → AllByRecursion (λ x. ¬ (IsNormal x)) vs
 unranked_front [] h = tt
-unranked_front (v ∷ vs) h = (not_normal v (lowest (normal_rank v) h.0), unranked_front vs h.1)
+unranked_front (v ∷ vs) h = (not_normal v (lowest (normal_precedence v) h.0), unranked_front vs h.1)
 
-unranked_behind : (vs : List IndexVersion) → AllByRecursion (λ x. is_lt (option_cmp parts_cmp (normal_rank x) None) ≡ true) vs → AllByRecursion (λ x. ¬ (IsNormal x)) vs
+unranked_behind : (vs : List IndexVersion) → AllByRecursion (λ x. is_lt (option_cmp parts_cmp (normal_precedence x) None) ≡ true) vs → AllByRecursion (λ x. ¬ (IsNormal x)) vs
 unranked_behind [] h = tt
-unranked_behind (v ∷ vs) h = absurd (below_none (normal_rank v) h.0)
+unranked_behind (v ∷ vs) h = absurd (below_none (normal_precedence v) h.0)
 
 cut : {A : Type 0} (xs : List A) (i : ℕ) (b : A) → slice_get xs i ≡ Some b → take i xs ++ b ∷ drop (suc i) xs ≡ xs
 cut [] i b h = cc
 cut (x ∷ xs) zero b h = cc
 cut (x ∷ xs) (suc i) b h = ap (λ l. x ∷ l) (cut xs i b h)
 
-pub none_normal : (versions : List IndexVersion) (place : ℕ) (v : IndexVersion) → IsLastGreatest by_normal_rank versions place v → normal_rank v ≡ None → AllByRecursion (λ x. ¬ (IsNormal x)) versions
+pub none_normal : (versions : List IndexVersion) (place : ℕ) (v : IndexVersion) → IsLastGreatest by_normal_precedence versions place v → normal_precedence v ≡ None → AllByRecursion (λ x. ¬ (IsNormal x)) versions
 none_normal versions place v h none =
     let front = unranked_front (take place versions) (rw none at h.none_greater) in
     let behind = unranked_behind (drop (suc place) versions) (rw none at h.all_less) in
     subst (AllByRecursion (λ x. ¬ (IsNormal x))) (cut versions place v h.at) (both (λ x. ¬ (IsNormal x)) (take place versions) (v ∷ drop (suc place) versions) front (not_normal v none, behind))
 
 -- what was found of the version at the place
-pub highest_normal : {E : Type 0} (r : Result (Option (Bor IndexVersion)) E) (versions : List IndexVersion) (place : ℕ) (v : IndexVersion) → IsLastGreatest by_normal_rank versions place v
-    → IfOk r (λ found. MatchOption found (normal_rank v ≡ None) (λ x. (x.now ≡ v) × IsNormal v)) → IfOk r (λ found. IsHighestNormal versions (option_map (λ (x : Bor IndexVersion). x.now) found))
+pub highest_normal : {E : Type 0} (r : Result (Option (Bor IndexVersion)) E) (versions : List IndexVersion) (place : ℕ) (v : IndexVersion) → IsLastGreatest by_normal_precedence versions place v
+    → IfOk r (λ found. MatchOption found (normal_precedence v ≡ None) (λ x. (x.now ≡ v) × IsNormal v)) → IfOk r (λ found. IsHighestNormal versions (option_map (λ (x : Bor IndexVersion). x.now) found))
 highest_normal (Ok None) versions place v h none = none_normal versions place v h none
-highest_normal (Ok (Some x)) versions place v h is = subst (λ w. IsNormal w × ((i : ℕ) × IsLastGreatest by_normal_rank versions i w)) (sym is.0) (is.1, (place, h))
+highest_normal (Ok (Some x)) versions place v h is = subst (λ w. IsNormal w × ((i : ℕ) × IsLastGreatest by_normal_precedence versions i w)) (sym is.0) (is.1, (place, h))
 highest_normal (Err e) versions place v h is = tt
 
 pub read_at : {A : Type 0} (xs ys : List A) (i : ℕ) (x : A) → ys ≡ xs → i < length ys → x ≡ get_or ys i x → slice_get xs i ≡ Some x

@@ -1,14 +1,15 @@
 pub mod Ahead
 pub mod Digits
 pub mod KrateLemmas
+mod OptionalLemmas
 mod WrittenTokens
 mod ReadBack
 mod RoundTrip
 pub mod Greatest
 mod HighestLemmas
-pub mod HeadTokens
-pub mod HeadMembers
-pub mod HeadForms
+pub mod FlagTokens
+pub mod FlagMembers
+pub mod FlagForms
 pub mod DependencyKeys
 pub mod VersionKeys
 pub mod QuickLex

@@ -12,8 +12,8 @@ use Rattle.json.specs.Lex.{Lexeme, token, colon, quote, backslash, operator, spa
 use Rattle.serde_json.specs.Data.{Data, Members, put, boolean as flag, null as nothing, string as text}
 use Rattle.serde_json.specs.Written.{has_float}
 use Rattle.tame_records.specs.Quick.{HasText, TakesAt, TextAt, ValueAt, ends, left}
-use Rattle.tame_records.specs.Heads.{AreMembers, IsValue}
-use Rattle.tame_records.proofs.HeadTokens.{deeper, flag_taken, members_end, members_more, null_taken, text_taken}
+use Rattle.tame_records.specs.VersionFlags.{AreMembers, IsValue}
+use Rattle.tame_records.proofs.FlagTokens.{deeper, flag_taken, members_end, members_more, null_taken, text_taken}
 
 -- ---- texts
 

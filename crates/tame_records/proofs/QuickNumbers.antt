@@ -10,7 +10,7 @@ use Rattle.serde_json.specs.Data.{number as numeral, unsigned}
 use Rattle.serde_json.specs.Read.{number_of}
 use Rattle.serde_json.proofs.OnLiterals.{serde_json_on_literals}
 use Rattle.tame_records.specs.Quick.{ValueAt, ends, left}
-use Rattle.tame_records.proofs.HeadTokens.{number_taken}
+use Rattle.tame_records.proofs.FlagTokens.{number_taken}
 use Rattle.tame_records.proofs.QuickLex.{EndsWell, ends_well, next_byte}
 
 -- ---- the numbers 1 and 2

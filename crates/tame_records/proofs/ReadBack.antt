@@ -16,7 +16,7 @@ use Rattle.serde_json.specs.Read.{of_json, of_items, of_members}
 use Rattle.serde_json.specs.Written.{has_float, items_have_float, members_have_float}
 use Rattle.serde_json.proofs.Numbers.{number_of-decimal}
 use Rattle.serde_json.proofs.Views.{get_member-put, get_member-put_other}
-use Rattle.tame_records.specs.Members.{Lists, lists_with, lists_or_null, small_or_null, text_or_null, texts_of}
+use Rattle.tame_records.specs.Members.{Lists, lists_with, lists_or_null, u32_or_null, text_or_null, texts_of}
 use Rattle.tame_records.specs.Written.{AreOrdered, lists_if, lists_tree, number_if, text_if, texts_tree}
 
 -- ---- texts
@@ -215,7 +215,7 @@ pub features_data_back : (o : Option Lists) → AreOrderedIf o → lists_or_null
 features_data_back None h = refl
 features_data_back (Some ls) h = rw (lists_back [] ls h) refl
 
-pub number_data_back : (o : Option ℕ) → IsSmallIf o → small_or_null (later_or (number_data o) None) ≡ Some o
+pub number_data_back : (o : Option ℕ) → IsSmallIf o → u32_or_null (later_or (number_data o) None) ≡ Some o
 number_data_back None h = refl
 number_data_back (Some n) h = search rules
 

@@ -12,7 +12,7 @@ use Rattle.serde_json.specs.Read.{of_json, of_items, of_members, read, max_depth
 use Rattle.serde_json.specs.Written.{has_float, items_have_float}
 use Rattle.tame_names.proofs.Utf8Lemmas.{utf8_text-utf8}
 use Rattle.tame_records.specs.Dependencies.{dependency_of, dependencies_of, kind_of}
-use Rattle.tame_records.specs.Members.{lists_or_null, small_or_null, text_or_null}
+use Rattle.tame_records.specs.Members.{lists_or_null, u32_or_null, text_or_null}
 use Rattle.tame_records.specs.Record.{record_of, record_of_data, unless_float}
 use Rattle.tame_records.specs.Written.{HasForm, dependencies_tree, dependency_tree, kind_text, later_members, line, number_if, text_if, text_or_null_tree, version_tree}
 use Rattle.tame_records.specs.declared.dependencies.DependencyKind.{DependencyKind}
@@ -196,7 +196,7 @@ version_shallow v =
 version_found : (x : Data) (v : IndexVersion) → HasForm v → get (codes "name") x ≡ Some (string v.name) → get (codes "vers") x ≡ Some (string v.version) → get (codes "deps") x ≡ Some (array (dependencies_data v.deps))
     → get (codes "cksum") x ≡ Some (string (encode_lower v.checksum.0)) → get (codes "features") x ≡ Some (object (lists_data v.features)) → lists_or_null (get (codes "features2") x) ≡ Some v.features2
     → get (codes "yanked") x ≡ Some (boolean v.yanked) → text_or_null (get (codes "links") x) ≡ Some v.links → text_or_null (get (codes "rust_version") x) ≡ Some v.rust_version
-    → text_or_null (get (codes "pubtime") x) ≡ Some v.pubtime → small_or_null (get (codes "v") x) ≡ Some v.v → record_of_data x ≡ Some v
+    → text_or_null (get (codes "pubtime") x) ≡ Some v.pubtime → u32_or_null (get (codes "v") x) ≡ Some v.v → record_of_data x ≡ Some v
 version_found x v form name version deps digits features features2 yanked links rust_version pubtime held =
     rw (name, version, deps, digits, features, features2, yanked, links, rust_version, pubtime, held, dependencies_back v.deps, form.digits, lists_back [] v.features form.features) refl
 
@@ -206,7 +206,7 @@ version_back v form =
     version_found (version_data v) v form (at_key (codes "name") es) (at_key (codes "vers") es) (at_key (codes "deps") es) (at_key (codes "cksum") es) (at_key (codes "features") es)
     (ap lists_or_null (at_key (codes "features2") es) ∙ features_data_back v.features2 form.features2) (at_key (codes "yanked") es)
     (ap text_or_null (at_key (codes "links") es) ∙ text_data_back v.links) (ap text_or_null (at_key (codes "rust_version") es) ∙ text_data_back v.rust_version)
-    (ap text_or_null (at_key (codes "pubtime") es) ∙ text_data_back v.pubtime) (ap small_or_null (at_key (codes "v") es) ∙ number_data_back v.v form.number)
+    (ap text_or_null (at_key (codes "pubtime") es) ∙ text_data_back v.pubtime) (ap u32_or_null (at_key (codes "v") es) ∙ number_data_back v.v form.number)
 
 -- the line of a version has that version as its record
 pub reads_back : (v : IndexVersion) → HasForm v → IsUtf8 (line v) → tokens (line v) ≡ tree.json_tokens (version_tree v) → record_of (line v) ≡ Some v

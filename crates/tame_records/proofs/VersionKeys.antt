@@ -6,11 +6,11 @@ use Rattle.serde_json.specs.Data.{Data, Members, no_members, put}
 use Rattle.serde_json.specs.Find.{get_member, as_str, as_bool}
 use Rattle.serde_json.specs.Written.{has_float}
 use Rattle.serde_json.proofs.Views.{get_member-put_other}
-use Rattle.tame_records.specs.Heads.{KnowsVersion, Seen, all_members, version_key_fits, version_key, note_version_key}
+use Rattle.tame_records.specs.VersionFlags.{KnowsVersion, Seen, all_members, version_key_fits, version_key, with_version_key}
 use Rattle.tame_records.specs.Members.{flag_or_false}
 use Rattle.tame_records.specs.declared.keys.VersionKey.{VersionKey}
 use Rattle.tame_records.specs.declared.keys.VersionKey.TheVariants as key
-use Rattle.tame_records.proofs.HeadMembers.{all_put, found_here, has_here, has_put, whole_put}
+use Rattle.tame_records.proofs.FlagMembers.{all_put, found_here, has_here, has_put, whole_put}
 
 -- ---- a name from its key
 
@@ -147,7 +147,7 @@ module _ (found : Members) (s : Seen) (knows : KnowsVersion found s) (k : List �
   other_key : (q : List ℕ) (x y : VersionKey) → version_key k ≡ x → version_key q ≡ y → (y ≡ x → ⊥) → q ≡ k → ⊥
   other_key q x y is there apart e = apart (sym there ∙ ap (λ (l : List ℕ). version_key l) e ∙ is)
 
-  pub version_knows_more : (x : VersionKey) → version_key k ≡ x → version_key_fits x d ≡ true → KnowsVersion (put k d found) (note_version_key x d s)
+  pub version_knows_more : (x : VersionKey) → version_key k ≡ x → version_key_fits x d ≡ true → KnowsVersion (put k d found) (with_version_key x d s)
   version_knows_more key.Name is fit = record {
     fits = version_fit key.Name is fit;
     whole = whole_put k d found whole knows.whole;

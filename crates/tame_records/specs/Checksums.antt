@@ -1,4 +1,5 @@
--- SHA-256 digests as hex text: 64 digits of either case, two for each byte, the high four bits first.
+-- SHA-256 digests as hex text: 64 digits of either case, two for each byte, the high four bits
+-- first.
 use Rattle.std.specs.Prelude.{ℕ, List, [], length, Option, Some, None, find, not, ◌==◌, if◌then◌else◌, Result, Ok, Err}
 use Rattle.std.specs.Char.{is_ascii_hexdigit}
 use Rattle.std.specs.Result.{result_unwrap_or}

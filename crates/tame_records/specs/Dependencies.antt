@@ -1,7 +1,7 @@
 -- Dependencies of a version in the index (Cargo Book, "Registry Index", JSON schema).
 use Rattle.std.specs.Prelude.{ℕ, codes, List, [], ◌∷◌, bytes_eq, Option, Some, None, option_map, option_and_then, if◌then◌else◌}
 use Rattle.serde_json.specs.Data.{Data, null, string, Items, no_items, item}
-use Rattle.serde_json.specs.Find.{get}
+use Rattle.serde_json.specs.Find.{get, as_array}
 use Rattle.tame_records.specs.Members.{text_at, text_or_null, flag_at, texts_at}
 use Rattle.tame_records.specs.declared.dependencies.IndexDependency.{IndexDependency}
 use Rattle.tame_records.specs.declared.dependencies.DependencyKind.{DependencyKind}
@@ -24,8 +24,21 @@ kind_of (Some _) = None
 -- the dependency that an object is, member by member
 abbrev pub dependency_of : Data → Option IndexDependency
 dependency_of d =
-    option_and_then (λ name. option_and_then (λ req. option_and_then (λ features. option_and_then (λ optional. option_and_then (λ default_features. option_and_then (λ target. option_and_then (λ kind. option_map (λ renamed.
-    record { name = name; req = req; features = features; optional = optional; default_features = default_features; target = target; kind = kind; «package» = renamed })
+    option_and_then (λ name. option_and_then
+    (λ req. option_and_then
+    (λ features. option_and_then
+    (λ optional. option_and_then
+    (λ default_features. option_and_then (λ target. option_and_then (λ kind. option_map (λ renamed.
+    record {
+      name = name;
+      req = req;
+      features = features;
+      optional = optional;
+      default_features = default_features;
+      target = target;
+      kind = kind;
+      «package» = renamed;
+    })
     (text_or_null (get (codes "package") d)))
     (kind_of (get (codes "kind") d)))
     (text_or_null (get (codes "target") d)))
@@ -37,4 +50,9 @@ dependency_of d =
 
 abbrev pub dependencies_of : Items → Option (List IndexDependency)
 dependencies_of no_items = Some []
-dependencies_of (item d ds) = option_and_then (λ x. option_map (λ xs. x ∷ xs) (dependencies_of ds)) (dependency_of d)
+dependencies_of (item d ds) =
+    option_and_then (λ x. option_map (λ xs. x ∷ xs) (dependencies_of ds)) (dependency_of d)
+
+-- a required array of dependencies
+abbrev pub dependencies_at : List ℕ → Data → Option (List IndexDependency)
+dependencies_at key d = option_and_then dependencies_of (option_and_then as_array (get key d))

@@ -22,9 +22,12 @@ has_no_record line = is_none (record_of line)
 abbrev pub first_unread : List (List ℕ) → Option ℕ
 first_unread ls = position_from has_no_record 0 ls
 
--- why a body isn't the versions of a crate: it has no line, or this one is the first without a record
+-- why a body isn't the versions of a crate: it has no line, or this one is the first without a
+-- record
 abbrev pub unread : List ℕ → Option Error
-unread body = if length (trimmed body) == 0 then Some error.NoCrateVersions else option_map (λ n. error.Json n) (first_unread (lines body))
+unread body =
+    if length (trimmed body) == 0 then Some error.NoCrateVersions
+    else option_map (λ n. error.Json n) (first_unread (lines body))
 
 -- a body read as the versions of a crate, or why it isn't that
 abbrev pub IsRead : List ℕ → Result IndexKrate Error → Type 0

@@ -1,10 +1,11 @@
 pub mod Checksums
 pub mod Dependencies
-pub mod Heads
+pub mod VersionFlags
 pub mod Highest
 pub mod Krates
 pub mod Lines
 pub mod Members
+pub mod OptionalMembers
 pub mod Quick
 pub mod Record
 pub mod Written

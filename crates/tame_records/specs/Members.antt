@@ -1,4 +1,5 @@
--- Members of a JSON object, by form (RFC 8259; Cargo Book, "Registry Index", JSON schema). None: the form is broken.
+-- Members of a JSON object, by form (RFC 8259; Cargo Book, "Registry Index", JSON schema). None:
+-- the form is broken.
 use Rattle.std.specs.Prelude.{ℕ, ◌^◌, List, [], ◌∷◌, Bool, false, Option, Some, None, option_map, option_and_then, if◌then◌else◌, nat_lt}
 use Rattle.std.specs.BTreeMap.{insert_entry}
 use Rattle.std.specs.Cmp.Lexicographic.{slice_cmp}
@@ -27,11 +28,11 @@ flag_or_false None = Some false
 flag_or_false (Some d) = as_bool d
 
 -- null or absent: no number; else a whole number below 2^32
-abbrev pub small_or_null : Option Data → Option (Option ℕ)
-small_or_null None = Some None
-small_or_null (Some null) = Some None
-small_or_null (Some (number (unsigned n))) = if nat_lt n (2 ^ 32) then Some (Some n) else None
-small_or_null (Some _) = None
+abbrev pub u32_or_null : Option Data → Option (Option ℕ)
+u32_or_null None = Some None
+u32_or_null (Some null) = Some None
+u32_or_null (Some (number (unsigned n))) = if nat_lt n (2 ^ 32) then Some (Some n) else None
+u32_or_null (Some _) = None
 
 abbrev pub texts_of : Items → Option (List (List ℕ))
 texts_of no_items = Some []
@@ -48,7 +49,9 @@ Lists = List (List ℕ × List (List ℕ))
 -- the lists, with those of these members put at their names
 abbrev pub lists_with : Lists → Members → Option Lists
 lists_with ls no_members = Some ls
-lists_with ls (member k d ms) = option_and_then (λ ts. lists_with (insert_entry (slice_cmp nat_cmp) ls k ts) ms) (option_and_then texts_of (as_array d))
+lists_with ls (member k d ms) =
+    option_and_then (λ ts. lists_with (insert_entry (slice_cmp nat_cmp) ls k ts) ms)
+    (option_and_then texts_of (as_array d))
 
 -- a required object of arrays of texts
 abbrev pub lists_at : List ℕ → Data → Option Lists

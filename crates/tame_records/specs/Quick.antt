@@ -5,8 +5,8 @@ use Rattle.json.specs.Text.{content, plain}
 use Rattle.json.specs.Word.{head}
 use Rattle.json.specs.Lex.{Place, after_value, between, in_string, lex, may_begin, punctuate, token}
 use Rattle.serde_json.specs.Data.{Data}
-use Rattle.tame_records.specs.Heads.{IsValue, Seen}
-use Rattle.tame_records.specs.declared.quick_heads.VersionSeen.{VersionSeen}
+use Rattle.tame_records.specs.VersionFlags.{IsValue, Seen}
+use Rattle.tame_records.specs.declared.quick_version_flags.VersionSeen.{VersionSeen}
 
 -- the tokens from a byte on, where this place is reached
 abbrev pub left : List ℕ → Place → ℕ → List Token
@@ -26,10 +26,19 @@ TextAt bytes at s e = lex between (drop at bytes) ≡ token (string s) ∷ lex b
 
 -- a value that reads as d stands here, and ends before e, if a comma or a closing bracket follows
 abbrev pub ValueAt : ℕ → List ℕ → ℕ → Data → ℕ → Type 0
-ValueAt n bytes at d e = (p : Place) → may_begin p ≡ true → ends (drop e bytes) ≡ true → IsValue n (left bytes p at) d (left bytes after_value e)
+ValueAt n bytes at d e =
+    (p : Place) → may_begin p ≡ true → ends (drop e bytes) ≡ true
+    → IsValue n (left bytes p at) d (left bytes after_value e)
 
 abbrev pub TakesAt : ℕ → (Data → Bool) → List ℕ → ℕ → ℕ → Type 0
 TakesAt n form bytes at e = (d : Data) × ValueAt n bytes at d e × (form d ≡ true)
 
 abbrev pub seen_of : VersionSeen → Seen
-seen_of s = record { name = s.name; version = option_map (λ t. t.now) s.version; deps = s.deps; checksum = s.checksum; features = s.features; yanked = s.yanked }
+seen_of s = record {
+  name = s.name;
+  version = option_map (λ t. t.now) s.version;
+  deps = s.deps;
+  checksum = s.checksum;
+  features = s.features;
+  yanked = s.yanked;
+}

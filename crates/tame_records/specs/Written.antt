@@ -1,4 +1,5 @@
--- The line that a version writes: the compact text of a JSON object with its members in this order (RFC 8259; Cargo Book, "Registry Index", JSON schema).
+-- The line that a version writes: the compact text of a JSON object with its members in this order
+-- (RFC 8259; Cargo Book, "Registry Index", JSON schema).
 use Rattle.std.specs.Prelude.{◌≡◌, ◌<◌, ◌^◌, ℕ, codes, decimal, List, [], ◌∷◌, ◌++◌, map, Option, Some, None, IfSome, Ok, flat_map}
 use Rattle.std.specs.Cmp.Lexicographic.{slice_cmp}
 use Rattle.std.specs.List.Sorted.{IsStrictlySortedBy}
@@ -50,9 +51,13 @@ kind_text Build = codes "build"
 
 abbrev pub dependency_tree : IndexDependency → Json
 dependency_tree d =
-    object (member (codes "name") (string d.name) (member (codes "req") (string d.req) (member (codes "features") (array (texts_tree d.features))
-    (member (codes "optional") (boolean d.optional) (member (codes "default_features") (boolean d.default_features) (member (codes "target") (text_or_null_tree d.target)
-    (member (codes "kind") (string (kind_text d.kind)) (text_if (codes "package") d.«package» no_members))))))))
+    object (member (codes "name") (string d.name)
+    (member (codes "req") (string d.req) (member (codes "features") (array (texts_tree d.features))
+    (member (codes "optional") (boolean d.optional)
+    (member (codes "default_features") (boolean d.default_features)
+    (member (codes "target") (text_or_null_tree d.target)
+    (member (codes "kind") (string (kind_text d.kind))
+    (text_if (codes "package") d.«package» no_members))))))))
 
 abbrev pub dependencies_tree : List IndexDependency → Items
 dependencies_tree [] = no_items
@@ -64,12 +69,17 @@ dependencies_tree (d ∷ ds) = item (dependency_tree d) (dependencies_tree ds)
 abbrev pub later_members : IndexVersion → Members
 later_members v =
     lists_if (codes "features2") v.features2 (member (codes "yanked") (boolean v.yanked)
-    (text_if (codes "links") v.links (text_if (codes "rust_version") v.rust_version (text_if (codes "pubtime") v.pubtime (number_if (codes "v") v.v no_members)))))
+    (text_if (codes "links") v.links
+    (text_if (codes "rust_version") v.rust_version
+    (text_if (codes "pubtime") v.pubtime (number_if (codes "v") v.v no_members)))))
 
 abbrev pub version_tree : IndexVersion → Json
 version_tree v =
-    object (member (codes "name") (string v.name) (member (codes "vers") (string v.version) (member (codes "deps") (array (dependencies_tree v.deps))
-    (member (codes "cksum") (string (encode_lower v.checksum.0)) (member (codes "features") (object (lists_tree v.features)) (later_members v))))))
+    object (member (codes "name") (string v.name)
+    (member (codes "vers") (string v.version)
+    (member (codes "deps") (array (dependencies_tree v.deps))
+    (member (codes "cksum") (string (encode_lower v.checksum.0))
+    (member (codes "features") (object (lists_tree v.features)) (later_members v))))))
 
 -- the line of a version
 abbrev pub line : IndexVersion → List ℕ

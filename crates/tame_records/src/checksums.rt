@@ -4,7 +4,8 @@ ghost use Rattle.std.specs.Char.{is_ascii_hexdigit};
 ghost use Rattle.std.specs.List.{list_all};
 ghost use Rattle.std.specs.Fmt.{WritesOnOk};
 ghost use Rattle.hex.specs.Hex.{IsBytes, encode_lower};
-ghost use Rattle.tame_records.specs.Checksums.{chksum_of, first_bad_digit};
+ghost use Rattle.tame_records.specs.Checksums.{chksum_of};
+ghost use Rattle.tame_records.specs.Checksums as spec;
 
 use hex::{decode_to_slice, encode, encode_to_slice};
 use std::alloc::Global;
@@ -29,14 +30,14 @@ pub enum ChksumParseError {
 }
 
 fn first_bad_digit(text: &str) -> Option<u8>
-    ensures { result ≡ first_bad_digit text.now }
+    ensures { result ≡ spec.first_bad_digit text.now }
 {
     text.bytes().find(|byte| !byte.is_ascii_hexdigit())
 }
 
 /// Whether a text has nothing but hex digits.
 pub fn is_hex_text(text: &str) -> bool
-    ensures { result ≡ is_none (first_bad_digit text.now) }
+    ensures { result ≡ is_none (spec.first_bad_digit text.now) }
 {
     first_bad_digit(text).is_none()
 }
@@ -96,8 +97,10 @@ impl Chksum {
 /// Exactly the texts of 64 hex digits of either case parse, and the digits that a digest is printed
 /// with parse to it again.
 pub fn digests_are_digits()
-    ensures parsed { (text : List ℕ) → IsOk (chksum_of text) ↔ ((length text ≡ 64) × IsTrue (list_all is_ascii_hexdigit text)) }
-    ensures printed { (bytes : List ℕ) → length bytes ≡ 32 → IsBytes bytes → chksum_of (encode_lower bytes) ≡ Ok (record { 0 = bytes }) }
+    ensures parsed { (text : List ℕ) → IsOk (chksum_of text)
+        ↔ ((length text ≡ 64) × IsTrue (list_all is_ascii_hexdigit text)) }
+    ensures printed { (bytes : List ℕ) → length bytes ≡ 32 → IsBytes bytes
+        → chksum_of (encode_lower bytes) ≡ Ok (record { 0 = bytes }) }
 {}
 
 impl FromStr for Chksum {

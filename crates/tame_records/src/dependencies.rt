@@ -1,15 +1,17 @@
 //! Dependencies of a version.
-ghost use Rattle.std.specs.Prelude.{◌≡◌, ◌⊎◌, ◌↔◌, IsTrue, map, option_map, unwrap_or, Ok, Err, IfOk, IfErr, IsErr};
-ghost use Rattle.semver.specs.Parse.{memory_error, req_of};
+ghost use Rattle.std.specs.Prelude.{◌≡◌, ◌⊎◌, map, option_map, unwrap_or, Some, None, Ok, Err, IfOk, IfErr, IsErr};
+ghost use Rattle.semver.specs.Parse.{req_of};
 ghost use Rattle.semver.specs.Identifiers.{comparator_view};
 ghost use Rattle.serde_json.specs.View.{view, items_view};
-ghost use Rattle.tame_records.specs.Dependencies.{dependency_of, dependencies_of, kind_named, kind_of};
+ghost use Rattle.tame_records.specs.Dependencies as spec;
 
-use crate::members::{text_or_null, texts_of};
+use crate::line_faults::LineFault;
+use crate::members::{flag_at, text_at, text_or_null, texts_at};
+use crate::memory_errors::is_memory;
 use semver::VersionReq;
 use serde_json::Value;
-use std::alloc::{AllocError, Global};
-use tame_names::{Error, Items, NoMemory, Text};
+use std::alloc::Global;
+use tame_names::{Error, Items, Text};
 
 /// What a dependency is used for.
 #[derive(Clone, Copy, Debug, Default, PartialEq, Eq, Hash)]
@@ -92,7 +94,8 @@ impl IndexDependency {
 
     /// The requirement on its version; `Semver` where its text is none.
     pub fn version_requirement(&self, alloc: Global) -> Result<VersionReq, Error>
-        ensures ok { IfOk result (λ r. req_of self.now.req ≡ Ok (map comparator_view r.comparators.items)) }
+        ensures ok { IfOk result (λ r. req_of self.now.req
+            ≡ Ok (map comparator_view r.comparators.items)) }
         ensures semver { result ≡ Err Error.Semver → IsErr (req_of self.now.req) }
         ensures only { IfErr result (λ e. (e ≡ Error.Semver) ⊎ (e ≡ Error.NoMemory)) }
     {
@@ -107,68 +110,48 @@ impl IndexDependency {
     }
 }
 
-/// Whether a version or a requirement wasn't read for want of memory.
-pub fn is_memory(error: semver::Error) -> bool
-    ensures { IsTrue result ↔ (error ≡ memory_error) }
-{
-    error == semver::Error::from(AllocError)
-}
-
-fn kind_of(member: Option<&Value>) -> Option<DependencyKind>
-    ensures { result ≡ kind_of (option_map (λ v. view v.now) member.entry) }
+fn kind_of(member: Option<&Value>) -> Result<DependencyKind, LineFault>
+    ensures ok { IfOk result
+        (λ k. spec.kind_of (option_map (λ v. view v.now) member.entry) ≡ Some k) }
+    ensures json { IfErr result (λ e. (e ≡ LineFault.Json)
+        × (spec.kind_of (option_map (λ v. view v.now) member.entry) ≡ None)) }
 {
     match member {
-        None | Some(Value::Null) => Some(DependencyKind::Normal),
+        None | Some(Value::Null) => Ok(DependencyKind::Normal),
         Some(Value::String(text)) => kind_named(text.as_str()),
-        Some(_) => None,
+        Some(_) => Err(LineFault::Json),
     }
 }
 
-fn kind_named(text: &str) -> Option<DependencyKind>
-    ensures { result ≡ kind_named text.now }
+fn kind_named(text: &str) -> Result<DependencyKind, LineFault>
+    ensures ok { IfOk result (λ k. spec.kind_named text.now ≡ Some k) }
+    ensures json { IfErr result (λ e. (e ≡ LineFault.Json)
+        × (spec.kind_named text.now ≡ None)) }
 {
     if text == "normal" {
-        Some(DependencyKind::Normal)
+        Ok(DependencyKind::Normal)
     } else if text == "dev" {
-        Some(DependencyKind::Dev)
+        Ok(DependencyKind::Dev)
     } else if text == "build" {
-        Some(DependencyKind::Build)
+        Ok(DependencyKind::Build)
     } else {
-        None
+        Err(LineFault::Json)
     }
 }
 
-fn dependency_of(alloc: Global, value: &Value) -> Result<Option<IndexDependency>, NoMemory>
-    ensures { IfOk result (λ d. d ≡ dependency_of (view value.now)) }
+fn dependency_of(alloc: Global, value: &Value) -> Result<IndexDependency, LineFault>
+    ensures ok { IfOk result (λ d. spec.dependency_of (view value.now) ≡ Some d) }
+    ensures json { result ≡ Err LineFault.Json → spec.dependency_of (view value.now) ≡ None }
 {
-    let Some(name) = value.get("name").and_then(Value::as_str) else {
-        return Ok(None);
-    };
-    let Some(req) = value.get("req").and_then(Value::as_str) else {
-        return Ok(None);
-    };
-    let Some(features) = value.get("features").and_then(Value::as_array) else {
-        return Ok(None);
-    };
-    let Some(features) = texts_of(alloc, features)? else {
-        return Ok(None);
-    };
-    let Some(optional) = value.get("optional").and_then(Value::as_bool) else {
-        return Ok(None);
-    };
-    let Some(default_features) = value.get("default_features").and_then(Value::as_bool) else {
-        return Ok(None);
-    };
-    let Some(target) = text_or_null(value.get("target")) else {
-        return Ok(None);
-    };
-    let Some(kind) = kind_of(value.get("kind")) else {
-        return Ok(None);
-    };
-    let Some(package) = text_or_null(value.get("package")) else {
-        return Ok(None);
-    };
-    Ok(Some(IndexDependency {
+    let name = text_at(value, "name")?;
+    let req = text_at(value, "req")?;
+    let features = texts_at(alloc, value, "features")?;
+    let optional = flag_at(value, "optional")?;
+    let default_features = flag_at(value, "default_features")?;
+    let target = text_or_null(value.get("target"))?;
+    let kind = kind_of(value.get("kind"))?;
+    let package = text_or_null(value.get("package"))?;
+    Ok(IndexDependency {
         name: Text::of(alloc, name)?,
         req: Text::of(alloc, req)?,
         features,
@@ -177,22 +160,34 @@ fn dependency_of(alloc: Global, value: &Value) -> Result<Option<IndexDependency>
         target: Text::of_option(alloc, target)?,
         kind,
         package: Text::of_option(alloc, package)?,
-    }))
+    })
 }
 
 /// The items as dependencies.
-pub fn dependencies_of(
-    alloc: Global,
-    items: &[Value],
-) -> Result<Option<Items<IndexDependency>>, NoMemory>
-    ensures { IfOk result (λ all. all ≡ dependencies_of (items_view items.now)) }
+fn dependencies_of(alloc: Global, items: &[Value]) -> Result<Items<IndexDependency>, LineFault>
+    ensures ok { IfOk result (λ all. spec.dependencies_of (items_view items.now) ≡ Some all) }
+    ensures json { result ≡ Err LineFault.Json
+        → spec.dependencies_of (items_view items.now) ≡ None }
 {
     let mut all = Items::new(alloc);
     for item in items {
-        let Some(dependency) = dependency_of(alloc, item)? else {
-            return Ok(None);
-        };
-        all.add(dependency)?;
+        all.add(dependency_of(alloc, item)?)?;
     }
-    Ok(Some(all))
+    Ok(all)
+}
+
+/// A required array of dependencies.
+pub fn dependencies_at(
+    alloc: Global,
+    value: &Value,
+    key: &str,
+) -> Result<Items<IndexDependency>, LineFault>
+    ensures ok { IfOk result (λ all. spec.dependencies_at key.now (view value.now) ≡ Some all) }
+    ensures json { result ≡ Err LineFault.Json
+        → spec.dependencies_at key.now (view value.now) ≡ None }
+{
+    match value.get(key).and_then(Value::as_array) {
+        Some(items) => dependencies_of(alloc, items),
+        None => Err(LineFault::Json),
+    }
 }

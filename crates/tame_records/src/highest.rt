@@ -3,10 +3,11 @@ ghost use Rattle.std.specs.Prelude.{◌≡◌, ◌<◌, [], length, map, option_
 ghost use Rattle.std.specs.Option.{option_cmp};
 ghost use Rattle.semver.specs.Identifiers.{parts_of};
 ghost use Rattle.semver.specs.Parse.{Parts};
-ghost use Rattle.tame_records.specs.Highest.{IsHighest, IsHighestNormal, IsLastGreatest, IsNormal, normal_rank, parts_cmp, rank};
+ghost use Rattle.tame_records.specs.Highest.{IsHighest, IsHighestNormal, IsLastGreatest, IsNormal, parts_cmp};
+ghost use Rattle.tame_records.specs.Highest as spec;
 
-use crate::dependencies::is_memory;
 use crate::krates::IndexKrate;
+use crate::memory_errors::is_memory;
 use crate::versions::IndexVersion;
 use itertools::Itertools;
 use semver::Version;
@@ -14,8 +15,8 @@ use std::alloc::Global;
 use tame_names::NoMemory;
 
 /// The version that its text is.
-fn rank(alloc: Global, version: &IndexVersion) -> Result<Option<Version>, NoMemory>
-    ensures { IfOk result (λ r. option_map parts_of r ≡ rank version.now) }
+fn precedence(alloc: Global, version: &IndexVersion) -> Result<Option<Version>, NoMemory>
+    ensures { IfOk result (λ r. option_map parts_of r ≡ spec.precedence version.now) }
 {
     match Version::parse(alloc, version.version.as_str()) {
         Ok(version) => Ok(Some(version)),
@@ -30,13 +31,13 @@ fn rank(alloc: Global, version: &IndexVersion) -> Result<Option<Version>, NoMemo
 }
 
 /// The version that its text is, where it isn't yanked and has no pre-release.
-fn normal_rank(alloc: Global, version: &IndexVersion) -> Result<Option<Version>, NoMemory>
-    ensures { IfOk result (λ r. option_map parts_of r ≡ normal_rank version.now) }
+fn normal_precedence(alloc: Global, version: &IndexVersion) -> Result<Option<Version>, NoMemory>
+    ensures { IfOk result (λ r. option_map parts_of r ≡ spec.normal_precedence version.now) }
 {
     if version.yanked {
         return Ok(None);
     }
-    match rank(alloc, version)? {
+    match precedence(alloc, version)? {
         Some(found) if found.pre.is_empty() => Ok(Some(found)),
         _ => Ok(None),
     }
@@ -53,36 +54,41 @@ fn last_greatest<T: Ord + Drop>(items: Vec<T>) -> Option<usize>
 /// The place of the greatest rank, of several the last; having none is lowest.
 fn highest_place(ranks: Vec<Option<Version>>) -> Option<usize>
     ensures within { MatchOption result (ranks.items ≡ []) (λ i. i < length ranks.items) }
-    ensures greatest { IfSome result (λ i. (best : Option Parts) × IsLastGreatest (option_cmp parts_cmp) (map (option_map parts_of) ranks.items) i best) }
+    ensures greatest { IfSome result
+        (λ i. (best : Option Parts) × IsLastGreatest (option_cmp parts_cmp)
+        (map (option_map parts_of) ranks.items) i best) }
 {
     last_greatest(ranks)
 }
 
 fn ranks(alloc: Global, versions: &[IndexVersion]) -> Result<Vec<Option<Version>>, NoMemory>
-    ensures { IfOk result (λ rs. map (option_map parts_of) rs.items ≡ map rank versions.now) }
+    ensures { IfOk result (λ rs. map (option_map parts_of) rs.items
+        ≡ map spec.precedence versions.now) }
 {
     let mut ranks = Vec::new(alloc);
     for version in versions {
-        ranks.push(rank(alloc, version)?)?;
+        ranks.push(precedence(alloc, version)?)?;
     }
     Ok(ranks)
 }
 
 fn normal_ranks(alloc: Global, versions: &[IndexVersion]) -> Result<Vec<Option<Version>>, NoMemory>
-    ensures { IfOk result (λ rs. map (option_map parts_of) rs.items ≡ map normal_rank versions.now) }
+    ensures { IfOk result (λ rs. map (option_map parts_of) rs.items
+        ≡ map spec.normal_precedence versions.now) }
 {
     let mut ranks = Vec::new(alloc);
     for version in versions {
-        ranks.push(normal_rank(alloc, version)?)?;
+        ranks.push(normal_precedence(alloc, version)?)?;
     }
     Ok(ranks)
 }
 
 /// The version, where it has a normal rank.
-fn if_normal(alloc: Global, version: &IndexVersion) -> Result<Option<&IndexVersion>, NoMemory>
-    ensures { IfOk result (λ found. MatchOption found (normal_rank version.now ≡ None) (λ v. (v.now ≡ version.now) × IsNormal version.now)) }
+fn normal_version(alloc: Global, version: &IndexVersion) -> Result<Option<&IndexVersion>, NoMemory>
+    ensures { IfOk result (λ found. MatchOption found (spec.normal_precedence version.now ≡ None)
+        (λ v. (v.now ≡ version.now) × IsNormal version.now)) }
 {
-    match normal_rank(alloc, version)? {
+    match normal_precedence(alloc, version)? {
         Some(_) => Ok(Some(version)),
         None => Ok(None),
     }
@@ -106,13 +112,14 @@ impl IndexKrate {
     /// The greatest version that isn't yanked and has no pre-release, of several the last; none
     /// where there is no such version.
     pub fn highest_normal_version(&self, alloc: Global) -> Result<Option<&IndexVersion>, NoMemory>
-        ensures { IfOk result (λ found. IsHighestNormal self.now.versions (option_map (λ v. v.now) found)) }
+        ensures { IfOk result (λ found. IsHighestNormal self.now.versions
+            (option_map (λ v. v.now) found)) }
     {
         let versions = self.versions.as_slice();
         let ranks = normal_ranks(alloc, versions)?;
         let Some(place) = highest_place(ranks) else {
             return Ok(None);
         };
-        if_normal(alloc, &versions[place])
+        normal_version(alloc, &versions[place])
     }
 }

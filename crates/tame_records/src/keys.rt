@@ -1,6 +1,6 @@
 //! The members of a version and of a dependency, by their keys.
 ghost use Rattle.std.specs.Prelude.{◌≡◌};
-ghost use Rattle.tame_records.specs.Heads.{dependency_key, version_key};
+ghost use Rattle.tame_records.specs.VersionFlags as spec;
 
 /// What a key means to a version.
 #[derive(Clone, Copy)]
@@ -47,7 +47,7 @@ pub(crate) struct DependencySeen {
 
 /// The member of a version that has this key.
 pub(crate) fn version_key(key: &[u8]) -> VersionKey
-    ensures { result ≡ version_key key.now }
+    ensures { result ≡ spec.version_key key.now }
 {
     if *key == *b"name".as_slice() {
         VersionKey::Name
@@ -78,7 +78,7 @@ pub(crate) fn version_key(key: &[u8]) -> VersionKey
 
 /// The member of a dependency that has this key.
 pub(crate) fn dependency_key(key: &[u8]) -> DependencyKey
-    ensures { result ≡ dependency_key key.now }
+    ensures { result ≡ spec.dependency_key key.now }
 {
     if *key == *b"name".as_slice() {
         DependencyKey::Name

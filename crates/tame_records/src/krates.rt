@@ -1,13 +1,15 @@
 //! The versions of a crate.
 ghost use Rattle.std.specs.Prelude.{◌≡◌, ◌≢◌, ◌⊎◌, ◌<◌, ◌≤◌, ◌-◌, ℕ, List, length, slice_get, option_map, Some, None, Ok, Err, IfOk, IfErr};
-ghost use Rattle.tame_names.specs.Counts.{Rose};
+ghost use Rattle.tame_names.specs.Counts.{CountRose};
 ghost use Rattle.tame_names.specs.Pieces.{pieces};
-ghost use Rattle.tame_records.specs.Krates.{IsRead, IsReadAt, first_unread, records_of, unread};
+ghost use Rattle.tame_records.specs.Krates.{IsRead, IsReadAt, first_unread, unread};
+ghost use Rattle.tame_records.specs.Krates as spec;
 ghost use Rattle.tame_records.specs.Lines.{lines, trimmed};
 ghost use Rattle.tame_records.specs.declared.versions.IndexVersion.{IndexVersion};
 
+use crate::line_faults::LineFault;
 use crate::lines::trimmed;
-use crate::versions::{IndexVersion, LineFault};
+use crate::versions::IndexVersion;
 use std::alloc::Global;
 use tame_names::{Error, FileFault, Files, IoKind, Items, ReadAnswer, split};
 
@@ -19,15 +21,18 @@ pub struct IndexKrate {
 
 /// The records of the lines of a text.
 fn records_of(alloc: Global, text: &[u8]) -> Result<Items<IndexVersion>, Error>
-    ensures ok { IfOk result (λ vs. (records_of (pieces 10 text.now) ≡ Some vs) × (first_unread (pieces 10 text.now) ≡ None)) }
-    ensures refused { IfErr result (λ e. (e ≡ Error.NoMemory) ⊎ (option_map (λ n. Error.Json n) (first_unread (pieces 10 text.now)) ≡ Some e)) }
+    ensures ok { IfOk result (λ vs. (spec.records_of (pieces 10 text.now) ≡ Some vs)
+        × (first_unread (pieces 10 text.now) ≡ None)) }
+    ensures refused { IfErr result
+        (λ e. (e ≡ Error.NoMemory)
+        ⊎ (option_map (λ n. Error.Json n) (first_unread (pieces 10 text.now)) ≡ Some e)) }
 {
     let mut versions = Items::new(alloc);
     for line in split(text, b'\n') {
         match IndexVersion::read_line(alloc, line) {
             Ok(version) => versions.add(version)?,
             Err(LineFault::Json) => {
-                let line = versions.as_slice().len() as u64;
+                let line = versions.len() as u64;
                 return Err(Error::Json { line });
             }
             Err(LineFault::NoMemory) => return Err(Error::NoMemory),
@@ -42,7 +47,7 @@ impl IndexKrate {
     pub fn new<F: Files>(alloc: Global, files: &mut F, path: &str) -> Result<IndexKrate, Error>
         ensures read { F.tells → IsReadAt ((F.host files.old).stands path.now) result }
         ensures failed { result ≡ Err (Error.Io IoKind.Failed)
-            → Rose (F.faults files.old) (F.faults files.new) }
+            → CountRose (F.faults files.old) (F.faults files.new) }
         ensures later { F.faults files.old ≤ F.faults files.new }
         ensures same { F.tells → F.host files.new ≡ F.host files.old }
     {
@@ -72,7 +77,8 @@ impl IndexKrate {
     /// The name of the first version. There has to be one.
     pub fn name(&self) -> &str
         requires { 0 < length self.now.versions }
-        ensures { (first : IndexVersion) → slice_get self.now.versions 0 ≡ Some first → result.now ≡ first.name }
+        ensures { (first : IndexVersion) → slice_get self.now.versions 0 ≡ Some first
+            → result.now ≡ first.name }
     {
         self.earliest_version().name.as_str()
     }

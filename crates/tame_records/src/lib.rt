@@ -1,29 +1,46 @@
-//! Lines of a registry's index as records.
+//! Lines of a registry's index as records, digests, and the versions of a crate.
+//!
+//! A line reads exactly to its record, or has none; its version and flag are those of the record,
+//! whichever way it is read. A body reads to the records of its lines, and the line that a version
+//! writes reads back to it. It stands on `tame_names`, and on `serde_json`, `semver` and `hex`.
+//!
+//! ```text
+//! let version = IndexVersion::read_line(alloc, line)?;
+//! let flag = version.into_version_flag();    // its text, and whether it is yanked
+//! ```
 #![tactic(auto)]
 
 mod checksums;
 mod dependencies;
 mod features;
-mod heads;
 mod highest;
 mod keys;
 mod krates;
+mod laws;
+mod line_faults;
 mod lines;
 mod members;
-mod quick_heads;
+mod memory_errors;
 mod quick_lists;
 mod quick_texts;
 mod quick_values;
+mod quick_version_flags;
+mod values;
+mod version_flags;
 mod versions;
 mod writing;
 
 pub use checksums::{Chksum, ChksumParseError, digests_are_digits, is_hex_text};
-pub use dependencies::{DependencyKind, IndexDependency, is_memory};
+pub use dependencies::{DependencyKind, IndexDependency};
 pub use features::FeatureIter;
-pub use heads::read_head;
 pub use krates::IndexKrate;
+pub use laws::optional_members_one_by_one;
+pub use line_faults::LineFault;
 pub use lines::trimmed;
 pub use members::{FeatureMap, flag_or_false, text_or_null};
-pub use quick_heads::quick_head;
-pub use versions::{IndexVersion, LineFault, VersionHead, read_value};
+pub use memory_errors::is_memory;
+pub use quick_version_flags::quick_version_flag;
+pub use values::read_value;
+pub use version_flags::read_version_flag;
+pub use versions::{IndexVersion, VersionFlag};
 pub use writing::with_line;

@@ -1,7 +1,7 @@
 //! Where the arrays and objects of a line end.
 ghost use Rattle.std.specs.Prelude.{◌≡◌, ◌<◌, ◌≤◌, length, true, IfSome};
 ghost use Rattle.serde_json.specs.Data.{Data};
-ghost use Rattle.tame_records.specs.Heads.{are_dependencies, are_lists, are_texts, dependency_key_fits, is_dependency, note_dependency_key};
+ghost use Rattle.tame_records.specs.VersionFlags.{are_dependencies, are_lists, are_texts, dependency_key_fits, is_dependency, with_dependency_key};
 ghost use Rattle.tame_records.specs.Quick.{TakesAt, ValueAt};
 
 use crate::keys::{DependencyKey, DependencySeen, dependency_key};
@@ -70,7 +70,7 @@ fn part_end(
     seen: &mut DependencySeen,
 ) -> Option<usize>
     ensures value { IfSome result (λ e. (d : Data) × ValueAt 1 bytes.now at d e
-        × (dependency_key_fits part d ≡ true) × (seen.new ≡ note_dependency_key part seen.old)) }
+        × (dependency_key_fits part d ≡ true) × (seen.new ≡ with_dependency_key part seen.old)) }
     ensures within { IfSome result (λ e. (at < e) × (e ≤ length bytes.now)) }
 {
     match part {

@@ -3,7 +3,7 @@ ghost use Rattle.std.specs.Prelude.{◌≡◌, ◌+◌, ◌<◌, ◌≤◌, leng
 ghost use Rattle.serde_json.specs.Data.{boolean, null, string};
 ghost use Rattle.tame_records.specs.Checksums.{first_bad_digit};
 ghost use Rattle.tame_records.specs.Dependencies.{kind_named};
-ghost use Rattle.tame_records.specs.Heads.{is_any, is_digest, is_flag, is_kind, is_small_or_null, is_text, is_text_or_null};
+ghost use Rattle.tame_records.specs.VersionFlags.{is_any, is_digest, is_flag, is_kind, is_u32_or_null, is_text, is_text_or_null};
 ghost use Rattle.tame_records.specs.Quick.{TakesAt, ValueAt};
 
 use crate::quick_texts::{byte_at, plain_text, text_end};
@@ -11,7 +11,8 @@ use crate::quick_texts::{byte_at, plain_text, text_end};
 /// Whether these two bytes stand here.
 fn has_two(bytes: &[u8], at: usize, a: u8, b: u8) -> bool
     requires { at ≤ length bytes.now }
-    ensures value { result ≡ true → (slice_index bytes.now at ≡ a) × (slice_index bytes.now (at + 1) ≡ b) }
+    ensures value { result ≡ true → (slice_index bytes.now at ≡ a)
+        × (slice_index bytes.now (at + 1) ≡ b) }
     ensures within { result ≡ true → at + 2 ≤ length bytes.now }
 {
     bytes.len() - at >= 2 && bytes[at] == a && bytes[at + 1] == b
@@ -164,7 +165,7 @@ pub(crate) fn digest_end(bytes: &[u8], at: usize) -> Option<usize>
 
 /// One of the two numbers that the format of an index line has.
 pub(crate) fn small_end(bytes: &[u8], at: usize) -> Option<usize>
-    ensures value { IfSome result (λ e. TakesAt 0 is_small_or_null bytes.now at e) }
+    ensures value { IfSome result (λ e. TakesAt 0 is_u32_or_null bytes.now at e) }
     ensures within { IfSome result (λ e. (at < e) × (e ≤ length bytes.now)) }
 {
     let first = byte_at(bytes, at);

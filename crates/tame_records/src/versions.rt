@@ -1,18 +1,19 @@
 //! Versions of a crate in the index, a line each.
-ghost use Rattle.std.specs.Prelude.{◌≡◌, IfOk, IfErr, Some, None, option_map};
-ghost use Rattle.serde_json.specs.View.{view, items_view, members_view};
-ghost use Rattle.serde_json.specs.Read.{read};
-ghost use Rattle.tame_records.specs.Record.{chksum_of_data, fake, head_of, optional_of, record_of, record_of_data, value_of};
-ghost use Rattle.serde_json.specs.Written.{has_float, items_have_float, members_have_float};
+ghost use Rattle.std.specs.Prelude.{◌≡◌, Err, IfOk, IfErr, None, Some, option_map};
+ghost use Rattle.serde_json.specs.View.{view};
+ghost use Rattle.tame_records.specs.Record.{chksum_of_data, version_flag, record_of, record_of_data};
+ghost use Rattle.tame_records.specs.Record as record_spec;
 
 use crate::checksums::Chksum;
-use crate::dependencies::{IndexDependency, dependencies_of};
+use crate::dependencies::{IndexDependency, dependencies_at};
+use crate::line_faults::LineFault;
 use crate::members::{
-    Features, flag_or_false, lists_at, lists_or_null, small_or_null, text_or_null,
+    Features, flag_or_false, lists_at, lists_or_null, text_at, text_or_null, u32_or_null,
 };
-use serde_json::{Map, Value};
-use std::alloc::{AllocError, Global};
-use tame_names::{Items, NoMemory, Text, utf8_text};
+use crate::values::read_value;
+use serde_json::Value;
+use std::alloc::Global;
+use tame_names::{Items, NoMemory, Text};
 
 /// A version of a crate in the index (Cargo Book, "Registry Index", JSON schema).
 #[derive(Debug, Drop, PartialEq, Eq)]
@@ -46,132 +47,60 @@ struct OptionalMembers {
 
 /// What an audit keeps of a version: its text, and whether it is yanked.
 #[derive(Debug, Drop, PartialEq, Eq)]
-pub struct VersionHead {
+pub struct VersionFlag {
     pub version: Text,
     pub yanked: bool,
 }
 
-/// Why a line isn't a record.
-#[derive(Clone, Copy, Debug, PartialEq, Eq)]
-pub enum LineFault {
-    /// The line is no JSON object of the form of a version.
-    Json,
-    NoMemory,
-}
-
-impl From<NoMemory> for LineFault {
-    ghost use Rattle.tame_records.specs.declared.versions.LineFault.TheVariants.{NoMemory as no_memory};
-
-    ghost from_gives = { λ _ e. e ≡ no_memory };
-
-    fn from(_: NoMemory) -> LineFault {
-        LineFault::NoMemory
-    }
-}
-
-// ---- floats are refused, wherever they stand
-
-#[cycle(floats)]
-fn has_float(value: &Value) -> bool
-    ensures { result ≡ has_float (view value.now) }
+fn chksum_of(member: Option<&Value>) -> Result<Chksum, LineFault>
+    ensures ok { IfOk result
+        (λ c. chksum_of_data (option_map (λ v. view v.now) member.entry) ≡ Some c) }
+    ensures json { IfErr result (λ e. (e ≡ LineFault.Json)
+        × (chksum_of_data (option_map (λ v. view v.now) member.entry) ≡ None)) }
 {
-    match value {
-        Value::Null | Value::Bool(_) | Value::String(_) => false,
-        Value::Number(number) => number.is_f64(),
-        Value::Array(items) => items_have_float(items),
-        Value::Object(members) => members_have_float(members),
+    let Some(text) = member.and_then(Value::as_str) else {
+        return Err(LineFault::Json);
+    };
+    match Chksum::parse(text) {
+        Ok(checksum) => Ok(checksum),
+        Err(_) => Err(LineFault::Json),
     }
-}
-
-#[cycle(floats)]
-fn items_have_float(items: &Vec<Value>) -> bool
-    ensures { result ≡ items_have_float (items_view items.now.items) }
-{
-    for item in items {
-        if has_float(item) {
-            return true;
-        }
-    }
-    false
-}
-
-#[cycle(floats)]
-fn members_have_float(members: &Map<String, Value>) -> bool
-    ensures { result ≡ members_have_float (members_view members.now.entries) }
-{
-    for (_, member) in members.iter() {
-        if has_float(member) {
-            return true;
-        }
-    }
-    false
-}
-
-fn chksum_of(member: Option<&Value>) -> Option<Chksum>
-    ensures { result ≡ chksum_of_data (option_map (λ v. view v.now) member.entry) }
-{
-    let text = member.and_then(Value::as_str)?;
-    Chksum::parse(text).ok()
 }
 
 /// The members that a version may leave out.
-fn optional_of(alloc: Global, value: &Value) -> Result<Option<OptionalMembers>, NoMemory>
-    ensures { IfOk result (λ o. o ≡ optional_of (view value.now)) }
+fn optional_of(alloc: Global, value: &Value) -> Result<OptionalMembers, LineFault>
+    ensures ok { IfOk result (λ o. record_spec.optional_of (view value.now) ≡ Some o) }
+    ensures json { result ≡ Err LineFault.Json
+        → record_spec.optional_of (view value.now) ≡ None }
 {
-    let Some(features2) = lists_or_null(alloc, value.get("features2"))? else {
-        return Ok(None);
-    };
-    let Some(yanked) = flag_or_false(value.get("yanked")) else {
-        return Ok(None);
-    };
-    let Some(links) = text_or_null(value.get("links")) else {
-        return Ok(None);
-    };
-    let Some(rust_version) = text_or_null(value.get("rust_version")) else {
-        return Ok(None);
-    };
-    let Some(pubtime) = text_or_null(value.get("pubtime")) else {
-        return Ok(None);
-    };
-    let Some(v) = small_or_null(value.get("v")) else {
-        return Ok(None);
-    };
-    Ok(Some(OptionalMembers {
+    let features2 = lists_or_null(alloc, value.get("features2"))?;
+    let yanked = flag_or_false(value.get("yanked"))?;
+    let links = text_or_null(value.get("links"))?;
+    let rust_version = text_or_null(value.get("rust_version"))?;
+    let pubtime = text_or_null(value.get("pubtime"))?;
+    let v = u32_or_null(value.get("v"))?;
+    Ok(OptionalMembers {
         features2,
         yanked,
         links: Text::of_option(alloc, links)?,
         rust_version: Text::of_option(alloc, rust_version)?,
         pubtime: Text::of_option(alloc, pubtime)?,
         v,
-    }))
+    })
 }
 
 /// The version that a value is.
-fn version_of(alloc: Global, value: &Value) -> Result<Option<IndexVersion>, NoMemory>
-    ensures { IfOk result (λ r. r ≡ record_of_data (view value.now)) }
+fn version_of(alloc: Global, value: &Value) -> Result<IndexVersion, LineFault>
+    ensures ok { IfOk result (λ r. record_of_data (view value.now) ≡ Some r) }
+    ensures json { result ≡ Err LineFault.Json → record_of_data (view value.now) ≡ None }
 {
-    let Some(name) = value.get("name").and_then(Value::as_str) else {
-        return Ok(None);
-    };
-    let Some(version) = value.get("vers").and_then(Value::as_str) else {
-        return Ok(None);
-    };
-    let Some(deps) = value.get("deps").and_then(Value::as_array) else {
-        return Ok(None);
-    };
-    let Some(deps) = dependencies_of(alloc, deps)? else {
-        return Ok(None);
-    };
-    let Some(checksum) = chksum_of(value.get("cksum")) else {
-        return Ok(None);
-    };
-    let Some(features) = lists_at(alloc, value, "features")? else {
-        return Ok(None);
-    };
-    let Some(optional) = optional_of(alloc, value)? else {
-        return Ok(None);
-    };
-    Ok(Some(IndexVersion {
+    let name = text_at(value, "name")?;
+    let version = text_at(value, "vers")?;
+    let deps = dependencies_at(alloc, value, "deps")?;
+    let checksum = chksum_of(value.get("cksum"))?;
+    let features = lists_at(alloc, value, "features")?;
+    let optional = optional_of(alloc, value)?;
+    Ok(IndexVersion {
         name: Text::of(alloc, name)?,
         version: Text::of(alloc, version)?,
         deps,
@@ -183,62 +112,24 @@ fn version_of(alloc: Global, value: &Value) -> Result<Option<IndexVersion>, NoMe
         features,
         features2: optional.features2,
         v: optional.v,
-    }))
-}
-
-/// The JSON value of a text; no value where it is no JSON.
-fn parse(alloc: Global, text: &str) -> Result<Option<Value>, NoMemory>
-    ensures { IfOk result (λ v. option_map (λ v. view v) v ≡ read text.now) }
-{
-    match Value::from_str(alloc, text) {
-        Ok(value) => Ok(Some(value)),
-        Err(error) => {
-            if error.is_memory() {
-                Err(NoMemory)
-            } else {
-                Ok(None)
-            }
-        }
-    }
-}
-
-/// The value that bytes are: UTF-8, one JSON value, of equal keys the last, and no float anywhere;
-/// nothing for other bytes (RFC 8259).
-pub fn read_value(alloc: Global, bytes: &[u8]) -> Result<Option<Value>, NoMemory>
-    ensures { IfOk result (λ v. option_map (λ v. view v) v ≡ value_of bytes.now) }
-{
-    let Some(text) = utf8_text(bytes) else {
-        return Ok(None);
-    };
-    let Some(value) = parse(alloc, text)? else {
-        return Ok(None);
-    };
-    if has_float(&value) {
-        return Ok(None);
-    }
-    Ok(Some(value))
+    })
 }
 
 impl IndexVersion {
     /// The version that a line of the index is: a UTF-8 JSON object without floats, whose
-    /// members have the forms of the index; of equal keys the last counts.
+    /// members have the forms of the index; of equal keys the last counts. Any other is `Json`.
     pub fn read_line(alloc: Global, line: &[u8]) -> Result<IndexVersion, LineFault>
         ensures ok { IfOk result (λ r. record_of line.now ≡ Some r) }
         ensures json { result ≡ Err LineFault.Json → record_of line.now ≡ None }
     {
-        let Some(value) = read_value(alloc, line)? else {
-            return Err(LineFault::Json);
-        };
-        match version_of(alloc, &value)? {
-            Some(version) => Ok(version),
-            None => Err(LineFault::Json),
-        }
+        let value = read_value(alloc, line)?;
+        version_of(alloc, &value)
     }
 
     /// A version of this name and this version's text: without dependencies and features, with
     /// a digest of zeros, not yanked, and with nothing else.
     pub fn fake(alloc: Global, name: &str, version: &str) -> Result<IndexVersion, NoMemory>
-        ensures { IfOk result (λ r. r ≡ fake name.now version.now) }
+        ensures { IfOk result (λ r. r ≡ record_spec.fake name.now version.now) }
     {
         let name = Text::of(alloc, name)?;
         let version = Text::of(alloc, version)?;
@@ -293,10 +184,10 @@ impl IndexVersion {
     }
 
     /// What an audit keeps of it.
-    pub fn into_head(self) -> VersionHead
-        ensures { result ≡ head_of self }
+    pub fn into_version_flag(self) -> VersionFlag
+        ensures { result ≡ version_flag self }
     {
-        VersionHead {
+        VersionFlag {
             version: self.version,
             yanked: self.yanked,
         }

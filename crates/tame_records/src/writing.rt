@@ -3,11 +3,12 @@ ghost use Rattle.std.specs.Prelude.{◌≡◌, ◌⊎◌, ◌≤◌, ◌<◌, �
 ghost use Rattle.hex.specs.Hex.{encode_lower};
 ghost use Rattle.json.specs.Json.{Members, array, boolean, member, no_members, number, object, string};
 ghost use Rattle.json.specs.Tree.{json_tokens, members_tokens};
-ghost use Rattle.tame_names.specs.Counts.{Rose};
+ghost use Rattle.tame_names.specs.Counts.{CountRose};
 ghost use Rattle.tame_names.specs.Output.{AddsPrefix};
 ghost use Rattle.tame_records.specs.Checksums.{chksum_of};
 ghost use Rattle.tame_records.specs.Record.{record_of};
-ghost use Rattle.tame_records.specs.Written.{AreOrdered, HasForm, dependencies_tree, dependency_tree, json_lines, kind_text, later_members, line, lists_if, lists_tree, number_if, text_if, text_or_null_tree, texts_tree, version_tree};
+ghost use Rattle.tame_records.specs.Written.{AreOrdered, HasForm, dependencies_tree, dependency_tree, json_lines, later_members, line, lists_if, lists_tree, number_if, text_if, text_or_null_tree, texts_tree, version_tree};
+ghost use Rattle.tame_records.specs.Written as spec;
 
 use crate::dependencies::{DependencyKind, IndexDependency};
 use crate::krates::IndexKrate;
@@ -63,7 +64,8 @@ fn write_number_if(writer: &mut Writer, name: &str, number: Option<u32>) -> Resu
 
 fn write_texts(writer: &mut Writer, texts: &Items<Text>) -> Result<(), AllocError>
     ensures before { writer.new.before ≡ writer.old.before }
-    ensures written { OnOk result (writer.new.tokens ≡ writer.old.tokens ++ json_tokens (array (texts_tree texts.now))) }
+    ensures written { OnOk result (writer.new.tokens
+        ≡ writer.old.tokens ++ json_tokens (array (texts_tree texts.now))) }
 {
     writer.begin_array()?;
     for text in texts.as_slice() {
@@ -74,7 +76,8 @@ fn write_texts(writer: &mut Writer, texts: &Items<Text>) -> Result<(), AllocErro
 
 fn write_lists(writer: &mut Writer, lists: &Features) -> Result<(), AllocError>
     ensures before { writer.new.before ≡ writer.old.before }
-    ensures written { OnOk result (writer.new.tokens ≡ writer.old.tokens ++ json_tokens (object (lists_tree lists.now))) }
+    ensures written { OnOk result (writer.new.tokens
+        ≡ writer.old.tokens ++ json_tokens (object (lists_tree lists.now))) }
     ensures ordered { OnOk result (AreOrdered lists.now) }
 {
     writer.begin_object()?;
@@ -106,7 +109,8 @@ fn write_lists_if(
 
 fn write_target(writer: &mut Writer, target: &Option<Text>) -> Result<(), AllocError>
     ensures before { writer.new.before ≡ writer.old.before }
-    ensures written { OnOk result (writer.new.tokens ≡ writer.old.tokens ++ json_tokens (text_or_null_tree target.now)) }
+    ensures written { OnOk result (writer.new.tokens
+        ≡ writer.old.tokens ++ json_tokens (text_or_null_tree target.now)) }
 {
     match target {
         None => writer.null(),
@@ -115,7 +119,7 @@ fn write_target(writer: &mut Writer, target: &Option<Text>) -> Result<(), AllocE
 }
 
 fn kind_text(kind: DependencyKind) -> &'static str
-    ensures { result.now ≡ kind_text kind }
+    ensures { result.now ≡ spec.kind_text kind }
 {
     match kind {
         DependencyKind::Normal => "normal",
@@ -127,7 +131,8 @@ fn kind_text(kind: DependencyKind) -> &'static str
 fn write_kind(writer: &mut Writer, kind: DependencyKind) -> Result<(), AllocError>
     ensures before { writer.new.before ≡ writer.old.before }
     ensures written { OnOk result ((more : Members) → writer.new.tokens ++ members_tokens more
-        ≡ writer.old.tokens ++ members_tokens (member (codes "kind") (string (kind_text kind)) more)) }
+        ≡ writer.old.tokens ++ members_tokens
+        (member (codes "kind") (string (spec.kind_text kind)) more)) }
 {
     writer.key("kind")?;
     writer.string(kind_text(kind))
@@ -135,7 +140,8 @@ fn write_kind(writer: &mut Writer, kind: DependencyKind) -> Result<(), AllocErro
 
 fn write_dependency(writer: &mut Writer, dependency: &IndexDependency) -> Result<(), AllocError>
     ensures before { writer.new.before ≡ writer.old.before }
-    ensures written { OnOk result (writer.new.tokens ≡ writer.old.tokens ++ json_tokens (dependency_tree dependency.now)) }
+    ensures written { OnOk result (writer.new.tokens
+        ≡ writer.old.tokens ++ json_tokens (dependency_tree dependency.now)) }
 {
     writer.begin_object()?;
     write_text(writer, "name", &dependency.name)?;
@@ -156,7 +162,8 @@ fn write_dependencies(
     dependencies: &Items<IndexDependency>,
 ) -> Result<(), AllocError>
     ensures before { writer.new.before ≡ writer.old.before }
-    ensures written { OnOk result (writer.new.tokens ≡ writer.old.tokens ++ json_tokens (array (dependencies_tree dependencies.now))) }
+    ensures written { OnOk result (writer.new.tokens
+        ≡ writer.old.tokens ++ json_tokens (array (dependencies_tree dependencies.now))) }
 {
     writer.begin_array()?;
     for dependency in dependencies.as_slice() {
@@ -168,7 +175,8 @@ fn write_dependencies(
 /// Writes the members behind the features.
 fn write_later(writer: &mut Writer, version: &IndexVersion) -> Result<(), AllocError>
     ensures before { writer.new.before ≡ writer.old.before }
-    ensures written { OnOk result (writer.new.tokens ++ members_tokens no_members ≡ writer.old.tokens ++ members_tokens (later_members version.now)) }
+    ensures written { OnOk result (writer.new.tokens ++ members_tokens no_members
+        ≡ writer.old.tokens ++ members_tokens (later_members version.now)) }
     ensures ordered { OnOk result (IfSome version.now.features2 AreOrdered) }
     ensures small { OnOk result (IfSome version.now.v (λ n. n < 2 ^ 32)) }
 {
@@ -188,7 +196,8 @@ fn write_version(
     requires digits { digits.now ≡ encode_lower version.now.checksum.0 }
     requires parses { chksum_of digits.now ≡ Ok version.now.checksum }
     ensures before { writer.new.before ≡ writer.old.before }
-    ensures written { OnOk result (writer.new.tokens ≡ writer.old.tokens ++ json_tokens (version_tree version.now)) }
+    ensures written { OnOk result (writer.new.tokens
+        ≡ writer.old.tokens ++ json_tokens (version_tree version.now)) }
     ensures form { OnOk result (HasForm version.now) }
 {
     writer.begin_object()?;
@@ -233,7 +242,8 @@ impl IndexVersion {
         ensures part { S.tells → AddsPrefix (S.holds sink.old) (line self.now) (S.holds sink.new) }
         ensures count { IfOk result (λ n. n ≡ length (line self.now)) }
         ensures later { S.faults sink.old ≤ S.faults sink.new }
-        ensures failed { IfErr result (λ e. (e ≡ Error.NoMemory) ⊎ ((e ≡ Error.Io IoKind.Failed) × Rose (S.faults sink.old) (S.faults sink.new))) }
+        ensures failed { IfErr result (λ e. (e ≡ Error.NoMemory)
+            ⊎ ((e ≡ Error.Io IoKind.Failed) × CountRose (S.faults sink.old) (S.faults sink.new))) }
         ensures same { S.tells → result ≡ Err Error.NoMemory → S.holds sink.new ≡ S.holds sink.old }
         // the line is read as this version
         ensures reads_back { OnOk result (record_of (line self.now) ≡ Some self.now) }
@@ -247,11 +257,14 @@ impl IndexKrate {
     /// Puts the lines of the versions, each ended by a newline, and answers the number of their
     /// bytes. `Io(Failed)` where the sink failed, which then holds a part of them.
     pub fn write_json_lines<S: Sink>(&self, alloc: Global, sink: &mut S) -> Result<u64, Error>
-        ensures put { S.tells → OnOk result (S.holds sink.new ≡ S.holds sink.old ++ json_lines self.now.versions) }
-        ensures part { S.tells → AddsPrefix (S.holds sink.old) (json_lines self.now.versions) (S.holds sink.new) }
+        ensures put { S.tells → OnOk result
+            (S.holds sink.new ≡ S.holds sink.old ++ json_lines self.now.versions) }
+        ensures part { S.tells → AddsPrefix (S.holds sink.old) (json_lines self.now.versions)
+            (S.holds sink.new) }
         ensures count { IfOk result (λ n. n ≡ length (json_lines self.now.versions)) }
         ensures later { S.faults sink.old ≤ S.faults sink.new }
-        ensures failed { IfErr result (λ e. (e ≡ Error.NoMemory) ⊎ ((e ≡ Error.Io IoKind.Failed) × Rose (S.faults sink.old) (S.faults sink.new))) }
+        ensures failed { IfErr result (λ e. (e ≡ Error.NoMemory)
+            ⊎ ((e ≡ Error.Io IoKind.Failed) × CountRose (S.faults sink.old) (S.faults sink.new))) }
         ensures same { S.tells → result ≡ Err Error.NoMemory → S.holds sink.new ≡ S.holds sink.old }
     {
         let bytes = with_lines(alloc, self.versions.as_slice())?;

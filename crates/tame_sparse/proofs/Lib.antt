@@ -1,4 +1,4 @@
-mod Configs
+mod ConfigLemmas
 mod Fields
 mod Visible
 pub mod Stored

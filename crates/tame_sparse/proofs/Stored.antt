@@ -7,18 +7,18 @@ use Rattle.tame_names.specs.Names.{path}
 use Rattle.tame_names.specs.Pieces.{onto_first, pieces}
 use Rattle.tame_records.specs.Lines.{lines, trimmed}
 use Rattle.tame_entry.specs.Entry.{has_no_zero, is_storable, is_storable_pair, pair_of, pairs}
-use Rattle.tame_entry.specs.Held.{Maps, ServerMap}
+use Rattle.tame_entry.specs.ServerMaps.{Maps, ServerMap}
 use Rattle.tame_entry.specs.Lines.{invalid, plain}
 use Rattle.tame_entry.specs.Revision.{EntryRevision, entry_text}
 use Rattle.tame_entry.specs.declared.revisions.OwnedRevision.{OwnedRevision}
 use Rattle.tame_entry.proofs.EntryLemmas.{plain_lines}
 use Rattle.tame_entry.proofs.Zeros.{NoZero, NoneZero, and_true, pair_same}
 use Rattle.tame_cache.specs.Disk.{EachMoment, Step, may_leave}
-use Rattle.tame_cache.specs.Gate.{IsOrderly, IsRefused}
+use Rattle.tame_cache.specs.Gate.{IsOrderly, IsUnreadable}
 use Rattle.tame_cache.specs.Kept.{Disk, IsKept, IsWrittenFor, Keeps, cache_file_of}
 use Rattle.tame_cache.proofs.KeptLemmas.{keeps_same}
 use Rattle.tame_cache.proofs.Moments.{started}
-use Rattle.tame_sparse.specs.Answered.{IsToStore, Stores, entry_of, stored_under}
+use Rattle.tame_sparse.specs.ResponseResults.{IsToStore, Stores, entry_of, stored_under}
 use Rattle.tame_sparse.specs.declared.network.WireAnswer.{WireAnswer}
 
 -- ---- a body whose lines have no zero byte has none
@@ -106,7 +106,7 @@ stores_same root name answer write old new same = record {
   unstored = λ other. same;
   others = λ q other. same q;
   any_moment = λ q is ordered.
-      let P : List Step → Type 0 = λ past. EachMoment (old q) past (λ file. may_leave (old q) file ⊎ (IsRefused file ⊎ (file ≡ Some (entry_of answer)))) in
+      let P : List Step → Type 0 = λ past. EachMoment (old q) past (λ file. may_leave (old q) file ⊎ (IsUnreadable file ⊎ (file ≡ Some (entry_of answer)))) in
       subst P (sym (same q)) (started (old q) _ (λ file now. inl now));
   orderly = λ q is ordered. subst IsOrderly (sym (same q)) ordered;
   kept = λ m held kept. keeps_same m root old new same kept;
@@ -117,7 +117,7 @@ stores_same root name answer write old new same = record {
 pub stores_written : (root name : List ℕ) (answer : WireAnswer) (write : Bool) (old new : Disk) → answer.status ≡ 200 → write ≡ true → invalid answer.body ≡ None
     → ((IsTrue (is_storable (stored_under answer.revision) (pairs answer.body)) → ⊥) → (q : List ℕ) → new q ≡ old q)
     → ((q : List ℕ) → cache_file_of root name ≢ Some q → new q ≡ old q)
-    → ((q : List ℕ) → cache_file_of root name ≡ Some q → IsOrderly (old q) → EachMoment (old q) (new q) (λ file. may_leave (old q) file ⊎ (IsRefused file ⊎ (file ≡ Some (entry_of answer)))))
+    → ((q : List ℕ) → cache_file_of root name ≡ Some q → IsOrderly (old q) → EachMoment (old q) (new q) (λ file. may_leave (old q) file ⊎ (IsUnreadable file ⊎ (file ≡ Some (entry_of answer)))))
     → ((q : List ℕ) → cache_file_of root name ≡ Some q → IsOrderly (old q) → IsOrderly (new q))
     → ((m : ServerMap) → ((p : List ℕ) → path name ≡ Some p → IsTrue (is_storable (stored_under answer.revision) (pairs answer.body)) → IsWrittenFor m p (stored_under answer.revision) (pairs answer.body))
     → IsKept m root old → Keeps m root old new)

@@ -14,10 +14,17 @@ crates_io_uri path = codes "https://index.crates.io/" ++ path
 -- one exchange more, of this request and with this answer, whatever was held
 abbrev pub AddsOne : List Exchange → List Exchange → Request → Option WireAnswer → Type 0
 AddsOne before now request answer =
-    (held : Option Held) × (now ≡ before ++ record { url = request.uri; path = request.path; named = request.named; held = held; answer = answer } ∷ [])
+    (held : Option Held) × (now ≡ before ++ record {
+      url = request.uri;
+      path = request.path;
+      named = request.named;
+      held = held;
+      answer = answer;
+    } ∷ [])
 
 -- an answer and a fault are one exchange more each, want of memory is none
-abbrev pub AddsExchange : List Exchange → List Exchange → Request → Result WireAnswer WireFault → Type 0
+abbrev pub AddsExchange : List Exchange → List Exchange → Request → Result WireAnswer WireFault
+    → Type 0
 AddsExchange before now request (Ok answer) = AddsOne before now request (Some answer)
 AddsExchange before now request (Err wire_fault.Failed) = AddsOne before now request None
 AddsExchange before now request (Err wire_fault.NoMemory) = now ≡ before

@@ -1,4 +1,5 @@
--- What a git index stores: the lines of a crate's versions under a commit (Cargo Book, "Registry Index", git protocol).
+-- What a git index stores: the lines of a crate's versions under a commit (Cargo Book, "Registry
+-- Index", git protocol).
 use Rattle.std.specs.Prelude.{ℕ, List, [], ◌∷◌, map, Option, Some, None}
 use Rattle.tame_records.specs.declared.versions.IndexVersion.{IndexVersion}
 use Rattle.tame_entry.specs.Entry.{Pair, version_pair}

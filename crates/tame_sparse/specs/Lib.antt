@@ -1,4 +1,4 @@
-pub mod Answered
+pub mod ResponseResults
 pub mod Conditions
 pub mod Etags
 pub mod Exchanges

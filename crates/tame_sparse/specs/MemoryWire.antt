@@ -14,7 +14,13 @@ item_at script number = unwrap_or (slice_get script number) (record { held = Non
 -- the exchange of a request and an item was added, or none
 abbrev pub MayAddItem : List Exchange → List Exchange → Request → Scripted → Type 0
 MayAddItem before now request item =
-    (now ≡ before) ⊎ (now ≡ before ++ record { url = request.uri; path = request.path; named = request.named; held = item.held; answer = item.answer } ∷ [])
+    (now ≡ before) ⊎ (now ≡ before ++ record {
+      url = request.uri;
+      path = request.path;
+      named = request.named;
+      held = item.held;
+      answer = item.answer;
+    } ∷ [])
 
 -- an item's answer is given, and a call fails exactly where it has none; memory may run out
 abbrev pub GivesItem : Scripted → Result WireAnswer WireFault → Type 0

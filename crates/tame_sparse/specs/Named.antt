@@ -1,8 +1,9 @@
--- What a request names: the revision that need not be sent again (RFC 9110, sections 13.1.2 and 13.1.3).
+-- What a request names: the revision that need not be sent again (RFC 9110, sections 13.1.2 and
+-- 13.1.3).
 use Rattle.std.specs.Prelude.{◌≡◌, ◌⊎◌, ℕ, length, ◌==◌, Option, Some, None, Result, Ok, Err, if◌then◌else◌}
 use Rattle.std.specs.Str.{trim}
 use Rattle.http_header.specs.FieldValue.{is_visible_text}
-use Rattle.tame_names.specs.Counts.{IsQuiet}
+use Rattle.tame_names.specs.Counts.{CountStayed}
 use Rattle.tame_names.specs.declared.errors.CacheError.{CacheError}
 use Rattle.tame_names.specs.declared.errors.Error.{Error}
 use Rattle.tame_names.specs.declared.errors.Error.TheVariants.{Http as HttpFault}
@@ -27,7 +28,8 @@ unless_empty r = if length (revision_text r) == 0 then None else Some r
 abbrev pub if_visible : OwnedRevision → Option OwnedRevision
 if_visible r = if is_visible_text (revision_text r) then unless_empty r else None
 
--- what may be named of an HTTP revision: its text is trimmed, and then isn't empty and has only bytes that are tab or 32 to 126
+-- what may be named of an HTTP revision: its text is trimmed, and then isn't empty and has only
+-- bytes that are tab or 32 to 126
 abbrev pub named_http : OwnedRevision → Option OwnedRevision
 named_http r = if_visible (trimmed r)
 
@@ -53,11 +55,15 @@ named_entry (Remote json_lines) = None
 named_entry (Cache bytes) = named_read (read_entry bytes)
 named_entry (Local bytes) = None
 
--- a request names what the file's revision allows, where no call on the disk failed; else that or nothing
+-- a request names what the file's revision allows, where no call on the disk failed; else that or
+-- nothing
 pub record NamesKept (file : File) (before now : ℕ) (named : Option OwnedRevision) : Type 0 where
-  pub quiet : IsQuiet before now → named ≡ named_file file
+  pub quiet : CountStayed before now → named ≡ named_file file
   pub else_nothing : (named ≡ None) ⊎ (named ≡ named_file file)
 
--- what a revision names that was handed in: it is refused where another byte stands in its trimmed text, and the empty text names nothing
+-- what a revision names that was handed in: it is refused where another byte stands in its trimmed
+-- text, and the empty text names nothing
 abbrev pub handed : OwnedRevision → Result (Option OwnedRevision) Error
-handed r = if is_visible_text (revision_text (trimmed r)) then Ok (unless_empty (trimmed r)) else Err (HttpFault InvalidHeaderValue)
+handed r =
+    if is_visible_text (revision_text (trimmed r)) then Ok (unless_empty (trimmed r))
+    else Err (HttpFault InvalidHeaderValue)

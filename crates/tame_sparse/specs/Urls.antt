@@ -8,7 +8,7 @@ use Rattle.tame_names.specs.declared.errors.Error.{Error}
 use Rattle.tame_names.specs.declared.errors.Error.TheVariants as error
 use Rattle.tame_names.specs.declared.errors.IoKind.TheVariants as io_kind
 use Rattle.tame_entry.specs.Config.{config_of}
-use Rattle.tame_entry.specs.Revision.{after}
+use Rattle.tame_entry.specs.Prefixes.{without_prefix}
 use Rattle.tame_entry.specs.declared.config.IndexConfig.{IndexConfig}
 
 -- the url is one of a sparse index
@@ -17,7 +17,7 @@ is_sparse_url url = starts_with nat_eq url (codes "sparse+http")
 
 -- a url without what marks it as one of a sparse index
 abbrev pub http_url : List ℕ → List ℕ
-http_url url = unwrap_or (after (codes "sparse+") url) url
+http_url url = unwrap_or (without_prefix (codes "sparse+") url) url
 
 -- the url of a name's file: that of the index, and the path of the name
 abbrev pub crate_url : List ℕ → List ℕ → Option (List ℕ)
@@ -29,9 +29,14 @@ crate_url url name = option_map (λ p. http_url url ++ p) (path name)
 abbrev pub config_file : List ℕ → List ℕ
 config_file root = join root (codes "config.json")
 
--- what stands there, read as a configuration, where the files tell it; and these refusals are all there are
+-- what stands there, read as a configuration, where the files tell it; and these refusals are all
+-- there are
 abbrev pub IsConfigRead : Type 0 → List ℕ → Standing → Result IndexConfig Error → Type 0
-IsConfigRead told place standing (Ok config) = told → (bytes : List ℕ) × (standing ≡ File bytes) × (config_of bytes ≡ Some config)
-IsConfigRead told place standing (Err (error.IoPath io_kind.NotFound p)) = (p ≡ place) × (told → standing ≡ Nothing)
-IsConfigRead told place standing (Err (error.Json line)) = (line ≡ 0) × (told → (bytes : List ℕ) × (standing ≡ File bytes) × (config_of bytes ≡ None))
-IsConfigRead told place standing (Err e) = (e ≡ error.NoMemory) ⊎ (e ≡ error.IoPath io_kind.Failed place)
+IsConfigRead told place standing (Ok config) =
+    told → (bytes : List ℕ) × (standing ≡ File bytes) × (config_of bytes ≡ Some config)
+IsConfigRead told place standing (Err (error.IoPath io_kind.NotFound p)) =
+    (p ≡ place) × (told → standing ≡ Nothing)
+IsConfigRead told place standing (Err (error.Json line)) =
+    (line ≡ 0) × (told → (bytes : List ℕ) × (standing ≡ File bytes) × (config_of bytes ≡ None))
+IsConfigRead told place standing (Err e) =
+    (e ≡ error.NoMemory) ⊎ (e ≡ error.IoPath io_kind.Failed place)

@@ -1,16 +1,17 @@
 //! The entity tags that were seen last.
 ghost use Rattle.std.specs.Prelude.{◌≡◌, ◌≢◌, ◌⊎◌, ◌≤◌, ◌+◌, ◌++◌, ℕ, List, Ok, Err, Some, None, IfOk, IfErr, OnOk, OnErr, bytes_eq, option_map, true, if◌then◌else◌};
-ghost use Rattle.tame_names.specs.Counts.{IsQuiet, Rose};
+ghost use Rattle.tame_names.specs.Counts.{CountStayed, CountRose};
 ghost use Rattle.tame_names.specs.KrateNames.{text_of};
 ghost use Rattle.tame_names.specs.Names.{path};
-ghost use Rattle.tame_entry.specs.Held.{ServerMap};
+ghost use Rattle.tame_entry.specs.ServerMaps.{ServerMap};
 ghost use Rattle.tame_entry.specs.declared.revisions.OwnedRevision.TheVariants.{Etag};
 ghost use Rattle.tame_cache.specs.CacheFiles.{HandsOut};
 ghost use Rattle.tame_cache.specs.Disk.{reads};
 ghost use Rattle.tame_cache.specs.Folders.{MakesOnly};
 ghost use Rattle.tame_cache.specs.Kept.{IsKept, Keeps, cache_file_of};
-ghost use Rattle.tame_sparse.specs.Answered.{IsTaken, IsToStore, Stores, StoresWhole, came};
-ghost use Rattle.tame_sparse.specs.Etags.{after_response, etag_at, seen_etag, with_etag};
+ghost use Rattle.tame_sparse.specs.ResponseResults.{IsResponseResult, IsToStore, Stores, StoresWhole, came};
+ghost use Rattle.tame_sparse.specs.Etags.{after_response, etag_at, with_etag};
+ghost use Rattle.tame_sparse.specs.Etags as spec;
 ghost use Rattle.tame_sparse.specs.Named.{NamesKept, handed};
 ghost use Rattle.tame_sparse.specs.Urls.{http_url};
 
@@ -51,7 +52,9 @@ impl EtagCache {
 
     /// Remembers the tag of a name in place of the one before.
     fn remember(&mut self, alloc: Global, name: &str, etag: &str) -> Result<(), NoMemory>
-        ensures remembered { OnOk result ((n : List ℕ) → etag_at self.new n ≡ with_etag name.now etag.now n (etag_at self.old n)) }
+        ensures remembered { OnOk result
+            ((n : List ℕ) → etag_at self.new n
+            ≡ with_etag name.now etag.now n (etag_at self.old n)) }
         ensures same { OnErr result ((n : List ℕ) → etag_at self.new n ≡ etag_at self.old n) }
     {
         let key = String::from_str(alloc, name)?;
@@ -64,7 +67,10 @@ impl EtagCache {
 
     /// Remembers the tag of a name, where there is one.
     fn see(&mut self, alloc: Global, name: &str, seen: Option<&str>) -> Result<(), NoMemory>
-        ensures remembered { OnOk result ((n : List ℕ) → etag_at self.new n ≡ after_response name.now (option_map (λ etag. etag.now) seen.entry) n (etag_at self.old n)) }
+        ensures remembered { OnOk result
+            ((n : List ℕ) → etag_at self.new n
+            ≡ after_response name.now (option_map (λ etag. etag.now) seen.entry) n
+            (etag_at self.old n)) }
         ensures same { OnErr result ((n : List ℕ) → etag_at self.new n ≡ etag_at self.old n) }
     {
         match seen {
@@ -84,17 +90,26 @@ impl EtagCache {
         disk: &mut D,
     ) -> Result<Request, Error>
         ensures path { IfOk result (λ request. path (text_of name.entry) ≡ Some request.path) }
-        ensures uri { IfOk result (λ request. request.uri ≡ http_url index.now.url ++ request.path) }
+        ensures uri { IfOk result (λ request. request.uri
+            ≡ http_url index.now.url ++ request.path) }
         // what is named
-        ensures kept_named { D.tells → etag_at self.now (text_of name.entry) ≡ None → (q : List ℕ) → cache_file_of index.now.cache.path (text_of name.entry) ≡ Some q
-            → IfOk result (λ request. NamesKept (reads (D.past disk.old q)) (D.faults disk.old) (D.faults disk.new) request.named) }
-        ensures handed { (etag : List ℕ) → etag_at self.now (text_of name.entry) ≡ Some etag → IfOk result (λ request. handed (Etag etag) ≡ Ok request.named) }
-        ensures refused { IfErr result (λ e. (e ≡ Error.NoMemory) ⊎ ((etag : List ℕ) × (etag_at self.now (text_of name.entry) ≡ Some etag) × (handed (Etag etag) ≡ Err e))) }
+        ensures kept_named { D.tells → etag_at self.now (text_of name.entry) ≡ None → (q : List ℕ)
+            → cache_file_of index.now.cache.path (text_of name.entry) ≡ Some q
+            → IfOk result (λ request. NamesKept (reads (D.past disk.old q)) (D.faults disk.old)
+            (D.faults disk.new) request.named) }
+        ensures handed { (etag : List ℕ) → etag_at self.now (text_of name.entry) ≡ Some etag
+            → IfOk result (λ request. handed (Etag etag) ≡ Ok request.named) }
+        ensures refused { IfErr result
+            (λ e. (e ≡ Error.NoMemory)
+            ⊎ ((etag : List ℕ) × (etag_at self.now (text_of name.entry) ≡ Some etag)
+            × (handed (Etag etag) ≡ Err e))) }
         // no file changes, and none is read where a tag was seen
         ensures same { D.tells → (q : List ℕ) → D.past disk.new q ≡ D.past disk.old q }
         ensures folders { D.tells → D.folders disk.new ≡ D.folders disk.old }
-        ensures kept { D.tells → (m : ServerMap) → IsKept m index.now.cache.path (D.past disk.old) → Keeps m index.now.cache.path (D.past disk.old) (D.past disk.new) }
-        ensures uncalled { (etag : List ℕ) → etag_at self.now (text_of name.entry) ≡ Some etag → disk.new ≡ disk.old }
+        ensures kept { D.tells → (m : ServerMap) → IsKept m index.now.cache.path (D.past disk.old)
+            → Keeps m index.now.cache.path (D.past disk.old) (D.past disk.new) }
+        ensures uncalled { (etag : List ℕ) → etag_at self.now (text_of name.entry) ≡ Some etag
+            → disk.new ≡ disk.old }
         ensures calls { D.made disk.new ≤ D.made disk.old + 1 }
         ensures later { D.faults disk.old ≤ D.faults disk.new }
     {
@@ -119,18 +134,28 @@ impl EtagCache {
         disk: &mut D,
     ) -> Result<Option<IndexEntry<'r, 'l>>, Error>
         // what is remembered
-        ensures remembered { result ≢ Err Error.NoMemory → (n : List ℕ) → etag_at self.new n ≡ after_response (text_of name.entry) (seen_etag response.entry.revision) n (etag_at self.old n) }
-        ensures unremembered { result ≡ Err Error.NoMemory → (n : List ℕ) → etag_at self.new n ≡ etag_at self.old n }
+        ensures remembered { result ≢ Err Error.NoMemory → (n : List ℕ)
+            → etag_at self.new n ≡ after_response (text_of name.entry)
+            (spec.seen_etag response.entry.revision) n (etag_at self.old n) }
+        ensures unremembered { result ≡ Err Error.NoMemory → (n : List ℕ)
+            → etag_at self.new n ≡ etag_at self.old n }
         // by the status; at 304 what a read of the file gave
-        ensures taken { (result ≡ Err Error.NoMemory) ⊎ IsTaken response.entry result }
-        ensures read { D.tells → response.entry.status ≡ 304 → (q : List ℕ) → cache_file_of index.now.cache.path (text_of name.entry) ≡ Some q
+        ensures taken { (result ≡ Err Error.NoMemory) ⊎ IsResponseResult response.entry result }
+        ensures read { D.tells → response.entry.status ≡ 304 → (q : List ℕ)
+            → cache_file_of index.now.cache.path (text_of name.entry) ≡ Some q
             → IfOk result (λ e. HandsOut e (reads (D.past disk.old q))) }
-        ensures rose { result ≡ Err (Error.Io IoKind.Failed) → (response.entry.status ≡ 304) × Rose (D.faults disk.old) (D.faults disk.new) }
+        ensures rose { result ≡ Err (Error.Io IoKind.Failed)
+            → (response.entry.status ≡ 304) × CountRose (D.faults disk.old) (D.faults disk.new) }
         // what is stored
-        ensures stores { D.tells → Stores index.now.cache.path (text_of name.entry) (came response.entry) write_cache_entry (D.past disk.old) (D.past disk.new) }
-        ensures stored { D.tells → IsQuiet (D.faults disk.old) (D.faults disk.new) → write_cache_entry ≡ true → IsToStore (came response.entry)
-            → OnOk result (StoresWhole index.now.cache.path (text_of name.entry) (came response.entry) (D.past disk.new)) }
-        ensures folders { D.tells → MakesOnly (λ q. cache_file_of index.now.cache.path (text_of name.entry) ≡ Some q) (D.folders disk.old) (D.folders disk.new) }
+        ensures stores { D.tells → Stores index.now.cache.path (text_of name.entry)
+            (came response.entry) write_cache_entry (D.past disk.old) (D.past disk.new) }
+        ensures stored { D.tells → CountStayed (D.faults disk.old) (D.faults disk.new)
+            → write_cache_entry ≡ true → IsToStore (came response.entry)
+            → OnOk result (StoresWhole index.now.cache.path (text_of name.entry)
+            (came response.entry) (D.past disk.new)) }
+        ensures folders { D.tells → MakesOnly
+            (λ q. cache_file_of index.now.cache.path (text_of name.entry) ≡ Some q)
+            (D.folders disk.old) (D.folders disk.new) }
         ensures calls { D.made disk.new ≤ D.made disk.old + 13 }
         ensures later { D.faults disk.old ≤ D.faults disk.new }
     {
@@ -151,7 +176,7 @@ impl EtagCache {
 
 /// The entity tag that a response has.
 fn seen_etag(revision: Option<HttpRevision<'_>>) -> Option<&str>
-    ensures { option_map (λ etag. etag.now) result ≡ seen_etag revision.entry }
+    ensures { option_map (λ etag. etag.now) result ≡ spec.seen_etag revision.entry }
 {
     match revision {
         Some(HttpRevision::Etag(etag)) => Some(etag),

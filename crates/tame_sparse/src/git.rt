@@ -1,19 +1,20 @@
 //! A git index: its cache alone.
 ghost use Rattle.std.specs.Prelude.{◌≡◌, ◌≢◌, ◌⊎◌, ◌↔◌, ◌≤◌, ◌<◌, ◌+◌, ℕ, List, length, true, false, Ok, Err, Some, None, IsTrue, IfOk, IfErr, option_map};
 ghost use Rattle.hex.specs.Hex.{encode_lower};
-ghost use Rattle.tame_names.specs.Counts.{HasCause, Rose};
+ghost use Rattle.tame_names.specs.Counts.{HasCause, CountRose};
 ghost use Rattle.tame_names.specs.KrateNames.{text_of};
 ghost use Rattle.tame_names.specs.Names.{is_name, refusal, refusal_of};
 ghost use Rattle.tame_names.specs.declared.errors.InvalidKrateName.{InvalidKrateName};
 ghost use Rattle.tame_entry.specs.Entry.{entry, is_storable};
-ghost use Rattle.tame_entry.specs.Held.{ServerMap};
+ghost use Rattle.tame_entry.specs.ServerMaps.{ServerMap};
 ghost use Rattle.tame_entry.specs.Revision.{Commit};
 ghost use Rattle.tame_cache.specs.CacheFiles.{HandsOut};
 ghost use Rattle.tame_cache.specs.Disk.{EachMoment, may_leave, reads};
 ghost use Rattle.tame_cache.specs.Folders.{MakesOnly};
-ghost use Rattle.tame_cache.specs.Gate.{IsOrderly, IsRefused, IsStored};
+ghost use Rattle.tame_cache.specs.Gate.{IsOrderly, IsUnreadable, IsStored};
 ghost use Rattle.tame_cache.specs.Kept.{IsKept, Keeps, cache_file_of};
-ghost use Rattle.tame_sparse.specs.Git.{first_name, stored_id, version_pairs};
+ghost use Rattle.tame_sparse.specs.Git.{version_pairs};
+ghost use Rattle.tame_sparse.specs.Git as spec;
 ghost use Rattle.tame_sparse.specs.Urls.{is_sparse_url};
 
 use crate::urls::is_sparse_url;
@@ -38,9 +39,13 @@ impl GitIndex {
     /// The index at a url, with its cache in the folder of a path, and without a head.
     /// `InvalidUrl(SparseForGit)` where the url begins with `sparse+http`.
     pub fn at(alloc: Global, path: Text, url: &str) -> Result<GitIndex, Error>
-        ensures ok { IfOk result (λ index. (is_sparse_url url.now ≡ false) × (index.cache.path ≡ path) × (index.url ≡ url.now) × (index.head ≡ None)) }
+        ensures ok { IfOk result (λ index. (is_sparse_url url.now ≡ false)
+            × (index.cache.path ≡ path) × (index.url ≡ url.now) × (index.head ≡ None)) }
         ensures refused { IfErr result (λ e. (e ≡ Error.NoMemory)
-            ⊎ ((is_sparse_url url.now ≡ true) × (e ≡ Error.InvalidUrl (record { url = url.now; source = InvalidUrlError.SparseForGit })))) }
+            ⊎ ((is_sparse_url url.now ≡ true) × (e ≡ Error.InvalidUrl (record {
+              url = url.now;
+              source = InvalidUrlError.SparseForGit;
+            })))) }
     {
         let copy = Text::of(alloc, url)?;
         if is_sparse_url(url) {
@@ -94,7 +99,9 @@ impl GitIndex {
         lock: &'l FileLock,
         disk: &mut D,
     ) -> Result<Option<IndexEntry<'static, 'l>>, Error>
-        ensures read { D.tells → (q : List ℕ) → cache_file_of self.now.cache.path (text_of name.entry) ≡ Some q → IfOk result (λ e. HandsOut e (reads (D.past disk.old q))) }
+        ensures read { D.tells → (q : List ℕ)
+            → cache_file_of self.now.cache.path (text_of name.entry) ≡ Some q
+            → IfOk result (λ e. HandsOut e (reads (D.past disk.old q))) }
         ensures same { D.tells → (q : List ℕ) → D.past disk.new q ≡ D.past disk.old q }
         ensures folders { D.tells → D.folders disk.new ≡ D.folders disk.old }
         ensures calls { D.made disk.new ≤ D.made disk.old + 1 }
@@ -117,27 +124,51 @@ impl GitIndex {
     ) -> Result<Option<Kept>, Error>
         requires { 0 < length krate.now.versions }
         // nothing without an id, or with a first name that is none
-        ensures none { (result ≡ Ok None) ↔ (stored_id blob_id self.now.head ≡ None) }
-        ensures nameless { (why : InvalidKrateName) → result ≡ Err (Error.InvalidKrateName why) → refusal_of (first_name krate.now.versions) ≡ Some (refusal why) }
-        ensures nameless_uncalled { (why : InvalidKrateName) → result ≡ Err (Error.InvalidKrateName why) → disk.new ≡ disk.old }
-        ensures named { (kept : Kept) → result ≡ Ok (Some kept) → IsTrue (is_name (first_name krate.now.versions)) }
-        ensures failed_named { result ≡ Err (Error.Io IoKind.Failed) → IsTrue (is_name (first_name krate.now.versions)) }
-        ensures uncalled { (result ≡ Ok None) ⊎ ((result ≡ Ok (Some Kept.NotStored)) ⊎ (result ≡ Err Error.NoMemory)) → disk.new ≡ disk.old }
-        ensures only { IfErr result (λ e. (e ≡ Error.NoMemory) ⊎ ((e ≡ Error.Io IoKind.Failed) ⊎ ((why : InvalidKrateName) × (e ≡ Error.InvalidKrateName why)))) }
+        ensures none { (result ≡ Ok None) ↔ (spec.stored_id blob_id self.now.head ≡ None) }
+        ensures nameless { (why : InvalidKrateName) → result ≡ Err (Error.InvalidKrateName why)
+            → refusal_of (spec.first_name krate.now.versions) ≡ Some (refusal why) }
+        ensures nameless_uncalled { (why : InvalidKrateName)
+            → result ≡ Err (Error.InvalidKrateName why) → disk.new ≡ disk.old }
+        ensures named { (kept : Kept) → result ≡ Ok (Some kept)
+            → IsTrue (is_name (spec.first_name krate.now.versions)) }
+        ensures failed_named { result ≡ Err (Error.Io IoKind.Failed)
+            → IsTrue (is_name (spec.first_name krate.now.versions)) }
+        ensures uncalled { (result ≡ Ok None)
+            ⊎ ((result ≡ Ok (Some Kept.NotStored)) ⊎ (result ≡ Err Error.NoMemory))
+            → disk.new ≡ disk.old }
+        ensures only { IfErr result (λ e. (e ≡ Error.NoMemory)
+            ⊎ ((e ≡ Error.Io IoKind.Failed)
+            ⊎ ((why : InvalidKrateName) × (e ≡ Error.InvalidKrateName why)))) }
 
         // what is stored
-        ensures stored { D.tells → (id : List ℕ) → stored_id blob_id self.now.head ≡ Some id → (q : List ℕ) → cache_file_of self.now.cache.path (first_name krate.now.versions) ≡ Some q
-            → result ≡ Ok (Some Kept.Written) → IsStored (entry (Commit id) (version_pairs krate.now.versions)) (D.past disk.new q) }
-        ensures storable { (id : List ℕ) → stored_id blob_id self.now.head ≡ Some id
-            → IfOk result (λ kept. (kept ≡ Some Kept.Written) ↔ IsTrue (is_storable (Commit id) (version_pairs krate.now.versions))) }
-        ensures any_moment { D.tells → (id : List ℕ) → stored_id blob_id self.now.head ≡ Some id → (q : List ℕ) → cache_file_of self.now.cache.path (first_name krate.now.versions) ≡ Some q → IsOrderly (D.past disk.old q)
-            → EachMoment (D.past disk.old q) (D.past disk.new q) (λ file. may_leave (D.past disk.old q) file ⊎ (IsRefused file ⊎ (file ≡ Some (entry (Commit id) (version_pairs krate.now.versions))))) }
-        ensures others { D.tells → (q : List ℕ) → cache_file_of self.now.cache.path (first_name krate.now.versions) ≢ Some q → D.past disk.new q ≡ D.past disk.old q }
-        ensures kept { D.tells → (m : ServerMap) → IsKept m self.now.cache.path (D.past disk.old) → Keeps m self.now.cache.path (D.past disk.old) (D.past disk.new) }
-        ensures folders { D.tells → MakesOnly (λ q. cache_file_of self.now.cache.path (first_name krate.now.versions) ≡ Some q) (D.folders disk.old) (D.folders disk.new) }
+        ensures stored { D.tells → (id : List ℕ) → spec.stored_id blob_id self.now.head ≡ Some id
+            → (q : List ℕ) → cache_file_of self.now.cache.path (spec.first_name krate.now.versions)
+            ≡ Some q
+            → result ≡ Ok (Some Kept.Written)
+            → IsStored (entry (Commit id) (version_pairs krate.now.versions)) (D.past disk.new q) }
+        ensures storable { (id : List ℕ) → spec.stored_id blob_id self.now.head ≡ Some id
+            → IfOk result (λ kept. (kept ≡ Some Kept.Written)
+            ↔ IsTrue (is_storable (Commit id) (version_pairs krate.now.versions))) }
+        ensures any_moment { D.tells → (id : List ℕ)
+            → spec.stored_id blob_id self.now.head ≡ Some id → (q : List ℕ)
+            → cache_file_of self.now.cache.path (spec.first_name krate.now.versions) ≡ Some q
+            → IsOrderly (D.past disk.old q)
+            → EachMoment (D.past disk.old q) (D.past disk.new q)
+            (λ file. may_leave (D.past disk.old q) file
+            ⊎ (IsUnreadable file
+            ⊎ (file ≡ Some (entry (Commit id) (version_pairs krate.now.versions))))) }
+        ensures others { D.tells → (q : List ℕ)
+            → cache_file_of self.now.cache.path (spec.first_name krate.now.versions) ≢ Some q
+            → D.past disk.new q ≡ D.past disk.old q }
+        ensures kept { D.tells → (m : ServerMap) → IsKept m self.now.cache.path (D.past disk.old)
+            → Keeps m self.now.cache.path (D.past disk.old) (D.past disk.new) }
+        ensures folders { D.tells → MakesOnly
+            (λ q. cache_file_of self.now.cache.path (spec.first_name krate.now.versions) ≡ Some q)
+            (D.folders disk.old) (D.folders disk.new) }
         ensures calls { D.made disk.new ≤ D.made disk.old + 13 }
         ensures later { D.faults disk.old ≤ D.faults disk.new }
-        ensures rose { result ≡ Err (Error.Io IoKind.Failed) → Rose (D.faults disk.old) (D.faults disk.new) }
+        ensures rose { result ≡ Err (Error.Io IoKind.Failed)
+            → CountRose (D.faults disk.old) (D.faults disk.new) }
     {
         let Some(id) = self.stored_id(blob_id) else {
             return Ok(None);
@@ -162,7 +193,7 @@ impl GitIndex {
 
     /// The id of a blob, else that of the head.
     fn stored_id(&self, blob_id: Option<Sha1Hex>) -> Option<Sha1Hex>
-        ensures { result ≡ stored_id blob_id self.now.head }
+        ensures { result ≡ spec.stored_id blob_id self.now.head }
     {
         match blob_id {
             Some(id) => Some(id),
@@ -174,7 +205,7 @@ impl GitIndex {
 /// The name of the first version.
 fn first_name(krate: &IndexKrate) -> &str
     requires { 0 < length krate.now.versions }
-    ensures { result.now ≡ first_name krate.now.versions }
+    ensures { result.now ≡ spec.first_name krate.now.versions }
 {
     krate.name()
 }

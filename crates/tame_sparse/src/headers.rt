@@ -4,7 +4,8 @@ ghost use Rattle.http.specs.Request.{head_of};
 ghost use Rattle.http_header.specs.FieldValue.{is_visible_text, plain_value};
 ghost use Rattle.http_header.specs.HeaderMap.{append, append_all, value_count};
 ghost use Rattle.http_uri.specs.Uri.{Spells, SpellsNone};
-ghost use Rattle.tame_sparse.specs.Conditions.{condition_name, condition_text, fields};
+ghost use Rattle.tame_sparse.specs.Conditions.{fields};
+ghost use Rattle.tame_sparse.specs.Conditions as spec;
 
 use crate::naming::is_visible;
 use crate::network::Request;
@@ -17,7 +18,7 @@ use tame_entry::OwnedRevision;
 use tame_names::{Error, HttpError, NoMemory};
 
 fn condition_name(named: &Option<OwnedRevision>) -> HeaderName
-    ensures { result ≡ condition_name named.now }
+    ensures { result ≡ spec.condition_name named.now }
 {
     match named {
         Some(OwnedRevision::LastModified(_)) => HeaderName::from_static("if-modified-since"),
@@ -27,7 +28,7 @@ fn condition_name(named: &Option<OwnedRevision>) -> HeaderName
 }
 
 fn condition_text(named: &Option<OwnedRevision>) -> &str
-    ensures { result.now ≡ condition_text named.now }
+    ensures { result.now ≡ spec.condition_text named.now }
 {
     match named {
         Some(OwnedRevision::Etag(text)) => text.as_str().trim(),
@@ -38,8 +39,11 @@ fn condition_text(named: &Option<OwnedRevision>) -> &str
 
 /// A field's value. `Http(InvalidHeaderValue)` where a byte isn't tab or 32 to 126.
 fn visible_value(alloc: Global, text: &str) -> Result<HeaderValue, Error>
-    ensures ok { IfOk result (λ value. (value ≡ plain_value text.now) × (is_visible_text text.now ≡ true)) }
-    ensures refused { IfErr result (λ e. (e ≡ Error.NoMemory) ⊎ ((e ≡ Error.Http HttpError.InvalidHeaderValue) × (is_visible_text text.now ≡ false))) }
+    ensures ok { IfOk result (λ value. (value ≡ plain_value text.now)
+        × (is_visible_text text.now ≡ true)) }
+    ensures refused { IfErr result
+        (λ e. (e ≡ Error.NoMemory)
+        ⊎ ((e ≡ Error.Http HttpError.InvalidHeaderValue) × (is_visible_text text.now ≡ false))) }
 {
     if !is_visible(text.as_bytes()) {
         return Err(Error::Http(HttpError::InvalidHeaderValue));
@@ -76,7 +80,7 @@ fn field_map(
     named: &Option<OwnedRevision>,
     value: HeaderValue,
 ) -> Result<HeaderMap<HeaderValue>, NoMemory>
-    requires { value ≡ plain_value (condition_text named.now) }
+    requires { value ≡ plain_value (spec.condition_text named.now) }
     ensures { IfOk result (λ map. map ≡ append_all [] (fields named.now)) }
 {
     let mut map = HeaderMap::new(alloc);
@@ -91,7 +95,8 @@ fn field_map(
 /// The target that a text spells (RFC 3986). `Http(Http)` where it spells none.
 fn target(alloc: Global, text: &str) -> Result<Uri, Error>
     ensures ok { IfOk result (Spells text.now) }
-    ensures refused { IfErr result (λ e. (e ≡ Error.NoMemory) ⊎ ((e ≡ Error.Http HttpError.Http) × SpellsNone text.now)) }
+    ensures refused { IfErr result
+        (λ e. (e ≡ Error.NoMemory) ⊎ ((e ≡ Error.Http HttpError.Http) × SpellsNone text.now)) }
 {
     match Uri::from_str(alloc, text) {
         Ok(uri) => Ok(uri),
@@ -106,8 +111,12 @@ impl Request {
     /// nothing is named. `Http(InvalidHeaderValue)` where a byte of that text isn't tab or 32 to
     /// 126.
     pub fn headers(&self, alloc: Global) -> Result<[(HeaderName, HeaderValue); 3], Error>
-        ensures ok { IfOk result (λ hs. (hs ≡ fields self.now.named) × (is_visible_text (condition_text self.now.named) ≡ true)) }
-        ensures refused { IfErr result (λ e. (e ≡ Error.NoMemory) ⊎ ((e ≡ Error.Http HttpError.InvalidHeaderValue) × (is_visible_text (condition_text self.now.named) ≡ false))) }
+        ensures ok { IfOk result (λ hs. (hs ≡ fields self.now.named)
+            × (is_visible_text (spec.condition_text self.now.named) ≡ true)) }
+        ensures refused { IfErr result
+            (λ e. (e ≡ Error.NoMemory)
+            ⊎ ((e ≡ Error.Http HttpError.InvalidHeaderValue)
+            × (is_visible_text (spec.condition_text self.now.named) ≡ false))) }
     {
         let value = visible_value(alloc, condition_text(&self.named))?;
         Ok([
@@ -128,10 +137,15 @@ impl Request {
     pub fn into_http(self, alloc: Global) -> Result<http::Request<()>, Error>
         ensures method { IfOk result (λ request. (head_of request).method ≡ codes "GET") }
         ensures uri { IfOk result (λ request. Spells self.uri (head_of request).uri) }
-        ensures headers { IfOk result (λ request. (head_of request).headers ≡ append_all [] (fields self.named)) }
-        ensures visible { OnOk result (is_visible_text (condition_text self.named) ≡ true) }
-        ensures refused { IfErr result (λ e. (e ≡ Error.NoMemory) ⊎ (((e ≡ Error.Http HttpError.InvalidHeaderValue) × (is_visible_text (condition_text self.named) ≡ false))
-            ⊎ ((e ≡ Error.Http HttpError.Http) × (is_visible_text (condition_text self.named) ≡ true) × SpellsNone self.uri))) }
+        ensures headers { IfOk result (λ request. (head_of request).headers
+            ≡ append_all [] (fields self.named)) }
+        ensures visible { OnOk result (is_visible_text (spec.condition_text self.named) ≡ true) }
+        ensures refused { IfErr result
+            (λ e. (e ≡ Error.NoMemory)
+            ⊎ (((e ≡ Error.Http HttpError.InvalidHeaderValue)
+            × (is_visible_text (spec.condition_text self.named) ≡ false))
+            ⊎ ((e ≡ Error.Http HttpError.Http)
+            × (is_visible_text (spec.condition_text self.named) ≡ true) × SpellsNone self.uri))) }
     {
         let value = visible_value(alloc, condition_text(&self.named))?;
         let mut parts = Parts::new(alloc);

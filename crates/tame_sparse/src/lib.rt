@@ -1,7 +1,20 @@
 //! A registry's sparse index: what is asked of it, what it answers, and what the cache keeps of
 //! that. A git index has the cache alone.
+//!
+//! Promises: a request asks for the file of a crate at the url of the index, and names the revision
+//! that the cache holds; an answer gives the lines that it sent, or at 304 those of the cache; over
+//! an honest server a kept cache stays kept.
+//! Stands on `tame_names`, `tame_records`, `tame_entry` and the cache of `tame_cache`, the requests
+//! of `http`, and a wire that its caller brings, of which `MemWire` is one in memory.
+//!
+//! ```ignore
+//! let index = SparseIndex::at(alloc, path, "sparse+https://index.crates.io/")?;
+//! let request = index.make_remote_request(alloc, name, None, &lock, &mut disk)?;
+//! let entry = index.parse_remote_response(alloc, name, response, true, &lock, &mut disk)?;
+//! ```
 #![tactic(auto)]
 
+mod configs;
 mod etags;
 mod git;
 mod headers;

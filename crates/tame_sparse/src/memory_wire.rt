@@ -127,10 +127,12 @@ impl Wire for MemWire {
         ensures cause { HasCause WireFault.NoMemory self.old.faults self.new.faults result }
         ensures added { AddsExchange self.old.exchanges self.new.exchanges request.now result }
         // what is held and given is the item of the list that has the number of the call
-        ensures scripted { MayAddItem self.old.exchanges self.new.exchanges request.now (item_at self.old.script (length self.old.exchanges)) }
+        ensures scripted { MayAddItem self.old.exchanges self.new.exchanges request.now
+            (item_at self.old.script (length self.old.exchanges)) }
         ensures given { GivesItem (item_at self.old.script (length self.old.exchanges)) result }
         ensures script { self.new.script ≡ self.old.script }
-        ensures counted { result ≡ Err WireFault.Failed → self.new.faults ≡ next_call self.old.faults }
+        ensures counted { result ≡ Err WireFault.Failed
+            → self.new.faults ≡ next_call self.old.faults }
         ensures uncounted { result ≢ Err WireFault.Failed → self.new.faults ≡ self.old.faults }
     {
         let url = request.uri.try_clone(alloc)?;

@@ -2,7 +2,8 @@
 ghost use Rattle.std.specs.Prelude.{◌≡◌, ◌≢◌, Ok, Err, Some, IfOk, IfErr};
 ghost use Rattle.http_header.specs.FieldValue.{is_visible_text};
 ghost use Rattle.tame_entry.specs.Revision.{http_value, revision_text};
-ghost use Rattle.tame_sparse.specs.Named.{handed, named_entry, named_http, trimmed, unless_empty};
+ghost use Rattle.tame_sparse.specs.Named.{handed};
+ghost use Rattle.tame_sparse.specs.Named as spec;
 
 use std::alloc::Global;
 use tame_entry::{HttpRevision, IndexEntry, OwnedRevision, Revision};
@@ -17,7 +18,7 @@ pub fn is_visible(text: &[u8]) -> bool
 
 /// A revision with its text trimmed of white space.
 fn trimmed(revision: HttpRevision<'_>) -> HttpRevision<'_>
-    ensures { http_value result ≡ trimmed (http_value revision.entry) }
+    ensures { http_value result ≡ spec.trimmed (http_value revision.entry) }
 {
     match revision {
         HttpRevision::Etag(text) => HttpRevision::Etag(text.trim()),
@@ -38,7 +39,7 @@ fn unless_empty(
     alloc: Global,
     revision: HttpRevision<'_>,
 ) -> Result<Option<OwnedRevision>, NoMemory>
-    ensures { IfOk result (λ named. named ≡ unless_empty (http_value revision.entry)) }
+    ensures { IfOk result (λ named. named ≡ spec.unless_empty (http_value revision.entry)) }
 {
     if text_of(revision).is_empty() {
         return Ok(None);
@@ -48,7 +49,7 @@ fn unless_empty(
 
 /// What may be named of an HTTP revision.
 fn named_http(alloc: Global, revision: HttpRevision<'_>) -> Result<Option<OwnedRevision>, NoMemory>
-    ensures { IfOk result (λ named. named ≡ named_http (http_value revision.entry)) }
+    ensures { IfOk result (λ named. named ≡ spec.named_http (http_value revision.entry)) }
 {
     let revision = trimmed(revision);
     if !is_visible(text_of(revision).as_bytes()) {
@@ -62,7 +63,7 @@ pub fn named_entry(
     alloc: Global,
     entry: &IndexEntry<'_, '_>,
 ) -> Result<Option<OwnedRevision>, NoMemory>
-    ensures { IfOk result (λ named. named ≡ named_entry entry.now) }
+    ensures { IfOk result (λ named. named ≡ spec.named_entry entry.now) }
 {
     match entry.cached() {
         Ok(Some(valid)) => match valid.revision {
@@ -81,7 +82,8 @@ pub fn named_handed(
     revision: HttpRevision<'_>,
 ) -> Result<Option<OwnedRevision>, Error>
     ensures ok { IfOk result (λ named. handed (http_value revision.entry) ≡ Ok named) }
-    ensures refused { IfErr result (λ e. e ≢ Error.NoMemory → handed (http_value revision.entry) ≡ Err e) }
+    ensures refused { IfErr result
+        (λ e. e ≢ Error.NoMemory → handed (http_value revision.entry) ≡ Err e) }
 {
     let revision = trimmed(revision);
     if !is_visible(text_of(revision).as_bytes()) {

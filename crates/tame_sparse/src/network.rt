@@ -86,7 +86,8 @@ pub trait Wire {
     /// Makes one exchange, and none where memory runs out.
     fn exchange(&mut self, alloc: Global, request: &Request) -> Result<WireAnswer, WireFault>
         ensures cause { HasCause WireFault.NoMemory (faults self.old) (faults self.new) result }
-        ensures added { tells → AddsExchange (exchanges self.old) (exchanges self.new) request.now result };
+        ensures added { tells → AddsExchange (exchanges self.old)
+            (exchanges self.new) request.now result };
 }
 
 /// The request for a path of the sparse index of crates.io that names nothing.

@@ -2,12 +2,13 @@
 ghost use Rattle.std.specs.Prelude.{◌≡◌, option_map};
 ghost use Rattle.http.specs.Response.{body_of, head_of};
 ghost use Rattle.http_header.specs.HeaderMap.{get};
-ghost use Rattle.tame_entry.specs.Revision.{http_value};
-ghost use Rattle.tame_sparse.specs.Sent.{sent_revision, visible_value};
+ghost use Rattle.tame_entry.specs.Revision.{http_value, revision_value};
+ghost use Rattle.tame_sparse.specs.ResponseResults as results_spec;
+ghost use Rattle.tame_sparse.specs.Sent as spec;
 
 use crate::naming::is_visible;
 use http::{HeaderMap, HeaderName, HeaderValue};
-use tame_entry::HttpRevision;
+use tame_entry::{HttpRevision, Revision};
 use tame_names::utf8_text;
 
 /// A response, borrowed.
@@ -21,7 +22,7 @@ pub struct Response<'r> {
 
 /// The text of the first field of a name, where each of its bytes is tab or 32 to 126.
 fn visible_value<'r>(headers: &'r HeaderMap<HeaderValue>, name: HeaderName) -> Option<&'r str>
-    ensures { option_map (λ text. text.now) result ≡ visible_value (get headers.now name) }
+    ensures { option_map (λ text. text.now) result ≡ spec.visible_value (get headers.now name) }
 {
     match headers.get(name) {
         None => None,
@@ -33,7 +34,7 @@ fn visible_value<'r>(headers: &'r HeaderMap<HeaderValue>, name: HeaderName) -> O
 }
 
 fn sent_revision(headers: &HeaderMap<HeaderValue>) -> Option<HttpRevision<'_>>
-    ensures { option_map http_value result ≡ sent_revision headers.now }
+    ensures { option_map http_value result ≡ spec.sent_revision headers.now }
 {
     if let Some(etag) = visible_value(headers, HeaderName::from_static("etag")) {
         return Some(HttpRevision::Etag(etag));
@@ -49,7 +50,8 @@ impl<'r> Response<'r> {
     /// a byte that isn't tab or 32 to 126 is no revision.
     pub fn of(value: &'r http::Response<Vec<u8>>) -> Response<'r>
         ensures status { result.status ≡ (head_of value.now).status }
-        ensures revision { option_map http_value result.revision ≡ sent_revision (head_of value.now).headers }
+        ensures revision { option_map http_value result.revision
+            ≡ spec.sent_revision (head_of value.now).headers }
         ensures body { result.body.now ≡ (body_of value.now).items }
     {
         Response {
@@ -57,5 +59,16 @@ impl<'r> Response<'r> {
             revision: sent_revision(value.headers()),
             body: value.body().as_slice(),
         }
+    }
+}
+
+/// The revision that a body is stored under.
+pub fn stored_under(revision: Option<HttpRevision<'_>>) -> Revision<'_>
+    ensures { revision_value result
+        ≡ results_spec.stored_under (option_map http_value revision.entry) }
+{
+    match revision {
+        Some(revision) => Revision::Http(revision),
+        None => Revision::Unknown,
     }
 }

@@ -1,26 +1,27 @@
 //! A sparse index with its cache.
-ghost use Rattle.std.specs.Prelude.{◌≡◌, ◌≢◌, ◌⊎◌, ◌≤◌, ◌+◌, ℕ, List, ◌++◌, true, false, map, option_map, Ok, Err, Some, None, IsTrue, IfOk, IfErr, OnOk};
-ghost use Rattle.tame_names.specs.Counts.{HasCause, IsQuiet, Rose};
+ghost use Rattle.std.specs.Prelude.{◌≡◌, ◌≢◌, ◌⊎◌, ◌≤◌, ◌+◌, ℕ, List, ◌++◌, true, false, map, Ok, Err, Some, None, IsTrue, IfOk, IfErr, OnOk};
+ghost use Rattle.tame_names.specs.Counts.{HasCause, CountStayed, CountRose};
 ghost use Rattle.tame_names.specs.KrateNames.{text_of};
 ghost use Rattle.tame_names.specs.Names.{IsIndexPath, path};
-ghost use Rattle.tame_entry.specs.Config.{config_of};
 ghost use Rattle.tame_entry.specs.Entry.{entry, is_storable, pair_of};
-ghost use Rattle.tame_entry.specs.Held.{ServerMap};
+ghost use Rattle.tame_entry.specs.ServerMaps.{ServerMap};
 ghost use Rattle.tame_entry.specs.JsonLines.{lines_of};
 ghost use Rattle.tame_entry.specs.Revision.{http_value, revision_value};
 ghost use Rattle.tame_entry.specs.declared.revisions.HttpRevision.{HttpRevision};
 ghost use Rattle.tame_cache.specs.CacheFiles.{HandsOut};
 ghost use Rattle.tame_cache.specs.Disk.{EachMoment, may_leave, reads};
 ghost use Rattle.tame_cache.specs.Folders.{MakesOnly};
-ghost use Rattle.tame_cache.specs.Gate.{IsOrderly, IsRefused, IsStored};
+ghost use Rattle.tame_cache.specs.Gate.{IsOrderly, IsUnreadable, IsStored};
 ghost use Rattle.tame_cache.specs.Kept.{IsKept, IsWrittenFor, Keeps, cache_file_of};
-ghost use Rattle.tame_sparse.specs.Answered.{IsBodyTaken, IsTaken, IsToStore, Stores, StoresWhole, came, stored_under};
+ghost use Rattle.tame_sparse.specs.ResponseResults.{IsBodyResult, IsResponseResult, IsToStore, Stores, StoresWhole, came};
 ghost use Rattle.tame_sparse.specs.Named.{NamesKept, handed};
-ghost use Rattle.tame_sparse.specs.Urls.{IsConfigRead, config_file, crate_url, http_url, is_sparse_url};
+ghost use Rattle.tame_sparse.specs.Urls.{IsConfigRead, config_file, http_url, is_sparse_url};
+ghost use Rattle.tame_sparse.specs.Urls as spec;
 
+use crate::configs::config_of;
 use crate::naming::{named_entry, named_handed};
 use crate::network::Request;
-use crate::responses::Response;
+use crate::responses::{Response, stored_under};
 use crate::urls::{http_url, is_sparse_url};
 use std::alloc::Global;
 use tame_cache::{CacheDisk, CacheFault, IndexCache};
@@ -31,7 +32,6 @@ use tame_names::{
     Error, FileFault, FileLock, Files, HttpError, InvalidUrl, InvalidUrlError, IoKind, KrateName,
     NoMemory, ReadAnswer, Text, join,
 };
-use tame_records::LineFault;
 
 /// A registry's sparse index, and the cache of it (Cargo Book, "Registry Index").
 #[derive(Debug, Drop)]
@@ -44,9 +44,13 @@ impl SparseIndex {
     /// The index at a url, with its cache in the folder of a path. `InvalidUrl(MissingSparse)`
     /// where the url doesn't begin with `sparse+http`.
     pub fn at(alloc: Global, path: Text, url: &str) -> Result<SparseIndex, Error>
-        ensures ok { IfOk result (λ index. (is_sparse_url url.now ≡ true) × (index.cache.path ≡ path) × (index.url ≡ url.now)) }
+        ensures ok { IfOk result (λ index. (is_sparse_url url.now ≡ true)
+            × (index.cache.path ≡ path) × (index.url ≡ url.now)) }
         ensures refused { IfErr result (λ e. (e ≡ Error.NoMemory)
-            ⊎ ((is_sparse_url url.now ≡ false) × (e ≡ Error.InvalidUrl (record { url = url.now; source = InvalidUrlError.MissingSparse })))) }
+            ⊎ ((is_sparse_url url.now ≡ false) × (e ≡ Error.InvalidUrl (record {
+              url = url.now;
+              source = InvalidUrlError.MissingSparse;
+            })))) }
     {
         let copy = Text::of(alloc, url)?;
         if !is_sparse_url(url) {
@@ -68,7 +72,7 @@ impl SparseIndex {
         ensures read { IsConfigRead F.tells (config_file self.now.cache.path)
             ((F.host files.old).stands (config_file self.now.cache.path)) result }
         ensures failed { (p : List ℕ) → result ≡ Err (Error.IoPath IoKind.Failed p)
-            → Rose (F.faults files.old) (F.faults files.new) }
+            → CountRose (F.faults files.old) (F.faults files.new) }
         ensures later { F.faults files.old ≤ F.faults files.new }
         ensures same { F.tells → F.host files.new ≡ F.host files.old }
     {
@@ -84,7 +88,8 @@ impl SparseIndex {
 
     /// The url of a crate's file.
     pub fn crate_url(&self, alloc: Global, name: KrateName<'_>) -> Result<Text, NoMemory>
-        ensures { IfOk result (λ url. crate_url self.now.url (text_of name.entry) ≡ Some url) }
+        ensures { IfOk result (λ url. spec.crate_url self.now.url (text_of name.entry)
+            ≡ Some url) }
     {
         let path = name.relative_path(alloc, None)?;
         self.file_url(alloc, path.as_str())
@@ -122,7 +127,9 @@ impl SparseIndex {
         lock: &'l FileLock,
         disk: &mut D,
     ) -> Result<Option<IndexEntry<'static, 'l>>, Error>
-        ensures read { D.tells → (q : List ℕ) → cache_file_of self.now.cache.path (text_of name.entry) ≡ Some q → IfOk result (λ e. HandsOut e (reads (D.past disk.old q))) }
+        ensures read { D.tells → (q : List ℕ)
+            → cache_file_of self.now.cache.path (text_of name.entry) ≡ Some q
+            → IfOk result (λ e. HandsOut e (reads (D.past disk.old q))) }
         ensures same { D.tells → (q : List ℕ) → D.past disk.new q ≡ D.past disk.old q }
         ensures folders { D.tells → D.folders disk.new ≡ D.folders disk.old }
         ensures calls { D.made disk.new ≤ D.made disk.old + 1 }
@@ -148,14 +155,20 @@ impl SparseIndex {
         ensures index_path { IfOk result (λ request. IsIndexPath request.path) }
         ensures uri { IfOk result (λ request. request.uri ≡ http_url self.now.url ++ request.path) }
         // what is named
-        ensures kept_named { D.tells → revision.entry ≡ None → (q : List ℕ) → cache_file_of self.now.cache.path (text_of name.entry) ≡ Some q
-            → IfOk result (λ request. NamesKept (reads (D.past disk.old q)) (D.faults disk.old) (D.faults disk.new) request.named) }
-        ensures handed { (r : HttpRevision) → revision.entry ≡ Some r → IfOk result (λ request. handed (http_value r) ≡ Ok request.named) }
-        ensures refused { IfErr result (λ e. (e ≡ Error.NoMemory) ⊎ ((r : HttpRevision) × (revision.entry ≡ Some r) × (handed (http_value r) ≡ Err e))) }
+        ensures kept_named { D.tells → revision.entry ≡ None → (q : List ℕ)
+            → cache_file_of self.now.cache.path (text_of name.entry) ≡ Some q
+            → IfOk result (λ request. NamesKept (reads (D.past disk.old q)) (D.faults disk.old)
+            (D.faults disk.new) request.named) }
+        ensures handed { (r : HttpRevision) → revision.entry ≡ Some r
+            → IfOk result (λ request. handed (http_value r) ≡ Ok request.named) }
+        ensures refused { IfErr result
+            (λ e. (e ≡ Error.NoMemory)
+            ⊎ ((r : HttpRevision) × (revision.entry ≡ Some r) × (handed (http_value r) ≡ Err e))) }
         // no file changes, and none is read for a revision that is handed in
         ensures same { D.tells → (q : List ℕ) → D.past disk.new q ≡ D.past disk.old q }
         ensures folders { D.tells → D.folders disk.new ≡ D.folders disk.old }
-        ensures kept { D.tells → (m : ServerMap) → IsKept m self.now.cache.path (D.past disk.old) → Keeps m self.now.cache.path (D.past disk.old) (D.past disk.new) }
+        ensures kept { D.tells → (m : ServerMap) → IsKept m self.now.cache.path (D.past disk.old)
+            → Keeps m self.now.cache.path (D.past disk.old) (D.past disk.new) }
         ensures uncalled { (r : HttpRevision) → revision.entry ≡ Some r → disk.new ≡ disk.old }
         ensures calls { D.made disk.new ≤ D.made disk.old + 1 }
         ensures later { D.faults disk.old ≤ D.faults disk.new }
@@ -175,10 +188,15 @@ impl SparseIndex {
         lock: &FileLock,
         disk: &mut D,
     ) -> Result<Option<OwnedRevision>, Error>
-        ensures kept_named { D.tells → revision.entry ≡ None → (q : List ℕ) → cache_file_of self.now.cache.path (text_of name.entry) ≡ Some q
-            → IfOk result (NamesKept (reads (D.past disk.old q)) (D.faults disk.old) (D.faults disk.new)) }
-        ensures handed { (r : HttpRevision) → revision.entry ≡ Some r → IfOk result (λ named. handed (http_value r) ≡ Ok named) }
-        ensures refused { IfErr result (λ e. (e ≡ Error.NoMemory) ⊎ ((r : HttpRevision) × (revision.entry ≡ Some r) × (handed (http_value r) ≡ Err e))) }
+        ensures kept_named { D.tells → revision.entry ≡ None → (q : List ℕ)
+            → cache_file_of self.now.cache.path (text_of name.entry) ≡ Some q
+            → IfOk result (NamesKept (reads (D.past disk.old q)) (D.faults disk.old)
+            (D.faults disk.new)) }
+        ensures handed { (r : HttpRevision) → revision.entry ≡ Some r
+            → IfOk result (λ named. handed (http_value r) ≡ Ok named) }
+        ensures refused { IfErr result
+            (λ e. (e ≡ Error.NoMemory)
+            ⊎ ((r : HttpRevision) × (revision.entry ≡ Some r) × (handed (http_value r) ≡ Err e))) }
         ensures same { D.tells → (q : List ℕ) → D.past disk.new q ≡ D.past disk.old q }
         ensures folders { D.tells → D.folders disk.new ≡ D.folders disk.old }
         ensures uncalled { (r : HttpRevision) → revision.entry ≡ Some r → disk.new ≡ disk.old }
@@ -199,8 +217,10 @@ impl SparseIndex {
         lock: &FileLock,
         disk: &mut D,
     ) -> Result<Option<OwnedRevision>, Error>
-        ensures named { D.tells → (q : List ℕ) → cache_file_of self.now.cache.path (text_of name.entry) ≡ Some q
-            → IfOk result (NamesKept (reads (D.past disk.old q)) (D.faults disk.old) (D.faults disk.new)) }
+        ensures named { D.tells → (q : List ℕ)
+            → cache_file_of self.now.cache.path (text_of name.entry) ≡ Some q
+            → IfOk result (NamesKept (reads (D.past disk.old q)) (D.faults disk.old)
+            (D.faults disk.new)) }
         ensures memory { IfErr result (λ e. e ≡ Error.NoMemory) }
         ensures same { D.tells → (q : List ℕ) → D.past disk.new q ≡ D.past disk.old q }
         ensures folders { D.tells → D.folders disk.new ≡ D.folders disk.old }
@@ -232,15 +252,22 @@ impl SparseIndex {
         disk: &mut D,
     ) -> Result<Option<IndexEntry<'r, 'l>>, Error>
         // by the status; at 304 what a read of the file gave
-        ensures taken { IsTaken response.entry result }
-        ensures read { D.tells → response.entry.status ≡ 304 → (q : List ℕ) → cache_file_of self.now.cache.path (text_of name.entry) ≡ Some q
+        ensures taken { IsResponseResult response.entry result }
+        ensures read { D.tells → response.entry.status ≡ 304 → (q : List ℕ)
+            → cache_file_of self.now.cache.path (text_of name.entry) ≡ Some q
             → IfOk result (λ e. HandsOut e (reads (D.past disk.old q))) }
-        ensures rose { result ≡ Err (Error.Io IoKind.Failed) → (response.entry.status ≡ 304) × Rose (D.faults disk.old) (D.faults disk.new) }
+        ensures rose { result ≡ Err (Error.Io IoKind.Failed)
+            → (response.entry.status ≡ 304) × CountRose (D.faults disk.old) (D.faults disk.new) }
         // what is stored
-        ensures stores { D.tells → Stores self.now.cache.path (text_of name.entry) (came response.entry) write_cache_entry (D.past disk.old) (D.past disk.new) }
-        ensures stored { D.tells → IsQuiet (D.faults disk.old) (D.faults disk.new) → write_cache_entry ≡ true → IsToStore (came response.entry)
-            → OnOk result (StoresWhole self.now.cache.path (text_of name.entry) (came response.entry) (D.past disk.new)) }
-        ensures folders { D.tells → MakesOnly (λ q. cache_file_of self.now.cache.path (text_of name.entry) ≡ Some q) (D.folders disk.old) (D.folders disk.new) }
+        ensures stores { D.tells → Stores self.now.cache.path (text_of name.entry)
+            (came response.entry) write_cache_entry (D.past disk.old) (D.past disk.new) }
+        ensures stored { D.tells → CountStayed (D.faults disk.old) (D.faults disk.new)
+            → write_cache_entry ≡ true → IsToStore (came response.entry)
+            → OnOk result (StoresWhole self.now.cache.path (text_of name.entry)
+            (came response.entry) (D.past disk.new)) }
+        ensures folders { D.tells → MakesOnly
+            (λ q. cache_file_of self.now.cache.path (text_of name.entry) ≡ Some q)
+            (D.folders disk.old) (D.folders disk.new) }
         ensures calls { D.made disk.new ≤ D.made disk.old + 13 }
         ensures later { D.faults disk.old ≤ D.faults disk.new }
     {
@@ -270,11 +297,16 @@ impl SparseIndex {
         disk: &mut D,
     ) -> Result<Option<IndexEntry<'r, 'l>>, Error>
         requires { response.status ≡ 200 }
-        ensures taken { IsBodyTaken response.entry.body.now result }
-        ensures stores { D.tells → Stores self.now.cache.path (text_of name.entry) (came response.entry) write_cache_entry (D.past disk.old) (D.past disk.new) }
-        ensures stored { D.tells → IsQuiet (D.faults disk.old) (D.faults disk.new) → write_cache_entry ≡ true → IsToStore (came response.entry)
-            → OnOk result (StoresWhole self.now.cache.path (text_of name.entry) (came response.entry) (D.past disk.new)) }
-        ensures folders { D.tells → MakesOnly (λ q. cache_file_of self.now.cache.path (text_of name.entry) ≡ Some q) (D.folders disk.old) (D.folders disk.new) }
+        ensures taken { IsBodyResult response.entry.body.now result }
+        ensures stores { D.tells → Stores self.now.cache.path (text_of name.entry)
+            (came response.entry) write_cache_entry (D.past disk.old) (D.past disk.new) }
+        ensures stored { D.tells → CountStayed (D.faults disk.old) (D.faults disk.new)
+            → write_cache_entry ≡ true → IsToStore (came response.entry)
+            → OnOk result (StoresWhole self.now.cache.path (text_of name.entry)
+            (came response.entry) (D.past disk.new)) }
+        ensures folders { D.tells → MakesOnly
+            (λ q. cache_file_of self.now.cache.path (text_of name.entry) ≡ Some q)
+            (D.folders disk.old) (D.folders disk.new) }
         ensures calls { D.made disk.new ≤ D.made disk.old + 13 }
         ensures later { D.faults disk.old ≤ D.faults disk.new }
     {
@@ -302,16 +334,41 @@ impl SparseIndex {
         lock: &FileLock,
         disk: &mut D,
     ) -> Result<(), NoMemory>
-        ensures stored { D.tells → IsQuiet (D.faults disk.old) (D.faults disk.new) → IsTrue (is_storable (revision_value revision.now) (map pair_of (lines_of lines.entry)))
-            → (q : List ℕ) → cache_file_of self.now.cache.path (text_of name.entry) ≡ Some q → OnOk result (IsStored (entry (revision_value revision.now) (map pair_of (lines_of lines.entry))) (D.past disk.new q)) }
-        ensures unstored { D.tells → ¬ (IsTrue (is_storable (revision_value revision.now) (map pair_of (lines_of lines.entry)))) → (q : List ℕ) → D.past disk.new q ≡ D.past disk.old q }
-        ensures any_moment { D.tells → (q : List ℕ) → cache_file_of self.now.cache.path (text_of name.entry) ≡ Some q → IsOrderly (D.past disk.old q)
-            → EachMoment (D.past disk.old q) (D.past disk.new q) (λ file. may_leave (D.past disk.old q) file ⊎ (IsRefused file ⊎ (file ≡ Some (entry (revision_value revision.now) (map pair_of (lines_of lines.entry)))))) }
-        ensures orderly { D.tells → (q : List ℕ) → cache_file_of self.now.cache.path (text_of name.entry) ≡ Some q → IsOrderly (D.past disk.old q) → IsOrderly (D.past disk.new q) }
-        ensures others { D.tells → (q : List ℕ) → cache_file_of self.now.cache.path (text_of name.entry) ≢ Some q → D.past disk.new q ≡ D.past disk.old q }
-        ensures kept { D.tells → (m : ServerMap) → ((p : List ℕ) → path (text_of name.entry) ≡ Some p → IsTrue (is_storable (revision_value revision.now) (map pair_of (lines_of lines.entry))) → IsWrittenFor m p (revision_value revision.now) (map pair_of (lines_of lines.entry)))
-            → IsKept m self.now.cache.path (D.past disk.old) → Keeps m self.now.cache.path (D.past disk.old) (D.past disk.new) }
-        ensures folders { D.tells → MakesOnly (λ q. cache_file_of self.now.cache.path (text_of name.entry) ≡ Some q) (D.folders disk.old) (D.folders disk.new) }
+        ensures stored { D.tells → CountStayed (D.faults disk.old) (D.faults disk.new)
+            → IsTrue (is_storable (revision_value revision.now)
+            (map pair_of (lines_of lines.entry)))
+            → (q : List ℕ) → cache_file_of self.now.cache.path (text_of name.entry) ≡ Some q
+            → OnOk result
+            (IsStored (entry (revision_value revision.now) (map pair_of (lines_of lines.entry)))
+            (D.past disk.new q)) }
+        ensures unstored { D.tells → ¬
+            (IsTrue (is_storable (revision_value revision.now)
+            (map pair_of (lines_of lines.entry)))) → (q : List ℕ)
+            → D.past disk.new q ≡ D.past disk.old q }
+        ensures any_moment { D.tells → (q : List ℕ)
+            → cache_file_of self.now.cache.path (text_of name.entry) ≡ Some q
+            → IsOrderly (D.past disk.old q)
+            → EachMoment (D.past disk.old q) (D.past disk.new q)
+            (λ file. may_leave (D.past disk.old q) file
+            ⊎ (IsUnreadable file
+            ⊎ (file ≡ Some (entry (revision_value revision.now)
+            (map pair_of (lines_of lines.entry)))))) }
+        ensures orderly { D.tells → (q : List ℕ)
+            → cache_file_of self.now.cache.path (text_of name.entry) ≡ Some q
+            → IsOrderly (D.past disk.old q) → IsOrderly (D.past disk.new q) }
+        ensures others { D.tells → (q : List ℕ)
+            → cache_file_of self.now.cache.path (text_of name.entry) ≢ Some q
+            → D.past disk.new q ≡ D.past disk.old q }
+        ensures kept { D.tells → (m : ServerMap)
+            → ((p : List ℕ) → path (text_of name.entry) ≡ Some p
+            → IsTrue (is_storable (revision_value revision.now)
+            (map pair_of (lines_of lines.entry)))
+            → IsWrittenFor m p (revision_value revision.now) (map pair_of (lines_of lines.entry)))
+            → IsKept m self.now.cache.path (D.past disk.old)
+            → Keeps m self.now.cache.path (D.past disk.old) (D.past disk.new) }
+        ensures folders { D.tells → MakesOnly
+            (λ q. cache_file_of self.now.cache.path (text_of name.entry) ≡ Some q)
+            (D.folders disk.old) (D.folders disk.new) }
         ensures calls { D.made disk.new ≤ D.made disk.old + 13 }
         ensures later { D.faults disk.old ≤ D.faults disk.new }
     {
@@ -327,26 +384,5 @@ impl SparseIndex {
             Err(CacheFault::Disk) => Ok(()),
             Err(CacheFault::NoMemory) => Err(NoMemory),
         }
-    }
-}
-
-/// The revision that a body is stored under.
-fn stored_under(revision: Option<HttpRevision<'_>>) -> Revision<'_>
-    ensures { revision_value result ≡ stored_under (option_map http_value revision.entry) }
-{
-    match revision {
-        Some(revision) => Revision::Http(revision),
-        None => Revision::Unknown,
-    }
-}
-
-fn config_of(alloc: Global, bytes: &[u8]) -> Result<IndexConfig, Error>
-    ensures ok { IfOk result (λ config. config_of bytes.now ≡ Some config) }
-    ensures refused { IfErr result (λ e. (e ≡ Error.NoMemory) ⊎ ((e ≡ Error.Json 0) × (config_of bytes.now ≡ None))) }
-{
-    match IndexConfig::from_slice(alloc, bytes) {
-        Ok(config) => Ok(config),
-        Err(LineFault::Json) => Err(Error::Json { line: 0 }),
-        Err(LineFault::NoMemory) => Err(Error::NoMemory),
     }
 }

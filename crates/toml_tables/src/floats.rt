@@ -1,13 +1,14 @@
 //! Floats, however deep they stand.
 ghost use Rattle.std.specs.Prelude.{◌≡◌};
 ghost use Rattle.toml.specs.View.{view, table_view, array_view};
-ghost use Rattle.toml_tables.specs.Floats.{has_float, items_have_float, members_have_float};
+ghost use Rattle.toml_tables.specs.Floats.{members_have_float};
+ghost use Rattle.toml_tables.specs.Floats as spec;
 
 use toml::{Table, Value};
 
 #[cycle(floats)]
 fn has_float(value: &Value) -> bool
-    ensures { result ≡ has_float (view value.now) }
+    ensures { result ≡ spec.has_float (view value.now) }
 {
     match value {
         Value::Float(_) => true,
@@ -19,7 +20,7 @@ fn has_float(value: &Value) -> bool
 
 #[cycle(floats)]
 fn items_have_float(items: &Vec<Value>) -> bool
-    ensures { result ≡ items_have_float (array_view items.now) }
+    ensures { result ≡ spec.items_have_float (array_view items.now) }
 {
     for item in items {
         if has_float(item) {

@@ -1,4 +1,15 @@
 //! Tables of TOML, and what stands at their keys.
+//!
+//! Promises: a text is the table that it is in TOML, or none; what stands at a key is read exactly
+//! by its form: present, absent, or another value.
+//! Stands on the texts and lists of `tame_names`, and on `toml`.
+//!
+//! ```ignore
+//! let table = parse_table(alloc, "name = \"serde\"")?;
+//! required_text(member(&table, "name")); // Some("serde")
+//! optional_flag(member(&table, "yanked")); // Some(None): absent
+//! optional_flag(member(&table, "name")); // None: no flag
+//! ```
 #![tactic(auto)]
 
 mod floats;

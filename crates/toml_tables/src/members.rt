@@ -3,7 +3,8 @@
 ghost use Rattle.std.specs.Prelude.{◌≡◌, IfOk, option_map};
 ghost use Rattle.toml.specs.Data.{as_bool, as_str, as_table};
 ghost use Rattle.toml.specs.View.{view, table_view, items_view};
-ghost use Rattle.toml_tables.specs.Members.{natural, optional, optional_texts, required, texts_in, texts_of};
+ghost use Rattle.toml_tables.specs.Members.{natural, optional, required};
+ghost use Rattle.toml_tables.specs.Members as spec;
 
 use std::alloc::Global;
 use tame_names::{Items, NoMemory, Text};
@@ -79,7 +80,7 @@ pub fn optional_table<'a>(member: Option<&'a Value>) -> Option<Option<&'a Table>
 }
 
 fn texts_in(alloc: Global, items: &[Value]) -> Result<Option<Items<Text>>, NoMemory>
-    ensures { IfOk result (λ texts. texts ≡ texts_in (items_view items.now)) }
+    ensures { IfOk result (λ texts. texts ≡ spec.texts_in (items_view items.now)) }
 {
     let mut texts = Items::new(alloc);
     for item in items {
@@ -93,7 +94,7 @@ fn texts_in(alloc: Global, items: &[Value]) -> Result<Option<Items<Text>>, NoMem
 
 /// The texts of an array; nothing where the value is another one, or holds another one.
 pub fn texts_of(alloc: Global, value: &Value) -> Result<Option<Items<Text>>, NoMemory>
-    ensures { IfOk result (λ texts. texts ≡ texts_of (view value.now)) }
+    ensures { IfOk result (λ texts. texts ≡ spec.texts_of (view value.now)) }
 {
     match value {
         Value::Array(items) => texts_in(alloc, items),
@@ -107,7 +108,7 @@ pub fn optional_texts(
     member: Option<&Value>,
 ) -> Result<Option<Items<Text>>, NoMemory>
     ensures { IfOk result (λ texts. texts
-        ≡ optional_texts (option_map (λ v. view v.now) member.entry)) }
+        ≡ spec.optional_texts (option_map (λ v. view v.now) member.entry)) }
 {
     match member {
         None => Ok(Some(Items::new(alloc))),

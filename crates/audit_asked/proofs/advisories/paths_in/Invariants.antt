@@ -1,4 +1,4 @@
-use Rattle.std.proofs.Common.{◌≡◌, ◌≤◌, ◌++◌}
+use Rattle.std.proofs.Common.{◌≡◌, ◌≤◌, ◌++◌, ℕ, List, Contains}
 use Rattle.audit_asked.specs.Advisories.{paths_in}
 use Rattle.audit_asked.proofs.advisories.paths_in.Given as goal
 
@@ -10,4 +10,5 @@ invariant-loop-name g l = record {
   failed : g.F.Files.tells → g.F.Files.failed l.files ≡ g.F.Files.failed l.fn.files;
   paths : g.F.Files.tells → paths_in (g.F.Files.host l.fn.files) l.folder l.names.keys
       ≡ l.paths ++ paths_in (g.F.Files.host l.fn.files) l.folder l.name-iterator;
+  listed : (name : List ℕ) → Contains l.name-iterator name → Contains l.names.keys name;
 }

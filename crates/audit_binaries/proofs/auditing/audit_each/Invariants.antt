@@ -1,5 +1,5 @@
 use Rattle.std.proofs.Common.{◌≡◌, ◌≢◌, ℕ, List, take}
-use Rattle.audit_core.specs.Turns.{KeepsHonest}
+use Rattle.audit_core.specs.Turns.{StaysKept}
 use Rattle.audit_core.specs.declared.checking.Checks.TheVariants as Checks
 use Rattle.audit_binaries.specs.Binaries.{AreBinaries}
 use Rattle.audit_binaries.specs.Summaries.{AreRefused}
@@ -28,7 +28,7 @@ invariant-loop-path g l = record {
   files_same : g.F.Files.tells → g.F.Files.host l.files ≡ g.F.Files.host l.initial.files;
   decoder_same : g.P.Decoder.tells → (other : List ℕ) (bound : ℕ) → g.P.Decoder.answers l.decoder other bound ≡ g.P.Decoder.answers l.initial.decoder other bound;
   grown : g.W.Wire.tells → Grown (g.W.Wire.exchanges l.initial.wire) (g.W.Wire.exchanges l.wire);
-  kept : g.W.Wire.tells → g.D.CacheDisk.tells → KeepsHonest (g.W.Wire.exchanges l.initial.wire) (g.W.Wire.exchanges l.wire) (g.D.CacheDisk.past l.initial.disk) (g.D.CacheDisk.past l.disk);
+  kept : g.W.Wire.tells → g.D.CacheDisk.tells → StaysKept (g.W.Wire.exchanges l.initial.wire) (g.W.Wire.exchanges l.wire) (g.D.CacheDisk.past l.initial.disk) (g.D.CacheDisk.past l.disk);
   refused : AreRefused l.answers → (l.wire ≡ l.initial.wire) × (l.disk ≡ l.initial.disk);
   unasked : l.auditor.checks ≢ Checks.Online → l.wire ≡ l.initial.wire;
   unchanged : l.auditor.checks ≢ Checks.Online → g.D.CacheDisk.tells → (q : List ℕ) → g.D.CacheDisk.past l.disk q ≡ g.D.CacheDisk.past l.initial.disk q;

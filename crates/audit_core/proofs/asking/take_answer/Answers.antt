@@ -3,7 +3,7 @@ use Rattle.tame_names.specs.KrateNames.{text_of}
 use Rattle.tame_cache.specs.Disk.{reads}
 use Rattle.tame_cache.specs.Kept.{cache_file_of}
 use Rattle.audit_core.proofs.Lists.{if_ok, on_if_ok}
-use Rattle.audit_core.proofs.TakenLemmas.{came_is, held_body, left_file, taken_answer}
+use Rattle.audit_core.proofs.ResultLemmas.{came_is, held_body, left_file, taken_answer}
 use Rattle.audit_core.proofs.asking.take_answer.Goals as goal
 
 pub returns-clause-answer : goal.returns-clause-answer

@@ -1,13 +1,13 @@
 use Rattle.std.proofs.Common.{◌≡◌, List, ℕ, Some, map, ap, ◌∙◌, refl}
-use Rattle.audit_core.specs.declared.asking.Heard.{Heard}
+use Rattle.audit_core.specs.declared.asking.AnsweredTurn.{AnsweredTurn}
 use Rattle.tame_names.specs.Names.{path}
 use Rattle.audit_core.proofs.Apart.{asked_distinct}
 use Rattle.audit_core.proofs.Exchanged.{keeps_nothing, part_none}
 use Rattle.tame_cache.proofs.FolderLemmas.{made_weaker, none_made}
 use Rattle.audit_core.proofs.Names.{asked_file, named_part, names_valid, no_file_of}
 use Rattle.audit_core.specs.Paths.{asked_paths, default_paths, defaults}
-use Rattle.audit_core.proofs.Steps.{Adds-part}
-use Rattle.audit_core.proofs.Whole.{IsDone, audit_done, caused_done, heard_paths, held_done, turns_done}
+use Rattle.audit_core.proofs.Steps.{AddsTurns-part}
+use Rattle.audit_core.proofs.Whole.{IsDone, audit_done, caused_done, answered_paths, held_done, turns_done}
 use Rattle.audit_core.proofs.checking.check_online.Goals as goal
 
 pub returns-in_err-index-clause-part : goal.returns-in_err-index-clause-part
@@ -25,41 +25,41 @@ returns-in_err-plan-clause-kept g c told_wire told = keeps_nothing (g.W.Wire.exc
 pub ask-requires-clause-named : goal.ask-requires-clause-named
 ask-requires-clause-named g c = rw c.as_slice.ensures (names_valid c.in_ok-plan.plan.names (asked_paths c.args.packages.now) c.in_ok-plan.ensures.named)
 
-pub returns-in_err-heard-clause-part : goal.returns-in_err-heard-clause-part
-returns-in_err-heard-clause-part g c told =
+pub returns-in_err-answered_turns-clause-part : goal.returns-in_err-answered_turns-clause-part
+returns-in_err-answered_turns-clause-part g c told =
     let exchanges = g.W.Wire.exchanges in
     let plan = c.in_ok-plan in
-    named_part plan.plan.names (asked_paths c.args.packages.now) (exchanges c.args.wire.now) (exchanges c.ask.new.wire) plan.ensures.named (rw c.as_slice.ensures at (c.in_err-heard.ensures.part told))
+    named_part plan.plan.names (asked_paths c.args.packages.now) (exchanges c.args.wire.now) (exchanges c.ask.new.wire) plan.ensures.named (rw c.as_slice.ensures at (c.in_err-answered_turns.ensures.part told))
 
 pub returns-in_err-verdicts-clause-part : goal.returns-in_err-verdicts-clause-part
 returns-in_err-verdicts-clause-part g c told =
     let exchanges = g.W.Wire.exchanges in
     let past = g.D.CacheDisk.past in
     let plan = c.in_ok-plan in
-    let heard : map (λ (h : Heard). Some h.turn.path) c.in_ok-heard.heard ≡ map (λ q. Some q) (asked_paths c.args.packages.now) = c.in_ok-heard.ensures.paths ∙ ap (map path) c.as_slice.ensures ∙ plan.ensures.named in
-    Adds-part g.D.CacheDisk.tells (asked_paths c.args.packages.now) c.in_ok-heard.heard (exchanges c.args.wire.now) (exchanges c.ask.new.wire) (past c.args.disk.now) (past c.ask.new.disk) heard (c.in_ok-heard.ensures.said told)
+    let answered_turns : map (λ (h : AnsweredTurn). Some h.turn.path) c.in_ok-answered_turns.answered_turns ≡ map (λ q. Some q) (asked_paths c.args.packages.now) = c.in_ok-answered_turns.ensures.paths ∙ ap (map path) c.as_slice.ensures ∙ plan.ensures.named in
+    AddsTurns-part g.D.CacheDisk.tells (asked_paths c.args.packages.now) c.in_ok-answered_turns.answered_turns (exchanges c.args.wire.now) (exchanges c.ask.new.wire) (past c.args.disk.now) (past c.ask.new.disk) answered_turns (c.in_ok-answered_turns.ensures.said told)
 
 pub returns-in_err-turns-clause-part : goal.returns-in_err-turns-clause-part
 returns-in_err-turns-clause-part g c told =
     let exchanges = g.W.Wire.exchanges in
     let past = g.D.CacheDisk.past in
     let plan = c.in_ok-plan in
-    let heard : map (λ (h : Heard). Some h.turn.path) c.in_ok-heard.heard ≡ map (λ q. Some q) (asked_paths c.args.packages.now) = c.in_ok-heard.ensures.paths ∙ ap (map path) c.as_slice.ensures ∙ plan.ensures.named in
-    Adds-part g.D.CacheDisk.tells (asked_paths c.args.packages.now) c.in_ok-heard.heard (exchanges c.args.wire.now) (exchanges c.ask.new.wire) (past c.args.disk.now) (past c.ask.new.disk) heard (c.in_ok-heard.ensures.said told)
+    let answered_turns : map (λ (h : AnsweredTurn). Some h.turn.path) c.in_ok-answered_turns.answered_turns ≡ map (λ q. Some q) (asked_paths c.args.packages.now) = c.in_ok-answered_turns.ensures.paths ∙ ap (map path) c.as_slice.ensures ∙ plan.ensures.named in
+    AddsTurns-part g.D.CacheDisk.tells (asked_paths c.args.packages.now) c.in_ok-answered_turns.answered_turns (exchanges c.args.wire.now) (exchanges c.ask.new.wire) (past c.args.disk.now) (past c.ask.new.disk) answered_turns (c.in_ok-answered_turns.ensures.said told)
 
 pub returns-clause-part : goal.returns-clause-part
 returns-clause-part g c told =
     let exchanges = g.W.Wire.exchanges in
     let past = g.D.CacheDisk.past in
     let plan = c.in_ok-plan in
-    let heard : map (λ (h : Heard). Some h.turn.path) c.in_ok-heard.heard ≡ map (λ q. Some q) (asked_paths c.args.packages.now) = c.in_ok-heard.ensures.paths ∙ ap (map path) c.as_slice.ensures ∙ plan.ensures.named in
-    Adds-part g.D.CacheDisk.tells (asked_paths c.args.packages.now) c.in_ok-heard.heard (exchanges c.args.wire.now) (exchanges c.ask.new.wire) (past c.args.disk.now) (past c.ask.new.disk) heard (c.in_ok-heard.ensures.said told)
+    let answered_turns : map (λ (h : AnsweredTurn). Some h.turn.path) c.in_ok-answered_turns.answered_turns ≡ map (λ q. Some q) (asked_paths c.args.packages.now) = c.in_ok-answered_turns.ensures.paths ∙ ap (map path) c.as_slice.ensures ∙ plan.ensures.named in
+    AddsTurns-part g.D.CacheDisk.tells (asked_paths c.args.packages.now) c.in_ok-answered_turns.answered_turns (exchanges c.args.wire.now) (exchanges c.ask.new.wire) (past c.args.disk.now) (past c.ask.new.disk) answered_turns (c.in_ok-answered_turns.ensures.said told)
 
 pub judge-requires : goal.judge-requires
 judge-requires g c =
     let plan = c.in_ok-plan in
-    let hs = c.in_ok-heard.heard in
-    let paths : map (λ (h : Heard). h.turn.path) hs ≡ asked_paths c.args.packages.now = heard_paths plan.plan.names (asked_paths c.args.packages.now) hs (c.in_ok-heard.ensures.paths ∙ ap (map path) c.as_slice.ensures) plan.ensures.named in
+    let hs = c.in_ok-answered_turns.answered_turns in
+    let paths : map (λ (h : AnsweredTurn). h.turn.path) hs ≡ asked_paths c.args.packages.now = answered_paths plan.plan.names (asked_paths c.args.packages.now) hs (c.in_ok-answered_turns.ensures.paths ∙ ap (map path) c.as_slice.ensures) plan.ensures.named in
     rw (c.as_slice-2.ensures, c.as_slice-3.ensures, paths) plan.ensures.planned
 
 pub returns-clause-says : goal.returns-clause-says
@@ -68,23 +68,23 @@ returns-clause-says g c =
     let past = g.D.CacheDisk.past in
     let packages = c.args.packages.now in
     let plan = c.in_ok-plan in
-    let hs = c.in_ok-heard.heard in
+    let hs = c.in_ok-answered_turns.answered_turns in
     let verdicts = c.in_ok-verdicts.verdicts in
     let done : IsDone (asked_paths packages) (defaults packages) hs verdicts = record {
       distinct = asked_distinct (default_paths packages);
-      heard = heard_paths plan.plan.names (asked_paths packages) hs (c.in_ok-heard.ensures.paths ∙ ap (map path) c.as_slice.ensures) plan.ensures.named;
+      answered_turns = answered_paths plan.plan.names (asked_paths packages) hs (c.in_ok-answered_turns.ensures.paths ∙ ap (map path) c.as_slice.ensures) plan.ensures.named;
       judged = rw c.as_slice-2.ensures at c.in_ok-verdicts.ensures;
     } in
     rw c.in_ok-turns.ensures record {
-      headline = λ online told_wire told. held_done g.D.CacheDisk.tells told (asked_paths packages) (defaults packages) hs verdicts (exchanges c.args.wire.now) (exchanges c.ask.new.wire) (past c.args.disk.now) (past c.ask.new.disk) done c.in_ok-heard.ensures.caused (c.in_ok-heard.ensures.said told_wire);
-      audited = λ online told. audit_done g.D.CacheDisk.tells (asked_paths packages) (defaults packages) hs verdicts (exchanges c.args.wire.now) (exchanges c.ask.new.wire) (past c.args.disk.now) (past c.ask.new.disk) done (c.in_ok-heard.ensures.said told);
+      headline = λ online told_wire told. held_done g.D.CacheDisk.tells told (asked_paths packages) (defaults packages) hs verdicts (exchanges c.args.wire.now) (exchanges c.ask.new.wire) (past c.args.disk.now) (past c.ask.new.disk) done c.in_ok-answered_turns.ensures.caused (c.in_ok-answered_turns.ensures.said told_wire);
+      audited = λ online told. audit_done g.D.CacheDisk.tells (asked_paths packages) (defaults packages) hs verdicts (exchanges c.args.wire.now) (exchanges c.ask.new.wire) (past c.args.disk.now) (past c.ask.new.disk) done (c.in_ok-answered_turns.ensures.said told);
       recalled = λ offline. absurd (cc);
-      counted = turns_done (asked_paths packages) (defaults packages) hs verdicts _ _ _ _ done c.in_ok-heard.ensures.counts;
-      caused = caused_done (asked_paths packages) (defaults packages) hs verdicts done c.in_ok-heard.ensures.caused;
+      counted = turns_done (asked_paths packages) (defaults packages) hs verdicts _ _ _ _ done c.in_ok-answered_turns.ensures.counts;
+      caused = caused_done (asked_paths packages) (defaults packages) hs verdicts done c.in_ok-answered_turns.ensures.caused;
     }
 
-pub returns-in_err-heard-clause-others : goal.returns-in_err-heard-clause-others
-returns-in_err-heard-clause-others g c told q other =
+pub returns-in_err-answered_turns-clause-others : goal.returns-in_err-answered_turns-clause-others
+returns-in_err-answered_turns-clause-others g c told q other =
     let plan = c.in_ok-plan in
     c.ask.ensures.others told q (rw c.as_slice.ensures (no_file_of plan.plan.names (asked_paths c.args.packages.now) q plan.ensures.named other))
 
@@ -103,8 +103,8 @@ returns-clause-others g c told q other =
     let plan = c.in_ok-plan in
     c.ask.ensures.others told q (rw c.as_slice.ensures (no_file_of plan.plan.names (asked_paths c.args.packages.now) q plan.ensures.named other))
 
-pub returns-in_err-heard-clause-folders : goal.returns-in_err-heard-clause-folders
-returns-in_err-heard-clause-folders g c told =
+pub returns-in_err-answered_turns-clause-folders : goal.returns-in_err-answered_turns-clause-folders
+returns-in_err-answered_turns-clause-folders g c told =
     let plan = c.in_ok-plan in
     made_weaker _ _ (λ q is. asked_file plan.plan.names (asked_paths c.args.packages.now) q plan.ensures.named is) _ _ (rw c.as_slice.ensures at (c.ask.ensures.folders told))
 

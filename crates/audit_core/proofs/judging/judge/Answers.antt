@@ -15,10 +15,10 @@ verdict_of-requires c = planned_at _ c.args.packages.now c.args.planned.now c.lo
 
 pub loop-i-preserved : goal.loop-i-preserved
 loop-i-preserved c =
-    let P : List Judged → Type 0 = λ js. IsFront c.args.heard.now c.args.packages.now (c.loop-i.i + 1) js in
+    let P : List Judged → Type 0 = λ js. IsFront c.args.answered_turns.now c.args.packages.now (c.loop-i.i + 1) js in
     elim c.match-verdict_of.branch [
-      | in-Some+in_ok-add w ↦ subst P (sym w.verdicts-is) (subst P (sym w.in_ok-add.ensures.ok) (front_more c.args.heard.now c.args.packages.now c.loop-i.i c.package_at.result.now w.in-Some.verdict c.loop-i.verdicts c.package_at.ensures w.in-Some.ensures.default w.in-Some.ensures.verdict c.loop-i.invariant))
-      | in_default w ↦ subst P (sym w.verdicts-is) (front_same c.args.heard.now c.args.packages.now c.loop-i.i c.package_at.result.now c.loop-i.verdicts c.package_at.ensures (w.in_default.ensures.elsewhere refl) c.loop-i.invariant)
+      | in-Some+in_ok-add w ↦ subst P (sym w.verdicts-is) (subst P (sym w.in_ok-add.ensures.ok) (front_more c.args.answered_turns.now c.args.packages.now c.loop-i.i c.package_at.result.now w.in-Some.verdict c.loop-i.verdicts c.package_at.ensures w.in-Some.ensures.default w.in-Some.ensures.verdict c.loop-i.invariant))
+      | in_default w ↦ subst P (sym w.verdicts-is) (front_same c.args.answered_turns.now c.args.packages.now c.loop-i.i c.package_at.result.now c.loop-i.verdicts c.package_at.ensures (w.in_default.ensures.elsewhere refl) c.loop-i.invariant)
     ]
 
 pub returns : goal.returns
@@ -26,4 +26,4 @@ returns c =
     let same = planned_length _ c.args.packages.now c.args.planned.now c.requires in
     let past = c.loop-i-test.false in
     let end : length c.args.packages.now ≤ c.loop-i.i = omega (arith, same, past) in
-    front_whole c.args.heard.now c.args.packages.now c.loop-i.i c.loop-i.verdicts end c.loop-i.invariant
+    front_whole c.args.answered_turns.now c.args.packages.now c.loop-i.i c.loop-i.verdicts end c.loop-i.invariant

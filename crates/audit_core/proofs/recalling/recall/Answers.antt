@@ -3,7 +3,7 @@ use Rattle.tame_names.specs.KrateNames.{text_of}
 use Rattle.tame_cache.specs.Disk.{reads}
 use Rattle.tame_cache.specs.Kept.{cache_file_of}
 use Rattle.audit_core.proofs.Lists.{if_ok}
-use Rattle.audit_core.proofs.TakenLemmas.{same_answer}
+use Rattle.audit_core.proofs.ResultLemmas.{same_answer}
 use Rattle.audit_core.proofs.recalling.recall.Goals as goal
 
 pub returns-clause-answer : goal.returns-clause-answer

@@ -1,5 +1,6 @@
 use Rattle.std.proofs.Common.{◌≡◌, ◌≤◌, take, length}
-use Rattle.audit_fix.specs.Steps.{RoseBy, StartsEach, failed_starts}
+use Rattle.tame_names.specs.Counts.{CountRoseBy}
+use Rattle.audit_fix.specs.Steps.{StartsEach, failed_starts}
 use Rattle.audit_fix.proofs.steps.start_steps.Given as goal
 
 -- the steps so far were started, each once, and what failed was counted
@@ -8,5 +9,5 @@ invariant-loop-step g l = record {
   one_each : length l.statuses ≡ l.step-index;
   started : g.R.Runner.tells → StartsEach (take l.step-index l.plan.steps) l.statuses (g.R.Runner.starts l.fn.runner) (g.R.Runner.starts l.runner);
   later : g.R.Runner.faults l.fn.runner ≤ g.R.Runner.faults l.runner;
-  rose : RoseBy (failed_starts l.statuses) (g.R.Runner.faults l.fn.runner) (g.R.Runner.faults l.runner);
+  rose : CountRoseBy (failed_starts l.statuses) (g.R.Runner.faults l.fn.runner) (g.R.Runner.faults l.runner);
 }

@@ -1,16 +1,17 @@
-use Rattle.std.proofs.Common.{[], Ok, Some, ap, map, refl}
+use Rattle.std.proofs.Common.{[], Ok, Some, ap, map, refl, subst}
 use Rattle.std.specs.Prelude.{string_bytes}
 use Rattle.audit_words.specs.Reading.{command_of}
 use Rattle.audit_words.specs.declared.commands.Command.TheVariants as command
 use Rattle.audit_asked.specs.declared.faults.RunFault.TheVariants as fault
 use Rattle.audit_core.proofs.Exchanged.{keeps_nothing, part_none}
-use Rattle.audit_program.specs.Outputs.{words_place}
+use Rattle.audit_program.specs.Outputs.{AsksForNoAudit, words_place}
 use Rattle.audit_program.specs.Tasks.{fix_task, task_of}
 use Rattle.audit_program.specs.declared.tasks.Remedy.TheVariants.{Report}
 use Rattle.audit_program.proofs.Commands.{accepted_by, if_none, if_none_then, no_memory_called, plain_none, plain_put, task_cause}
 use Rattle.audit_program.proofs.Completing.{task_complete}
 use Rattle.audit_program.proofs.Ended.{ended_by}
 use Rattle.audit_program.proofs.Putting.{put_nothing}
+use Rattle.audit_program.proofs.Starting.{none_started}
 use Rattle.audit_program.proofs.running.run.Goals as goal
 
 pub returns-in-Ok-Audit-clause-cause : goal.returns-in-Ok-Audit-clause-cause
@@ -48,6 +49,10 @@ returns-in-Ok-Bin-clause-unaudited_out g c told =
     (if_none_then c.run_binaries.result.binaries _ _
     (λ same. plain_none _ (Ok (command.Bin c.in-Ok-Bin.command c.in-Ok-Bin.more)) _ _ c.run_binaries.result.fault mine refl (ap g.O.Sink.holds same)) c.run_binaries.ensures.unmade_out)
 
+pub returns-in-Ok-Bin-clause-one_start : goal.returns-in-Ok-Bin-clause-one_start
+returns-in-Ok-Bin-clause-one_start g c failed is =
+    none_started g.F.Files.tells c.in-Ok-Bin.command (g.F.Files.host c.args.files.now) c.run_binaries.result.fault failed c.run_binaries.ensures.cause is
+
 pub returns-in-Ok-Help-clause-unaudited_out : goal.returns-in-Ok-Help-clause-unaudited_out
 returns-in-Ok-Help-clause-unaudited_out g c told =
     if_none c.run_text.result.audited _ (if_none c.run_text.result.binaries _
@@ -77,3 +82,18 @@ returns-in-Err-NoMemory-clause-kept g c told_wire told = keeps_nothing (g.W.Wire
 
 pub returns-in-Err-NoMemory-clause-part : goal.returns-in-Err-NoMemory-clause-part
 returns-in-Err-NoMemory-clause-part g c told_files told given packages accepts = part_none _ _ _ refl
+
+pub returns-in-Ok-Audit-clause-uncalled : goal.returns-in-Ok-Audit-clause-uncalled
+returns-in-Ok-Audit-clause-uncalled g c nothing =
+    let mine = rw c.in-Ok-Audit.field-0-is at c.in-Ok-Audit.ensures.ok in
+    absurd (subst AsksForNoAudit mine nothing)
+
+pub returns-in-Ok-Fix-clause-uncalled : goal.returns-in-Ok-Fix-clause-uncalled
+returns-in-Ok-Fix-clause-uncalled g c nothing =
+    let mine = rw c.in-Ok-Fix.field-0-is at c.in-Ok-Fix.ensures.ok in
+    absurd (subst AsksForNoAudit mine nothing)
+
+pub returns-in-Ok-Bin-clause-uncalled : goal.returns-in-Ok-Bin-clause-uncalled
+returns-in-Ok-Bin-clause-uncalled g c nothing =
+    let mine = rw c.in-Ok-Bin.field-0-is at c.in-Ok-Bin.ensures.ok in
+    absurd (subst AsksForNoAudit mine nothing)

@@ -9,7 +9,7 @@ use Rattle.audit_core.specs.Checks.{asked_of, checks_of}
 use Rattle.audit_core.proofs.Exchanged.{keeps_nothing, part_none}
 use Rattle.audit_program.proofs.Asking.{asked_config, generated_as, if_some, rose_from}
 use Rattle.audit_program.proofs.Commands.{if_none}
-use Rattle.audit_program.proofs.Starting.{failed_starts}
+use Rattle.audit_program.proofs.Starting.{asked_one, audited_some, failed_starts}
 use Rattle.audit_program.proofs.task_runs.run_task.Goals as goal
 
 pub returns-in-Ok-clause-audited : goal.returns-in-Ok-clause-audited
@@ -26,6 +26,9 @@ returns-in-Ok-clause-audited g c =
 pub returns-in-Ok-clause-start_rose : goal.returns-in-Ok-clause-start_rose
 returns-in-Ok-clause-start_rose g c failed is =
     rose_from failed _ _ _ c.in-Ok.ensures.start_cause.later (c.run_given.ensures.start_rose failed is)
+
+pub returns-in-Ok-clause-one_start : goal.returns-in-Ok-clause-one_start
+returns-in-Ok-clause-one_start g c failed is = audited_some c.run_given.result.audited _ (c.run_given.ensures.start_audit failed is)
 
 pub returns-in-Ok-clause-others : goal.returns-in-Ok-clause-others
 returns-in-Ok-clause-others g c told_files told given packages is lock q other =
@@ -54,6 +57,10 @@ returns-in-Err-clause-started g c told_files told =
     if_none c.failed.result.audited _
     (failed_starts (generates c.args.task.now.command (g.F.Files.host c.args.files.now) (settled c.args.task.now.command (g.F.Files.host c.args.files.now))) _ _ c.in-Err.fault c.failed.result.fault c.failed.ensures.fault
     (c.in-Err.ensures.at_most told) (c.in-Err.ensures.started told_files told))
+
+pub returns-in-Err-clause-one_start : goal.returns-in-Err-clause-one_start
+returns-in-Err-clause-one_start g c failed is =
+    if_none c.failed.result.audited _ (asked_one c.in-Err.fault c.failed.result.fault failed c.failed.ensures.fault c.in-Err.ensures.only is)
 
 pub returns-in-Err-clause-kept : goal.returns-in-Err-clause-kept
 returns-in-Err-clause-kept g c told_wire told = keeps_nothing (g.W.Wire.exchanges c.args.wire.now) (g.W.Wire.exchanges c.args.wire.now) (g.D.CacheDisk.past c.args.disk.now)

@@ -1,11 +1,11 @@
 use Rattle.std.proofs.Common.{map, take}
 use Rattle.std.specs.List.{flat_map}
 use Rattle.json.specs.Tree.{json_tokens}
-use Rattle.audit_report.specs.Adds.{Adds}
+use Rattle.audit_report.specs.WrittenTokens.{WritesTokens}
 use Rattle.audit_report.specs.SarifObjects.{result_object}
 use Rattle.audit_report.proofs.sarif_objects.write_results.Given as goal
 
 -- the values so far
 abbrev pub invariant-loop-told : goal.invariant-loop-told
 invariant-loop-told l =
-    Adds l.initial.out l.out (flat_map json_tokens (map result_object (take l.told-index l.results)))
+    WritesTokens l.initial.out l.out (flat_map json_tokens (map result_object (take l.told-index l.results)))

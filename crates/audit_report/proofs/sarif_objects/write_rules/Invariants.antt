@@ -1,11 +1,11 @@
 use Rattle.std.proofs.Common.{map, take}
 use Rattle.std.specs.List.{flat_map}
 use Rattle.json.specs.Tree.{json_tokens}
-use Rattle.audit_report.specs.Adds.{Adds}
+use Rattle.audit_report.specs.WrittenTokens.{WritesTokens}
 use Rattle.audit_report.specs.SarifObjects.{rule_object}
 use Rattle.audit_report.proofs.sarif_objects.write_rules.Given as goal
 
 -- the values so far
 abbrev pub invariant-loop-rule : goal.invariant-loop-rule
 invariant-loop-rule l =
-    Adds l.initial.out l.out (flat_map json_tokens (map rule_object (take l.rule-index l.rules)))
+    WritesTokens l.initial.out l.out (flat_map json_tokens (map rule_object (take l.rule-index l.rules)))

@@ -1,7 +1,7 @@
 use Rattle.std.proofs.Common.{◌≡◌, sym, subst, ◌∙◌, ap, arith, true, false}
 use Rattle.std.specs.Str.{bytes_eq}
 use Rattle.std.specs.String.{string_bytes}
-use Rattle.tame_cache.specs.declared.memory_disk.Call.{Call}
+use Rattle.tame_cache.specs.declared.calls.Call.{Call}
 use Rattle.tame_cache.proofs.CrashLemmas.{drop_changed, drop_other}
 use Rattle.tame_cache.proofs.crashing.half.Goals as goal
 

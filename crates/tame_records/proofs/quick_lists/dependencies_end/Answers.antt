@@ -3,9 +3,9 @@ use Rattle.json.specs.Token.{Token}
 use Rattle.json.specs.Lex.{Place, fresh, after_value, after_comma, may_begin}
 use Rattle.serde_json.specs.Data.{array, no_items}
 use Rattle.tame_records.specs.Quick.{ends, left}
-use Rattle.tame_records.specs.Heads.{IsValue, Takes, TakesItems, is_dependency}
-use Rattle.tame_records.proofs.HeadForms.{dependencies_form}
-use Rattle.tame_records.proofs.HeadTokens.{array_taken, item_of_form, items_end, no_item_of_form}
+use Rattle.tame_records.specs.VersionFlags.{IsValue, Takes, TakesItems, is_dependency}
+use Rattle.tame_records.proofs.FlagForms.{dependencies_form}
+use Rattle.tame_records.proofs.FlagTokens.{array_taken, item_of_form, items_end, no_item_of_form}
 use Rattle.tame_records.proofs.QuickLex.{array_closes, array_empties, array_opens, bracket_ends, comma_ends, comma_passes}
 use Rattle.tame_records.proofs.quick_lists.dependencies_end.Goals as goal
 

@@ -2,7 +2,7 @@ use Rattle.std.proofs.Common.{◌≡◌, ◌+◌, ◌-◌, ◌<◌, List, length
 use Rattle.json.specs.Token.{Token}
 use Rattle.json.specs.Lex.{Place, fresh, may_begin}
 use Rattle.tame_records.specs.Quick.{left}
-use Rattle.tame_records.specs.Heads.{TakesItems, is_dependency}
+use Rattle.tame_records.specs.VersionFlags.{TakesItems, is_dependency}
 use Rattle.tame_records.proofs.quick_lists.dependencies_end.Given as goal
 
 -- one may begin here, and what is left decides

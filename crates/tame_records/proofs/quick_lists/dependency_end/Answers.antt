@@ -3,11 +3,11 @@ use Rattle.json.specs.Token.{Token}
 use Rattle.json.specs.Lex.{Place, fresh, after_value, after_comma, may_begin}
 use Rattle.serde_json.specs.Data.{Members, no_members, put, object}
 use Rattle.tame_records.specs.Quick.{ends, left}
-use Rattle.tame_records.specs.Heads.{AreMembers, KnowsDependency}
+use Rattle.tame_records.specs.VersionFlags.{AreMembers, KnowsDependency}
 use Rattle.tame_records.specs.declared.keys.DependencySeen.{DependencySeen}
-use Rattle.tame_records.proofs.HeadForms.{dependency_form}
+use Rattle.tame_records.proofs.FlagForms.{dependency_form}
 use Rattle.tame_records.proofs.DependencyKeys.{dependency_knows_nothing, dependency_knows_more}
-use Rattle.tame_records.proofs.HeadTokens.{object_taken}
+use Rattle.tame_records.proofs.FlagTokens.{object_taken}
 use Rattle.tame_records.proofs.QuickLex.{last_member, object_opens, whole_before_brace, whole_before_comma, with_member}
 use Rattle.tame_records.proofs.quick_lists.dependency_end.Goals as goal
 

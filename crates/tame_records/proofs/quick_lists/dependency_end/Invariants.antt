@@ -3,7 +3,7 @@ use Rattle.json.specs.Token.{Token}
 use Rattle.json.specs.Lex.{Place, fresh, may_begin}
 use Rattle.serde_json.specs.Data.{Members, no_members}
 use Rattle.tame_records.specs.Quick.{left}
-use Rattle.tame_records.specs.Heads.{AreMembers, KnowsDependency}
+use Rattle.tame_records.specs.VersionFlags.{AreMembers, KnowsDependency}
 use Rattle.tame_records.proofs.quick_lists.dependency_end.Given as goal
 
 -- one may begin here, and what is left decides

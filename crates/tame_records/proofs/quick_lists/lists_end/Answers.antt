@@ -3,10 +3,10 @@ use Rattle.json.specs.Token.{Token}
 use Rattle.json.specs.Lex.{Place, fresh, after_value, after_comma, may_begin}
 use Rattle.serde_json.specs.Data.{Members, no_members, put, object}
 use Rattle.tame_records.specs.Quick.{ends, left}
-use Rattle.tame_records.specs.Heads.{AreMembers, are_texts}
-use Rattle.tame_records.proofs.HeadForms.{lists_form}
-use Rattle.tame_records.proofs.HeadMembers.{all_put, whole_put}
-use Rattle.tame_records.proofs.HeadTokens.{members_end, object_taken}
+use Rattle.tame_records.specs.VersionFlags.{AreMembers, are_texts}
+use Rattle.tame_records.proofs.FlagForms.{lists_form}
+use Rattle.tame_records.proofs.FlagMembers.{all_put, whole_put}
+use Rattle.tame_records.proofs.FlagTokens.{members_end, object_taken}
 use Rattle.tame_records.proofs.QuickLex.{last_member, object_empties, object_opens, whole_before_brace, whole_before_comma, with_member}
 use Rattle.tame_records.proofs.quick_lists.lists_end.Goals as goal
 

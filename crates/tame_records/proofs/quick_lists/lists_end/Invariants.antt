@@ -4,7 +4,7 @@ use Rattle.json.specs.Lex.{Place, fresh, may_begin}
 use Rattle.serde_json.specs.Data.{Members, no_members}
 use Rattle.serde_json.specs.Written.{members_have_float}
 use Rattle.tame_records.specs.Quick.{left}
-use Rattle.tame_records.specs.Heads.{AreMembers, all_members, are_texts}
+use Rattle.tame_records.specs.VersionFlags.{AreMembers, all_members, are_texts}
 use Rattle.tame_records.proofs.quick_lists.lists_end.Given as goal
 
 -- one may begin here, and what is left decides

@@ -3,10 +3,10 @@ use Rattle.json.specs.Token.{Token}
 use Rattle.json.specs.Lex.{Place, fresh, after_value, after_comma, may_begin}
 use Rattle.serde_json.specs.Data.{array, no_items, string}
 use Rattle.tame_records.specs.Quick.{ends, left}
-use Rattle.tame_records.specs.Heads.{Takes, TakesItems, IsValue, is_text}
+use Rattle.tame_records.specs.VersionFlags.{Takes, TakesItems, IsValue, is_text}
 use Rattle.tame_records.proofs.QuickLex.{array_closes, array_empties, array_opens, bracket_ends, comma_ends, comma_passes, text_at}
-use Rattle.tame_records.proofs.HeadForms.{texts_form}
-use Rattle.tame_records.proofs.HeadTokens.{array_taken, item_of_form, items_end, no_item_of_form}
+use Rattle.tame_records.proofs.FlagForms.{texts_form}
+use Rattle.tame_records.proofs.FlagTokens.{array_taken, item_of_form, items_end, no_item_of_form}
 use Rattle.tame_records.proofs.quick_lists.texts_end.Goals as goal
 
 pub returns-then-byte_at-eq93-clause-value : goal.returns-then-byte_at-eq93-clause-value

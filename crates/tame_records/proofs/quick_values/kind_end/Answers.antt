@@ -1,6 +1,6 @@
 use Rattle.std.proofs.Common.{◌≡◌, true, refl, sym, ◌∙◌, rules}
 use Rattle.serde_json.specs.Data.{string}
-use Rattle.tame_records.specs.Heads.{is_kind}
+use Rattle.tame_records.specs.VersionFlags.{is_kind}
 use Rattle.tame_records.proofs.QuickLex.{if_null, text_at}
 use Rattle.tame_records.proofs.quick_values.kind_end.Goals as goal
 

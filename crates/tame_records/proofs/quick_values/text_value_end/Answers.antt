@@ -1,5 +1,5 @@
 use Rattle.std.proofs.Common.{refl}
-use Rattle.tame_records.specs.Heads.{is_text}
+use Rattle.tame_records.specs.VersionFlags.{is_text}
 use Rattle.tame_records.proofs.QuickLex.{if_text}
 use Rattle.tame_records.proofs.quick_values.text_value_end.Goals as goal
 

@@ -1,6 +1,6 @@
 use Rattle.std.proofs.Common.{◌≡◌, ◌<◌, ◌+◌, [], ◌∷◌, ◌++◌, List, length, get_or, take, refl, inl, sym, ◌∙◌, ap, subst, arith}
 use Rattle.std.proofs.lemmas.List.{take_more, take_all}
-use Rattle.tame_cache.specs.declared.memory_disk.Call.{Call}
+use Rattle.tame_cache.specs.declared.calls.Call.{Call}
 use Rattle.tame_cache.specs.Disk.{may_leave}
 use Rattle.tame_cache.specs.Calls.{file_of, past_of}
 use Rattle.tame_cache.specs.MemoryDisk.{picked}

@@ -1,6 +1,6 @@
 use Rattle.std.proofs.Common.{◌≡◌, ◌≤◌, ◌/◌, [], List, ℕ, Some, length, take, sym, ◌∙◌, ap, subst, arith, length-take}
 use Rattle.std.proofs.lemmas.Result.{on_ok_weaker, on_err_weaker}
-use Rattle.tame_cache.specs.declared.memory_disk.Change.TheVariants.{Write}
+use Rattle.tame_cache.specs.declared.calls.Change.TheVariants.{Write}
 use Rattle.tame_cache.specs.Disk.{TornFile, content, with_piece, reads}
 use Rattle.tame_cache.specs.Calls.{past_of}
 use Rattle.tame_cache.proofs.Record.{after_same, noted_write, part_torn_file}

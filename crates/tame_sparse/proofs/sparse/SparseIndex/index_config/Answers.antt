@@ -1,7 +1,7 @@
 use Rattle.std.proofs.Common.{◌≡◌, sym, ◌∙◌, ap}
 use Rattle.tame_names.specs.Standing.{File}
 use Rattle.tame_sparse.specs.Urls.{config_file}
-use Rattle.tame_sparse.proofs.Configs.{config_read}
+use Rattle.tame_sparse.proofs.ConfigLemmas.{config_read}
 use Rattle.tame_sparse.proofs.sparse.SparseIndex.index_config.Goals as goal
 
 pub returns-in-Ok-Whole-clause-read : goal.returns-in-Ok-Whole-clause-read

@@ -1,6 +1,6 @@
 use Rattle.std.proofs.Common.{refl}
 use Rattle.tame_names.specs.KrateNames.{text_of}
-use Rattle.tame_sparse.specs.Answered.{came}
+use Rattle.tame_sparse.specs.ResponseResults.{came}
 use Rattle.tame_sparse.proofs.Stored.{stores_same}
 use Rattle.tame_sparse.proofs.sparse.SparseIndex.parse_remote_response.Goals as goal
 

@@ -2,7 +2,7 @@ use Rattle.std.proofs.Common.{◌≡◌, map, refl, ap}
 use Rattle.tame_names.specs.KrateNames.{text_of}
 use Rattle.tame_entry.specs.Entry.{pair_of, pairs}
 use Rattle.tame_entry.specs.JsonLines.{lines_of}
-use Rattle.tame_sparse.specs.Answered.{came}
+use Rattle.tame_sparse.specs.ResponseResults.{came}
 use Rattle.tame_sparse.proofs.Stored.{passes, stores_same, stores_written}
 use Rattle.tame_sparse.proofs.sparse.SparseIndex.take_body.Goals as goal
 use Rattle.tame_sparse.proofs.sparse.SparseIndex.take_body.Goals.{then-write_cache_entry+in-Ok-keep, else-write_cache_entry}

@@ -1,0 +1,8 @@
+-- Texts without what they begin with.
+use Rattle.std.specs.Prelude.{ℕ, List, [], ◌∷◌, ◌==◌, Option, Some, None, if◌then◌else◌}
+
+-- what stands behind a prefix, where the text begins with it
+abbrev pub without_prefix : List ℕ → List ℕ → Option (List ℕ)
+without_prefix [] text = Some text
+without_prefix (p ∷ ps) [] = None
+without_prefix (p ∷ ps) (b ∷ bs) = if b == p then without_prefix ps bs else None

@@ -1,0 +1,112 @@
+-- What an index makes of an answer (Cargo Book, "Registry Index", sparse protocol; RFC 9110,
+-- section 15), and what it stores of it.
+use Rattle.std.specs.Prelude.{◌≡◌, ◌≢◌, ◌⊎◌, ℕ, codes, List, Bool, false, IsTrue, Option, Some, None, option_map, IfSome, Result, Ok, Err, IfOk, IfErr}
+use Rattle.tame_names.specs.Names.{path}
+use Rattle.tame_names.specs.declared.errors.Error.{Error}
+use Rattle.tame_names.specs.declared.errors.Error.TheVariants as error
+use Rattle.tame_names.specs.declared.errors.HttpError.TheVariants as http_error
+use Rattle.tame_names.specs.declared.errors.InvalidJsonLines.{InvalidJsonLines}
+use Rattle.tame_names.specs.declared.errors.IoKind.TheVariants as io_kind
+use Rattle.tame_records.specs.Lines.{lines}
+use Rattle.tame_entry.specs.Entry.{entry, has_no_zero, pairs}
+use Rattle.tame_entry.specs.ServerMaps.{Maps, ServerMap}
+use Rattle.tame_entry.specs.JsonLines.{lines_of}
+use Rattle.tame_entry.specs.Lines.{invalid, plain}
+use Rattle.tame_entry.specs.Revision.{EntryRevision, Http, Unknown, entry_text, http_value}
+use Rattle.tame_entry.specs.declared.index_entries.IndexEntry.{IndexEntry}
+use Rattle.tame_entry.specs.declared.index_entries.IndexEntry.TheVariants.{Remote}
+use Rattle.tame_entry.specs.declared.revisions.OwnedRevision.{OwnedRevision}
+use Rattle.tame_cache.specs.Disk.{EachMoment, may_leave}
+use Rattle.tame_cache.specs.Gate.{IsOrderly, IsUnreadable, IsStored}
+use Rattle.tame_cache.specs.Kept.{Disk, IsKept, Keeps, cache_file_of}
+use Rattle.tame_sparse.specs.Honest.{SaysAbsent}
+use Rattle.tame_sparse.specs.declared.network.WireAnswer.{WireAnswer}
+use Rattle.tame_sparse.specs.declared.responses.Response.{Response}
+
+-- ---- the answer
+
+abbrev pub ResponseResult : Type 0
+ResponseResult = Result (Option IndexEntry) Error
+
+-- the lines of a valid body
+abbrev pub AreSentLines : List ℕ → Option IndexEntry → Type 0
+AreSentLines body (Some (Remote json_lines)) =
+    (lines_of json_lines ≡ lines body) × (invalid body ≡ None)
+AreSentLines body _ = ⊥
+
+-- they, or why the body isn't valid
+pub record IsBodyResult (body : List ℕ) (taken : ResponseResult) : Type 0 where
+  pub lines : IfOk taken (AreSentLines body)
+  pub refused : IfErr taken (λ e. (e ≡ error.NoMemory)
+      ⊎ ((why : InvalidJsonLines) × (e ≡ error.InvalidJsonLines why) × (invalid body ≡ Some why)))
+
+-- the status that is refused, and the words for it
+abbrev pub status_fault : Error → Option (ℕ × List ℕ)
+status_fault (error.Http (http_error.StatusCode code msg)) = Some (code, msg.now)
+status_fault _ = None
+
+abbrev pub IsStatusFault : ℕ → List ℕ → ResponseResult → Type 0
+IsStatusFault status text taken =
+    (e : Error) × (taken ≡ Err e) × (status_fault e ≡ Some (status, text))
+
+-- by the status; what comes at 304 is said beside it, over the file of the cache
+pub record IsResponseResult (response : Response) (taken : ResponseResult) : Type 0 where
+  pub sent : response.status ≡ 200 → IsBodyResult response.body.now taken
+  pub not_modified : response.status ≡ 304
+      → IfErr taken (λ e. (e ≡ error.NoMemory) ⊎ (e ≡ error.Io io_kind.Failed))
+  pub absent : SaysAbsent response.status → taken ≡ Ok None
+  pub unauthorized : response.status ≡ 401
+      → IsStatusFault 401 (codes "the request was not authorized") taken
+  pub other : ¬ (SaysAbsent response.status) → response.status ≢ 200 → response.status ≢ 304
+      → response.status ≢ 401
+      → IsStatusFault response.status (codes "the status code is invalid for this protocol") taken
+
+-- ---- what is stored
+
+-- a response as the answer of a wire
+abbrev pub came : Response → WireAnswer
+came response = record {
+  status = response.status;
+  revision = option_map http_value response.revision;
+  body = response.body.now;
+}
+
+-- what a body is stored under: the revision that came with it
+abbrev pub stored_under : Option OwnedRevision → EntryRevision
+stored_under None = Unknown
+stored_under (Some r) = Http r
+
+-- the entry of an answer: the lines of its body under its revision
+abbrev pub entry_of : WireAnswer → List ℕ
+entry_of answer = entry (stored_under answer.revision) (pairs answer.body)
+
+-- an answer is stored: a plain body was sent, and no zero byte stands in its revision
+pub record IsToStore (answer : WireAnswer) : Type 0 where
+  pub sent : answer.status ≡ 200
+  pub plain : IsTrue (plain answer.body)
+  pub storable : IsTrue (has_no_zero (entry_text (stored_under answer.revision)))
+
+-- the map gives the body that was sent for its revision
+abbrev pub IsHeldBody : ServerMap → List ℕ → WireAnswer → Type 0
+IsHeldBody m p answer = answer.status ≡ 200 → IfSome answer.revision (λ r. Maps m p r answer.body)
+
+-- what becomes of the files of a cache: the file of the name alone may change, and only where the
+-- answer is stored; a crash at any moment leaves a file that it could have left before, a refused
+-- one, or the entry whole; and a kept cache is kept at each moment
+pub record Stores (root name : List ℕ) (answer : WireAnswer) (write : Bool)
+    (old new : Disk) : Type 0 where
+  pub unwanted : write ≡ false → (q : List ℕ) → new q ≡ old q
+  pub unstored : ¬ (IsToStore answer) → (q : List ℕ) → new q ≡ old q
+  pub others : (q : List ℕ) → cache_file_of root name ≢ Some q → new q ≡ old q
+  pub any_moment : (q : List ℕ) → cache_file_of root name ≡ Some q → IsOrderly (old q)
+      → EachMoment (old q) (new q) (λ file. may_leave (old q) file
+      ⊎ (IsUnreadable file ⊎ (file ≡ Some (entry_of answer))))
+  pub orderly : (q : List ℕ) → cache_file_of root name ≡ Some q → IsOrderly (old q)
+      → IsOrderly (new q)
+  pub kept : (m : ServerMap) → ((p : List ℕ) → path name ≡ Some p → IsHeldBody m p answer)
+      → IsKept m root old → Keeps m root old new
+
+-- the file of the name is the entry, and a crash leaves no other
+abbrev pub StoresWhole : List ℕ → List ℕ → WireAnswer → Disk → Type 0
+StoresWhole root name answer new =
+    (q : List ℕ) → cache_file_of root name ≡ Some q → IsStored (entry_of answer) (new q)
