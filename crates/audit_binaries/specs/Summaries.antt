@@ -64,7 +64,8 @@ abbrev pub AreHeld : Checks → List Exchange → List BinaryAnswer → Type 0
 AreHeld checks added [] = added ≡ []
 AreHeld checks added (Audited found audited ∷ answers) =
     (own : List Exchange) × (rest : List Exchange) × (added ≡ own ++ rest)
-    × AreVerdicts (IsVerdictByHeldAt own audited.turns) (judged_of checks audited.lockfile) audited.verdicts
+    × AreVerdicts (IsVerdictByHeldAt own audited.turns) (judged_of checks audited.lockfile)
+    audited.verdicts
     × AreHeld checks rest answers
 AreHeld checks added (Refused f ∷ answers) = AreHeld checks added answers
 

@@ -132,9 +132,7 @@ pub record IsBinariesRunOf (tells : BinariesTelling) (command : AuditCommand) (m
 
 -- and the words are those of these audits
 abbrev pub IsBinariesRun : BinariesTelling → List (List ℕ) → Host → DecoderAnswers → Outside
-    → Outside
-    → Sinks
-    → Ending → BinariesAudit → Type 0
+    → Outside → Sinks → Ending → BinariesAudit → Type 0
 IsBinariesRun tells words host decodes began ended sinks ending b =
     (command : AuditCommand) × (more : BinCommand) × (command_of words ≡ Ok (Bin command more))
     × IsBinariesRunOf tells command more host decodes began ended sinks ending b
