@@ -72,14 +72,14 @@ IsKnownCall host database place told call =
 -- a call once the settings and the lockfile's place are known
 abbrev pub IsTextsCall : Host → AuditConfig → List ℕ → List ℕ → FailedCall → Type 0
 IsTextsCall host config place told call =
-    IsDatabaseCall config.database.path told call
+    IsDatabaseCall host config.database.path told call
     ⊎ ((database : Option (List ℕ)) × (database_asked config.database.path host ≡ Ok database)
     × IsKnownCall host database place told call)
 
 -- a call once the settings are known
 abbrev pub IsLaterCall : AuditCommand → Host → AuditConfig → List ℕ → FailedCall → Type 0
 IsLaterCall command host config told call =
-    IsPlaceCall told call ⊎ IsTextsCall host config (place_of command.file) told call
+    IsPlaceCall command.file host told call ⊎ IsTextsCall host config (place_of command.file) told call
 
 abbrev pub IsAskedCall : AuditCommand → Host → List ℕ → FailedCall → Type 0
 IsAskedCall command host told call =

@@ -1,16 +1,16 @@
 -- The calls on a host's files that may fail, and what a failed one ends (this project).
-use Rattle.std.specs.Prelude.{◌≡◌, ◌≤◌, ◌⊎◌, ℕ, codes, List, [], ◌∷◌, ◌++◌, bytes_eq, Option, Some, None, if◌then◌else◌, Result, Ok, Err, IfErr}
+use Rattle.std.specs.Prelude.{◌≡◌, ◌≤◌, ◌⊎◌, ℕ, codes, List, [], ◌∷◌, ◌++◌, false, Option, Some, None, Result, Ok, Err, IfErr}
 use Rattle.std.specs.List.{Contains, slice_get}
 use Rattle.tame_names.specs.Counts.{CountRose}
 use Rattle.tame_names.specs.Paths.{join}
-use Rattle.tame_names.specs.Standing.{Host}
+use Rattle.tame_names.specs.Standing.{Host, reading_call}
 use Rattle.tame_names.specs.declared.host.FailedCall.{FailedCall}
 use Rattle.tame_names.specs.declared.host.FileCall.{FileCall}
 use Rattle.tame_names.specs.declared.host.FileCall.TheVariants as file_call
 use Rattle.tame_location.specs.Homes.{IsHomeCall}
 use Rattle.audit_asked.specs.Advisories.{crates_folder, names_at}
-use Rattle.audit_asked.specs.Places.{lockfile_name, manifest_name}
-use Rattle.audit_asked.specs.Settings.{folder_file, home_file, known_home}
+use Rattle.audit_asked.specs.Places.{is_there, lockfile_name, manifest_name}
+use Rattle.audit_asked.specs.Settings.{config_at, folder_file, home_file, known_home}
 use Rattle.audit_asked.specs.declared.faults.RunFault.{RunFault}
 use Rattle.audit_asked.specs.declared.faults.RunFault.TheVariants as fault
 use Rattle.audit_asked.specs.declared.listings.Wanted.TheVariants as wanted
@@ -48,6 +48,19 @@ abbrev pub IsLookError : LocateError → Type 0
 IsLookError (locate.File path) = Unit {0}
 IsLookError _ = ⊥
 
+-- the path of a look for a lockfile, where none is named: `Cargo.lock`, or where it isn't there
+-- `Cargo.toml`
+abbrev pub IsLookedAt : Option (List ℕ) → Host → List ℕ → Type 0
+IsLookedAt (Some path) host told = ⊥
+IsLookedAt None host told =
+    (told ≡ lockfile_name)
+    ⊎ ((is_there (host.stands lockfile_name) ≡ false) × (told ≡ manifest_name))
+
+-- an error of a look tells such a path
+abbrev pub LookedAt : Option (List ℕ) → Host → LocateError → Type 0
+LookedAt named host (locate.File path) = IsLookedAt named host path.now
+LookedAt named host _ = Unit {0}
+
 -- the count never falls, and a failed look raised it
 pub record HasLookCause {T : Type 0} (before now : ℕ) (result : Result T LocateError) : Type 0 where
   pub later : before ≤ now
@@ -64,41 +77,35 @@ abbrev pub IsInputCall : List ℕ → List ℕ → FailedCall → Type 0
 IsInputCall path told call =
     (told ≡ path) × (call ≡ record { call = file_call.ReadStdin; path = None })
 
--- the call that reads what is at a path, where `-` is standard input
-abbrev pub reading_call : List ℕ → FailedCall
-reading_call path =
-    if bytes_eq path (codes "-") then record { call = file_call.ReadStdin; path = None }
-    else record { call = file_call.Read; path = Some path }
-
 -- cargo's home was asked for
-abbrev pub AsksHome : List ℕ → FailedCall → Type 0
-AsksHome told call = (told ≡ codes "cargo home") × IsHomeCall call
+abbrev pub AsksHome : Host → List ℕ → FailedCall → Type 0
+AsksHome host told call = (told ≡ codes "cargo home") × IsHomeCall host call
 
 -- cargo's home was asked for, or the settings in it were read
 abbrev pub IsHomeConfigCall : Host → List ℕ → FailedCall → Type 0
 IsHomeConfigCall host told call =
-    AsksHome told call
+    AsksHome host told call
     ⊎ ((home : List ℕ) × (known_home host ≡ Some home)
     × IsCallOn file_call.Read (home_file home) told call)
 
--- the reading of settings: a file's, or those in cargo's home
+-- the reading of settings: a file's, or where it isn't there those in cargo's home
 abbrev pub IsSettingsFrom : Host → List ℕ → List ℕ → FailedCall → Type 0
 IsSettingsFrom host path told call =
-    IsCallOn file_call.Read path told call ⊎ IsHomeConfigCall host told call
+    IsCallOn file_call.Read path told call
+    ⊎ ((config_at host path ≡ Ok None) × IsHomeConfigCall host told call)
 
 abbrev pub IsSettingsCall : Host → List ℕ → FailedCall → Type 0
 IsSettingsCall host told call = IsSettingsFrom host folder_file told call
 
--- a look at `Cargo.lock` or at `Cargo.toml`
-abbrev pub IsPlaceCall : List ℕ → FailedCall → Type 0
-IsPlaceCall told call =
-    IsCallOn file_call.Kind lockfile_name told call
-    ⊎ IsCallOn file_call.Kind manifest_name told call
+-- a look for a lockfile, at the path that is told
+abbrev pub IsPlaceCall : Option (List ℕ) → Host → List ℕ → FailedCall → Type 0
+IsPlaceCall named host told call =
+    IsLookedAt named host told × IsCallOn file_call.Kind told told call
 
 -- a look at the database that was named, or cargo's home was asked for
-abbrev pub IsDatabaseCall : Option (List ℕ) → List ℕ → FailedCall → Type 0
-IsDatabaseCall (Some path) told call = IsCallOn file_call.Kind path told call
-IsDatabaseCall None told call = AsksHome told call
+abbrev pub IsDatabaseCall : Host → Option (List ℕ) → List ℕ → FailedCall → Type 0
+IsDatabaseCall host (Some path) told call = IsCallOn file_call.Kind path told call
+IsDatabaseCall host None told call = AsksHome host told call
 
 -- a listing of one of the folders of these names in this one
 abbrev pub IsListingBelow : List ℕ → List (List ℕ) → List ℕ → FailedCall → Type 0

@@ -33,7 +33,7 @@ asked_for_binaries command host = go_on (settled command host) (advised host)
 -- a call once the settings are known
 abbrev pub IsAdvisedCall : Host → AuditConfig → List ℕ → FailedCall → Type 0
 IsAdvisedCall host config told call =
-    IsDatabaseCall config.database.path told call
+    IsDatabaseCall host config.database.path told call
     ⊎ ((database : Option (List ℕ))
     × (database_asked config.database.path host ≡ Ok database)
     × IsAdvisoriesCall host database told call)

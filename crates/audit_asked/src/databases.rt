@@ -47,7 +47,7 @@ fn home_database<F: Files>(alloc: Global, files: &mut F) -> Result<Option<Text>,
         → database_asked None (F.host files.old) ≡ Err (refused e)) }
     ensures only { IfErr result IsReadFault }
     ensures cause { HasFileCause (F.faults files.old) (F.faults files.new) result }
-    ensures failed { F.tells → AddsFailed AsksHome
+    ensures failed { F.tells → AddsFailed (AsksHome (F.host files.old))
         (F.failed files.old) (F.failed files.new) result }
     ensures same { F.tells → F.host files.new ≡ F.host files.old }
 {
@@ -70,7 +70,7 @@ pub(crate) fn database<F: Files>(
         → database_asked named.now (F.host files.old) ≡ Err (refused e)) }
     ensures only { IfErr result IsReadFault }
     ensures cause { HasFileCause (F.faults files.old) (F.faults files.new) result }
-    ensures failed { F.tells → AddsFailed (IsDatabaseCall named.now)
+    ensures failed { F.tells → AddsFailed (IsDatabaseCall (F.host files.old) named.now)
         (F.failed files.old) (F.failed files.new) result }
     ensures same { F.tells → F.host files.new ≡ F.host files.old }
 {

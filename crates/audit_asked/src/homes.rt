@@ -14,7 +14,7 @@ pub(crate) fn known_home<F: Files>(alloc: Global, files: &mut F) -> Result<Optio
     ensures ok { F.tells → IfOk result (λ home. home ≡ spec.known_home (F.host files.old)) }
     ensures only { IfErr result IsCallFault }
     ensures cause { HasFileCause (F.faults files.old) (F.faults files.new) result }
-    ensures failed { F.tells → AddsFailed AsksHome
+    ensures failed { F.tells → AddsFailed (AsksHome (F.host files.old))
         (F.failed files.old) (F.failed files.new) result }
     ensures same { F.tells → F.host files.new ≡ F.host files.old }
 {

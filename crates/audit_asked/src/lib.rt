@@ -8,7 +8,7 @@
 //!
 //! ```ignore
 //! let asked = ask(alloc, &command, &mut files, &mut runner)?; // or a RunFault
-//! let auditor = Auditor::of(alloc, &asked.config, asked.advisories)?;
+//! let lockfile = asked.text.as_str();                         // of the file at asked.place
 //! ```
 #![tactic(auto)]
 

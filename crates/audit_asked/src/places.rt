@@ -1,6 +1,6 @@
 //! The lockfile's place.
 ghost use Rattle.std.specs.Prelude.{◌≡◌, ◌⊎◌, pos, true, false, Ok, Err, Some, None, IfOk, IfErr, IsTrue, option_map};
-ghost use Rattle.audit_asked.specs.Calls.{AddsFailed, AddsLook, HasFileCause, HasLookCause, IsLookError, IsPlaceCall};
+ghost use Rattle.audit_asked.specs.Calls.{AddsFailed, AddsLook, HasFileCause, HasLookCause, IsLookError, IsPlaceCall, LookedAt};
 ghost use Rattle.audit_asked.specs.Places.{place_asked, place_of};
 ghost use Rattle.audit_asked.specs.Places as spec;
 ghost use Rattle.audit_asked.specs.Refusals.{IsAskFault, is_told, refused};
@@ -67,6 +67,7 @@ fn is_to_generate<F: Files>(files: &mut F) -> Result<bool, LocateError>
     ensures unstarted { IfErr result (λ e. ¬ (IsStartError e)) }
     ensures cause { HasLookCause (F.faults files.old) (F.faults files.new) result }
     ensures failed { F.tells → AddsLook (F.failed files.old) (F.failed files.new) result }
+    ensures looked { F.tells → IfErr result (LookedAt None (F.host files.old)) }
     ensures same { F.tells → F.host files.new ≡ F.host files.old }
 {
     if is_there(files, LOCKFILE_NAME)? {
@@ -126,6 +127,8 @@ pub fn locate_or_generate<F: Files, R: Runner>(
     // the files
     ensures cause { HasLookCause (F.faults files.old) (F.faults files.new) result }
     ensures failed { F.tells → AddsLook (F.failed files.old) (F.failed files.new) result }
+    ensures looked { F.tells → IfErr result
+        (LookedAt (option_map (λ p. p.now) path.entry) (F.host files.old)) }
     ensures same { F.tells → F.host files.new ≡ F.host files.old }
 {
     if let Some(path) = path {
@@ -169,7 +172,8 @@ pub(crate) fn place<F: Files, R: Runner>(
     ensures start_cause { HasRunStartCause (R.faults runner.old) (R.faults runner.new) result }
 
     ensures cause { HasFileCause (F.faults files.old) (F.faults files.new) result }
-    ensures failed { F.tells → AddsFailed IsPlaceCall
+    ensures failed { F.tells → AddsFailed
+        (IsPlaceCall (option_map (λ p. p.now) path.entry) (F.host files.old))
         (F.failed files.old) (F.failed files.new) result }
     ensures same { F.tells → F.host files.new ≡ F.host files.old }
 {

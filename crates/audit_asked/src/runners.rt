@@ -129,6 +129,8 @@ impl Runner for MemRunner {
             slice_get self.old.statuses (length self.old.starts) ≡ Some (Some status)) }
         ensures fails { slice_get self.old.statuses (length self.old.starts) ≡ None
             → IsErr result }
+        ensures only { result ≡ Err StartFault.Failed → option_and_then (λ status. status)
+            (slice_get self.old.statuses (length self.old.starts)) ≡ None }
         ensures counted { result ≡ Err StartFault.Failed
             → self.new.faults ≡ next_call self.old.faults }
         ensures uncounted { result ≢ Err StartFault.Failed → self.new.faults ≡ self.old.faults }

@@ -219,7 +219,7 @@ all_same es fs ts us (p ∷ ps) (j ∷ js) (x ∷ ks) alike confirmed quiet quie
 
 sound_quiet : (auditor : Auditor) (began ended : Moment) (added : List Exchange) (text : List ℕ) (a : Audited) → IsSoundAudit auditor began ended added text a → AreQuiet a.turns
 sound_quiet auditor began ended added text a s =
-    chain_quiet began.wire_faults began.disk_faults a.turns ended.wire_faults ended.disk_faults s.audit.says.counted.counts s.quiet.0 s.quiet.1
+    chain_quiet began.wire_faults began.disk_faults a.turns ended.wire_faults ended.disk_faults s.audit.says.counted.counts s.disk_faults.0 s.disk_faults.1
 
 sound_confirmed : (auditor : Auditor) (began ended : Moment) (added : List Exchange) (text : List ℕ) (a : Audited) → auditor.checks ≡ Online → IsSoundAudit auditor began ended added text a → AreConfirmed added
 sound_confirmed auditor began ended added text a online s =

@@ -11,7 +11,7 @@ use Rattle.std.proofs.lemmas.Map.Views.{Contains-from_any, list_any-from_Contain
 use Rattle.std.proofs.lemmas.Slice.Eq.{bytes_eq-Decides}
 use Rattle.std.proofs.lemmas.Bool.{false≢true}
 use Rattle.std.proofs.lemmas.List.Folds.{Any-from_list_any, list_any-append, list_any-from_Any}
-use Rattle.audit_core.specs.AskedPaths.{AreEachOnce, first_place}
+use Rattle.tame_names.specs.FirstPlaces.{AreEachOnce, first_place}
 use Rattle.audit_core.specs.Paths.{distinct_after, is_among}
 
 -- ---- paths that are equal

@@ -37,4 +37,4 @@ pub record IsSoundAudit (auditor : Auditor) (began ended : Moment) (added : List
   pub follow : ended.exchanges ≡ began.exchanges ++ added
   pub honest : AreHonest server added
   pub kept : IsKept server [] began.files
-  pub quiet : CountStayed began.disk_faults ended.disk_faults
+  pub disk_faults : CountStayed began.disk_faults ended.disk_faults

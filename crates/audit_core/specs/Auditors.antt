@@ -1,12 +1,12 @@
 -- The auditor, and what it says by its advisories and settings (this project, after cargo-audit).
-use Rattle.std.specs.Prelude.{◌≢◌, ℕ, suc, codes, List, [], ◌∷◌, ◌++◌, Bool, true, false, Result, Ok, Err}
+use Rattle.std.specs.Prelude.{◌≡◌, ◌≢◌, ℕ, suc, codes, List, [], ◌∷◌, ◌++◌, length, Bool, true, false, Result, Ok, Err}
 use Rattle.toml_tables.specs.Results.{and_then}
 use Rattle.audit_lock.specs.declared.resolving.Package.{Package}
 use Rattle.audit_advisory.specs.Advisories.{advisory_of}
 use Rattle.audit_advisory.specs.Exits.{fails}
 use Rattle.audit_advisory.specs.Points.{Point}
 use Rattle.audit_advisory.specs.Queries.{query}
-use Rattle.audit_advisory.specs.Reports.{report_of, with_yanked}
+use Rattle.audit_advisory.specs.Reports.{IsPlaced, report_of, with_yanked}
 use Rattle.audit_advisory.specs.declared.advisories.Advisory.{Advisory}
 use Rattle.audit_advisory.specs.declared.faults.AdvisoryFault.{AdvisoryFault}
 use Rattle.audit_advisory.specs.declared.faults.AdvisoryFault.TheVariants as advisory_fault
@@ -16,6 +16,7 @@ use Rattle.audit_settings.specs.declared.configs.AuditConfig.{AuditConfig}
 use Rattle.audit_core.specs.Checks.{checks_of}
 use Rattle.audit_core.specs.declared.auditing.AuditError.{AuditError}
 use Rattle.audit_core.specs.declared.auditing.AuditError.TheVariants as audit_error
+use Rattle.audit_core.specs.declared.auditing.Audited.{Audited}
 use Rattle.audit_core.specs.declared.auditors.Auditor.{Auditor}
 use Rattle.audit_core.specs.declared.verdicts.Judged.{Judged}
 use Rattle.audit_core.specs.declared.verdicts.Verdict.{Verdict}
@@ -82,6 +83,13 @@ yanked_in (j ∷ js) = with_if_yanked j.verdict j.«package» (yanked_in js)
 abbrev pub audit_report : Auditor → List Package → List Judged → Report
 audit_report auditor packages verdicts =
     with_yanked (report_of auditor.settings auditor.database packages) (yanked_in verdicts)
+
+-- the report of an audit is one of these advisories and of its packages: it counts them, and each
+-- place in it is that of one of them
+pub record IsReportOf (advisories : List Advisory) (audited : Audited) : Type 0 where
+  pub placed : IsPlaced audited.report
+  pub counted : audited.report.advisory_count ≡ length advisories
+  pub packages : audited.report.dependency_count ≡ length audited.lockfile
 
 abbrev pub exit_of : Bool → ℕ
 exit_of true = 1

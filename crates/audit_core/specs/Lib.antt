@@ -1,6 +1,5 @@
 pub mod Alike
 pub mod Answers
-pub mod AskedPaths
 pub mod Auditors
 pub mod Audits
 pub mod Checks

@@ -1,10 +1,8 @@
 -- The text of a lockfile at a path of the host (this project).
-use Rattle.std.specs.Prelude.{◌≡◌, ◌≢◌, ◌<◌, ℕ, codes, List, ◌∷◌, [], ◌++◌, length, bytes_eq, nat_lt, Option, Some, None, if◌then◌else◌, Result, Ok, Err}
+use Rattle.std.specs.Prelude.{◌≡◌, ◌≢◌, ◌<◌, ℕ, codes, List, length, bytes_eq, nat_lt, if◌then◌else◌, Result, Ok, Err}
 use Rattle.std.specs.Str.{is_utf8}
 use Rattle.tame_names.specs.Counts.{CountRose}
 use Rattle.tame_names.specs.Standing.{Host, Standing, Nothing, File, Folder, Other}
-use Rattle.tame_names.specs.declared.host.FailedCall.{FailedCall}
-use Rattle.tame_names.specs.declared.host.FileCall.TheVariants as file_call
 use Rattle.audit_lock.specs.Locked.{locked}
 use Rattle.audit_core.specs.declared.auditing.AuditError.{AuditError}
 use Rattle.audit_core.specs.declared.auditing.AuditError.TheVariants as audit_error
@@ -37,12 +35,6 @@ text_at Nothing = Err fault.Missing
 text_at (File bytes) = text_in bytes
 text_at (Folder entries) = Err fault.File
 text_at Other = Err fault.File
-
--- the call that reads it
-abbrev pub reading_call : List ℕ → FailedCall
-reading_call path =
-    if bytes_eq path (codes "-") then record { call = file_call.ReadStdin; path = None }
-    else record { call = file_call.Read; path = Some path }
 
 -- these tell why a text wasn't read: nothing is there, it is too long, or it isn't UTF-8
 abbrev pub IsUnread : FileAuditError → Type 0

@@ -166,11 +166,13 @@ impl Auditor {
             → MakesAskedFolders (asked_of self.now.checks packages) (D.folders disk.old)
             (D.folders disk.new) }
 
-        // whatever the answer, the wire isn't called but online, and then alone a file may change;
-        // where checks are off the disk isn't called
+        // whatever the answer, the wire isn't called but online, and then alone a file may change
+        // or a folder be made; where checks are off the disk isn't called
         ensures unasked { self.now.checks ≢ Checks.Online → wire.new ≡ wire.old }
         ensures unchanged { self.now.checks ≢ Checks.Online → D.tells → (q : List ℕ)
             → D.past disk.new q ≡ D.past disk.old q }
+        ensures unmade { self.now.checks ≢ Checks.Online → D.tells
+            → D.folders disk.new ≡ D.folders disk.old }
         ensures off { self.now.checks ≡ Checks.Off → disk.new ≡ disk.old }
     {
         let lockfile = match Lockfile::read(alloc, text) {

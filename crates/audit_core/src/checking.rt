@@ -188,6 +188,7 @@ pub fn check<W: Wire, D: CacheDisk>(
     ensures unasked { checks ≢ Checks.Online → wire.new ≡ wire.old }
     ensures unchanged { checks ≢ Checks.Online → D.tells → (q : List ℕ)
         → D.past disk.new q ≡ D.past disk.old q }
+    ensures unmade { checks ≢ Checks.Online → D.tells → D.folders disk.new ≡ D.folders disk.old }
     ensures uncalled { checks ≡ Checks.Off → disk.new ≡ disk.old }
 {
     match checks {

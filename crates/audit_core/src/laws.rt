@@ -1,12 +1,12 @@
 //! Laws of audits.
 ghost use Rattle.std.specs.Prelude.{◌≡◌, ◌↔◌, [], ℕ, List, Some};
 ghost use Rattle.std.specs.List.{Any, Contains};
+ghost use Rattle.tame_names.specs.FirstPlaces.{AreEachOnce};
 ghost use Rattle.tame_entry.specs.ServerMaps.{ServerMap};
 ghost use Rattle.tame_cache.specs.Kept.{Disk, IsKept};
 ghost use Rattle.tame_sparse.specs.declared.network.Exchange.{Exchange};
 ghost use Rattle.audit_lock.specs.declared.resolving.Package.{Package};
 ghost use Rattle.audit_core.specs.Alike.{AreAllAlike, IsSoundAudit};
-ghost use Rattle.audit_core.specs.AskedPaths.{AreEachOnce};
 ghost use Rattle.audit_core.specs.Audits.{Moment};
 ghost use Rattle.audit_core.specs.Histories.{AuditHistory};
 ghost use Rattle.audit_core.specs.Paths.{asked_paths, default_path, default_paths};

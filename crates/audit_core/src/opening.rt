@@ -1,11 +1,11 @@
 //! The audit of a lockfile at a path of the host.
-ghost use Rattle.std.specs.Prelude.{◌≡◌, ◌≢◌, ◌<◌, ◌++◌, ◌∷◌, [], ◌⊎◌, ℕ, List, codes, bytes_eq, true, false, Ok, Err, IfOk, IfErr};
+ghost use Rattle.std.specs.Prelude.{◌≡◌, ◌≢◌, ◌<◌, ◌++◌, ◌∷◌, [], ◌⊎◌, ℕ, List, true, false, Ok, Err, IfOk, IfErr};
 ghost use Rattle.std.specs.Str.{is_utf8};
 ghost use Rattle.tame_names.specs.Counts.{HasCause, CountRose};
-ghost use Rattle.tame_names.specs.Standing.{IsAboveLimit, Reads, failed_calls};
+ghost use Rattle.tame_names.specs.Standing.{IsAboveLimit, Reads, failed_calls, reading_call};
 ghost use Rattle.audit_lock.specs.Locked.{locked};
-ghost use Rattle.audit_lock.specs.declared.lockfiles.LockfileFault.{LockfileFault};
-ghost use Rattle.audit_core.specs.Opened.{IsReason, lockfile_limit, reading_call, standing_at, text_at};
+ghost use Rattle.audit_lock.specs.declared.resolving.Package.{Package};
+ghost use Rattle.audit_core.specs.Opened.{IsReason, lockfile_limit, standing_at, text_at};
 
 use crate::auditing::{AuditError, Audited};
 use crate::auditors::Auditor;
@@ -145,6 +145,21 @@ impl Auditor {
         ensures early { IfErr result (λ e. IsEarly e
             → (wire.new ≡ wire.old) × (disk.new ≡ disk.old)) }
 
+        // of a text that is a lockfile, whatever the answer: a part of the paths was asked, from
+        // the front, no file changes but those of asked paths, and no folders are made but those
+        // above these
+        ensures part { F.tells → W.tells → (text : List ℕ) (packages : List Package)
+            → text_at (standing_at (F.host files.old) path.now) ≡ Ok text → locked text ≡ Ok packages
+            → AddsPart (asked_of self.now.checks packages) (W.exchanges wire.old)
+            (W.exchanges wire.new) }
+        ensures others { F.tells → D.tells → (text : List ℕ) (packages : List Package)
+            → text_at (standing_at (F.host files.old) path.now) ≡ Ok text → locked text ≡ Ok packages
+            → KeepsOthers (asked_of self.now.checks packages) (D.past disk.old) (D.past disk.new) }
+        ensures folders { F.tells → D.tells → (text : List ℕ) (packages : List Package)
+            → text_at (standing_at (F.host files.old) path.now) ≡ Ok text → locked text ≡ Ok packages
+            → MakesAskedFolders (asked_of self.now.checks packages) (D.folders disk.old)
+            (D.folders disk.new) }
+
         // whatever the answer: what stays, and what is kept
         ensures same { F.tells → F.host files.new ≡ F.host files.old }
         ensures kept { W.tells → D.tells
@@ -153,6 +168,8 @@ impl Auditor {
         ensures unasked { self.now.checks ≢ Checks.Online → wire.new ≡ wire.old }
         ensures unchanged { self.now.checks ≢ Checks.Online → D.tells → (q : List ℕ)
             → D.past disk.new q ≡ D.past disk.old q }
+        ensures unmade { self.now.checks ≢ Checks.Online → D.tells
+            → D.folders disk.new ≡ D.folders disk.old }
         ensures off { self.now.checks ≡ Checks.Off → disk.new ≡ disk.old }
     {
         let text = read_text(alloc, files, path)?;

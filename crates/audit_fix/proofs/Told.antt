@@ -6,8 +6,9 @@ use Rattle.std.proofs.lemmas.List.Elements.{All-tail}
 use Rattle.audit_lock.specs.declared.resolving.Package.{Package}
 use Rattle.audit_advisory.specs.declared.advisories.Advisory.{Advisory}
 use Rattle.audit_advisory.specs.declared.reports.Vulnerability.{Vulnerability}
+use Rattle.audit_core.specs.Auditors.{IsReportOf}
 use Rattle.audit_core.specs.declared.auditing.Audited.{Audited}
-use Rattle.audit_fix.specs.Plans.{IsOf, LeavesNoneOut, is_patched, step_of, unpatched_place, update_words}
+use Rattle.audit_fix.specs.Plans.{LeavesNoneOut, is_patched, step_of, unpatched_place, update_words}
 use Rattle.audit_fix.specs.declared.plans.FixStep.{FixStep}
 
 -- at a place below the length something stands
@@ -43,10 +44,10 @@ each_told dry_run advisories packages (v ∷ vs) h =
     omega (arith, one, more)
 
 -- of an audit of these advisories
-pub tells_each : (dry_run : Bool) (advisories : List Advisory) (audited : Audited) (steps : List FixStep) (places : List ℕ) → IsOf advisories audited
+pub tells_each : (dry_run : Bool) (advisories : List Advisory) (audited : Audited) (steps : List FixStep) (places : List ℕ) → IsReportOf advisories audited
     → steps ≡ filter_map (step_of dry_run advisories audited.lockfile) audited.report.vulnerabilities
     → LeavesNoneOut advisories audited.report.vulnerabilities (record { steps = steps; unpatchable = places })
 tells_each dry_run advisories audited steps places of is =
     let placed : All (IsThere advisories audited.lockfile) audited.report.vulnerabilities =
-    λ k d low. let h = of.placed.vulnerabilities k d low in (rw of.advisory_count at h.0, rw of.package_count at h.1) in
+    λ k d low. let h = of.placed.vulnerabilities k d low in (rw of.counted at h.0, rw of.packages at h.1) in
     rw is (each_told dry_run advisories audited.lockfile audited.report.vulnerabilities placed)

@@ -2,10 +2,8 @@
 use Rattle.std.specs.Prelude.{◌≡◌, ◌+◌, ℕ, codes, List, [], ◌∷◌, ◌++◌, filter, filter_map, length, Bool, not, nat_eq, ◌==◌, Option, Some, None, option_map, option_and_then, slice_get, if◌then◌else◌}
 use Rattle.std.specs.List.{list_any}
 use Rattle.audit_lock.specs.declared.resolving.Package.{Package}
-use Rattle.audit_advisory.specs.Reports.{IsPlaced}
 use Rattle.audit_advisory.specs.declared.advisories.Advisory.{Advisory}
 use Rattle.audit_advisory.specs.declared.reports.Vulnerability.{Vulnerability}
-use Rattle.audit_core.specs.declared.auditing.Audited.{Audited}
 use Rattle.audit_fix.specs.declared.plans.FixPlan.{FixPlan}
 use Rattle.audit_fix.specs.declared.plans.FixStep.{FixStep}
 
@@ -76,15 +74,6 @@ fix_plan dry_run advisories packages vulnerabilities = record {
   steps = filter_map (step_of dry_run advisories packages) vulnerabilities;
   unpatchable = each_once (filter_map (unpatched_place advisories) vulnerabilities);
 }
-
--- ---- an audit of a database
-
--- its report counts these advisories and the packages of its lockfile, and each place in it is
--- below its count
-pub record IsOf (advisories : List Advisory) (audited : Audited) : Type 0 where
-  pub advisory_count : audited.report.advisory_count ≡ length advisories
-  pub package_count : audited.report.dependency_count ≡ length audited.lockfile
-  pub placed : IsPlaced audited.report
 
 -- there are as many steps and vulnerabilities without a patch as there are vulnerabilities
 abbrev pub LeavesNoneOut : List Advisory → List Vulnerability → FixPlan → Type 0

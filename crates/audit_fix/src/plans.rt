@@ -1,6 +1,8 @@
 //! What `fix` plans.
 ghost use Rattle.std.specs.Prelude.{◌≡◌, IfOk, OnOk, filter_map, option_map};
-ghost use Rattle.audit_fix.specs.Plans.{IsOf, LeavesNoneOut, each_once, fix_plan, unpatched_place, with_each, with_new};
+ghost use Rattle.audit_core.specs.Auditors.{IsReportOf};
+ghost use Rattle.audit_fix.specs.Plans.{LeavesNoneOut, each_once, fix_plan, unpatched_place, with_each, with_new};
+ghost use Rattle.audit_core.specs.Auditors.{IsReportOf};
 ghost use Rattle.audit_fix.specs.Plans as spec;
 
 use crate::remedies::{patchable, unpatched_place};
@@ -147,7 +149,7 @@ impl FixPlan {
             audited.now.lockfile audited.now.report.vulnerabilities) }
 
         // of an audit of this database no vulnerability is left out
-        ensures each { IsOf database.now audited.now → IfOk result (λ plan.
+        ensures each { IsReportOf database.now audited.now → IfOk result (λ plan.
             LeavesNoneOut database.now audited.now.report.vulnerabilities plan) }
     {
         let advisories = database.advisories();

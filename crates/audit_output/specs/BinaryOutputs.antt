@@ -8,6 +8,7 @@ use Rattle.audit_binaries.specs.declared.answers.BinaryFault.{BinaryFault}
 use Rattle.audit_binaries.specs.declared.answers.BinaryFault.TheVariants as fault
 use Rattle.audit_binaries.specs.declared.answers.PackagesFound.{PackagesFound}
 use Rattle.audit_binaries.specs.declared.answers.PackagesFound.TheVariants.{Complete, Incomplete}
+use Rattle.audit_core.specs.Auditors.{IsReportOf}
 use Rattle.audit_report.specs.Printed.{Printed, printed}
 use Rattle.audit_report.specs.StatusLines.{binary_line_in}
 use Rattle.audit_report.specs.declared.binaries.Found.{Found}
@@ -15,7 +16,7 @@ use Rattle.audit_report.specs.declared.binaries.Found.TheVariants as found
 use Rattle.audit_report.specs.declared.presenters.Presenter.{Presenter}
 use Rattle.audit_report.specs.declared.shown_trees.ShownTree.{ShownTree}
 use Rattle.audit_output.specs.FaultLines.{lockfile_words}
-use Rattle.audit_output.specs.Outputs.{IsReportOf, Output, Shown, loaded_by, presenter_of, self_output, unchecked_lines, verdict_output}
+use Rattle.audit_output.specs.Outputs.{Output, Shown, loaded_by, presenter_of, self_output, unchecked_lines, verdict_output}
 use Rattle.audit_output.specs.declared.binary_printing.BinarySheet.{BinarySheet}
 
 abbrev pub binaries_shown_on : BinarySheet → Shown

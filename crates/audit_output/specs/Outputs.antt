@@ -1,8 +1,7 @@
 -- What is printed of the audit of a lockfile (this project, after cargo-audit).
-use Rattle.std.specs.Prelude.{◌≡◌, ℕ, List, [], ◌∷◌, ◌++◌, length, Bool, true, false, slice_get, Option, Some, None, if◌then◌else◌}
+use Rattle.std.specs.Prelude.{ℕ, List, [], ◌∷◌, ◌++◌, length, Bool, true, false, slice_get, Option, Some, None, if◌then◌else◌}
 use Rattle.audit_lock.specs.declared.resolving.Package.{Package}
 use Rattle.audit_advisory.specs.Outputs.{is_quiet}
-use Rattle.audit_advisory.specs.Reports.{IsPlaced}
 use Rattle.audit_advisory.specs.declared.advisories.Advisory.{Advisory}
 use Rattle.audit_advisory.specs.declared.outputs.OutputConfig.{OutputConfig}
 use Rattle.audit_asked.specs.declared.asking.Asked.{Asked}
@@ -80,13 +79,6 @@ shown_on sheet = record {
   checks = sheet.auditor.now.checks;
   advisories = sheet.auditor.now.database;
 }
-
--- the report of an audit is one of these advisories and of its packages: each place in it is that
--- of one of them
-pub record IsReportOf (advisories : List Advisory) (audited : Audited) : Type 0 where
-  pub placed : IsPlaced audited.report
-  pub counted : audited.report.advisory_count ≡ length advisories
-  pub packages : audited.report.dependency_count ≡ length audited.lockfile
 
 -- ---- the parts of an output
 

@@ -1,12 +1,12 @@
 //! What a presenter puts of an audit.
 ghost use Rattle.std.specs.Prelude.{◌≡◌, ◌≢◌, ◌≤◌, ◌⊎◌, Err, IfOk, IfErr, OnOk, option_map};
 ghost use Rattle.tame_names.specs.Counts.{CountRose};
-ghost use Rattle.audit_core.specs.Auditors.{self_advisories};
+ghost use Rattle.audit_core.specs.Auditors.{IsReportOf, self_advisories};
 ghost use Rattle.audit_report.specs.Outputs.{IsPut};
 ghost use Rattle.audit_report.specs.Printed.{printed};
 ghost use Rattle.audit_report.specs.SelfReports.{self_summary, self_text};
 ghost use Rattle.audit_output.specs.BinaryOutputs.{with_trees};
-ghost use Rattle.audit_output.specs.Outputs.{IsPrintFault, IsReportOf, presenter_of};
+ghost use Rattle.audit_output.specs.Outputs.{IsPrintFault, presenter_of};
 
 use audit_advisory::OutputConfig;
 use audit_asked::RunFault;

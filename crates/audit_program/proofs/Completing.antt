@@ -13,7 +13,7 @@ use Rattle.audit_asked.specs.declared.faults.RunFault.{RunFault}
 use Rattle.audit_asked.specs.declared.faults.RunFault.TheVariants as fault
 use Rattle.audit_program.specs.Causes.{BinariesCause, CommandCause, HasNoLockfile, Refuses, RefusesBinaries}
 use Rattle.audit_words.specs.Reading.{command_of}
-use Rattle.audit_program.specs.Completes.{AreQuiet, FaultCounts, IsReady, IsTaskReady}
+use Rattle.audit_program.specs.Completes.{AllStayed, FaultCounts, IsReady, IsTaskReady}
 use Rattle.audit_program.specs.Tasks.{task_of}
 use Rattle.audit_program.specs.declared.tasks.Task.{Task}
 use Rattle.audit_program.proofs.Ended.{not_both}
@@ -52,7 +52,7 @@ readable told words host reason ready here cause =
     cc (mine, other, lock, none)
 
 by_fault : (told : Type 0) (words : List (List ℕ)) (host : Host) (before now : FaultCounts) (o : Option RunFault) (ready : IsTaskReady words host) → told
-    → IfSome o (CommandCause told ready.task.command host) → HasRose before now o → AreQuiet before now → IsComplete o
+    → IfSome o (CommandCause told ready.task.command host) → HasRose before now o → AllStayed before now → IsComplete o
 by_fault told words host before now None ready here cause rose quiet = inl refl
 by_fault told words host before now (Some fault.NoMemory) ready here cause rose quiet = inr refl
 by_fault told words host before now (Some (fault.Usage place)) ready here cause rose quiet = absurd cause.only
@@ -71,7 +71,7 @@ by_fault told words host before now (Some (fault.Start failed)) ready here cause
 
 -- the words are those of the command that was run
 pub complete_by : (told : Type 0) (words : List (List ℕ)) (host : Host) (command : AuditCommand) (before now : FaultCounts) (o : Option RunFault) (ready : IsTaskReady words host)
-    → ready.task.command ≡ command → told → IfSome o (CommandCause told command host) → HasRose before now o → AreQuiet before now → IsComplete o
+    → ready.task.command ≡ command → told → IfSome o (CommandCause told command host) → HasRose before now o → AllStayed before now → IsComplete o
 complete_by told words host command before now o ready same here cause rose quiet =
     let P : AuditCommand → Type 0 = λ c. IfSome o (CommandCause told c host) in
     by_fault told words host before now o ready here (subst P (sym same) cause) rose quiet
@@ -83,7 +83,7 @@ accepted : (told : Type 0) (command : AuditCommand) (host : Host) (given : Asked
 accepted told command host given reason mine here by cause = let other = cause.gives here by in cc (mine, other)
 
 pub binaries_complete : (told : Type 0) (command : AuditCommand) (host : Host) (given : AskedForBinaries) (before now : FaultCounts) (o : Option RunFault) → asked_for_binaries command host ≡ Ok given → told
-    → IfSome o (BinariesCause told command host) → HasRose before now o → AreQuiet before now → IsComplete o
+    → IfSome o (BinariesCause told command host) → HasRose before now o → AllStayed before now → IsComplete o
 binaries_complete told command host given before now None gives here cause rose quiet = inl refl
 binaries_complete told command host given before now (Some fault.NoMemory) gives here cause rose quiet = inr refl
 binaries_complete told command host given before now (Some (fault.Usage place)) gives here cause rose quiet = absurd cause.only
@@ -101,7 +101,7 @@ binaries_complete told command host given before now (Some (fault.Start failed))
 
 -- the words ask for an audit of a lockfile
 pub task_complete : (told : Type 0) (words : List (List ℕ)) (host : Host) (task : Task) (before now : FaultCounts) (o : Option RunFault) → task_of (command_of words) ≡ Some task
-    → IsReady words host → told → IfSome o (CommandCause told task.command host) → HasRose before now o → AreQuiet before now → IsComplete o
+    → IsReady words host → told → IfSome o (CommandCause told task.command host) → HasRose before now o → AllStayed before now → IsComplete o
 task_complete told words host task before now o mine (inl ready) here cause rose quiet =
     let other = ready.is_task in
     let same : ready.task ≡ task = cc (mine, other) in

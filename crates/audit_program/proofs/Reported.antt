@@ -4,11 +4,11 @@ use Rattle.audit_advisory.specs.declared.reports.Report.{Report}
 use Rattle.audit_binaries.specs.Binaries.{AreBinaries, Outside, Scan, Tells}
 use Rattle.audit_binaries.specs.declared.answers.BinaryAnswer.{BinaryAnswer}
 use Rattle.audit_binaries.specs.declared.answers.BinaryAnswer.TheVariants as answer
+use Rattle.audit_core.specs.Auditors.{IsReportOf}
 use Rattle.audit_core.specs.Audits.{IsAuditOf, Moment}
 use Rattle.audit_core.specs.declared.auditing.Audited.{Audited}
 use Rattle.audit_core.specs.declared.auditors.Auditor.{Auditor}
 use Rattle.audit_output.specs.BinaryOutputs.{AreReportsOf}
-use Rattle.audit_output.specs.Outputs.{IsReportOf}
 
 -- an audit's report is one of the auditor's advisories and of its packages
 pub reported : (auditor : Auditor) (wire disk : Type 0) (began ended : Moment) (text : List ℕ) (audited : Audited) → IsAuditOf auditor wire disk began ended text audited → IsReportOf auditor.database audited

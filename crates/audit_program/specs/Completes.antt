@@ -44,7 +44,7 @@ pub record FaultCounts : Type 0 where
   pub err : ℕ
 
 -- none of them failed from one moment to another
-pub record AreQuiet (before now : FaultCounts) : Type 0 where
+pub record AllStayed (before now : FaultCounts) : Type 0 where
   pub files : CountStayed before.files now.files
   pub starts : CountStayed before.starts now.starts
   pub out : CountStayed before.out now.out

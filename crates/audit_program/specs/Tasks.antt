@@ -23,6 +23,11 @@ task_of (Ok (command.Audit audit)) = Some (record { command = audit; remedy = Re
 task_of (Ok (command.Fix audit more)) = Some (fix_task audit more)
 task_of _ = None
 
+-- audits of binaries
+abbrev pub AsksForBinaries : Result Command WordsFault → Type 0
+AsksForBinaries (Ok (command.Bin audit more)) = Unit {0}
+AsksForBinaries _ = ⊥
+
 -- the options of `audit`, which stand in front of `fix` and `bin` too
 abbrev pub options_of : Result Command WordsFault → Option AuditCommand
 options_of (Ok (command.Audit audit)) = Some audit

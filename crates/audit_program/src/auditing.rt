@@ -3,12 +3,12 @@ ghost use Rattle.std.specs.Prelude.{◌≡◌, ◌≢◌, ℕ, List, Ok, Err, If
 ghost use Rattle.audit_lock.specs.Locked.{locked};
 ghost use Rattle.audit_lock.specs.declared.lockfiles.LockfileFault.{LockfileFault};
 ghost use Rattle.audit_lock.specs.declared.resolving.Package.{Package};
+ghost use Rattle.audit_core.specs.Auditors.{IsReportOf};
 ghost use Rattle.audit_core.specs.Audits.{IsAuditOf, KeepsOthers, MakesAskedFolders};
 ghost use Rattle.audit_core.specs.Checks.{asked_of};
 ghost use Rattle.audit_core.specs.Turns.{AddsPart, StaysKept};
 ghost use Rattle.audit_core.specs.declared.checking.Checks.TheVariants as Checks;
 ghost use Rattle.audit_program.specs.Causes.{IsAuditFault};
-ghost use Rattle.audit_output.specs.Outputs.{IsReportOf};
 
 use audit_asked::RunFault;
 use audit_core::{AuditError, Audited, Auditor};

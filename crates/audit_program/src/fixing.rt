@@ -1,7 +1,8 @@
 //! What is done once an audit of a lockfile stands: its output, and the steps and lines of `fix`.
 ghost use Rattle.std.specs.Prelude.{◌≡◌, ◌≤◌, ◌⊎◌, ◌++◌, ℕ, [], Err, IfOk, IfErr, string_bytes};
 ghost use Rattle.tame_names.specs.Counts.{CountRose, CountRoseBy};
-ghost use Rattle.audit_output.specs.Outputs.{IsPrintFault, IsReportOf, output_of, shown_on};
+ghost use Rattle.audit_core.specs.Auditors.{IsReportOf};
+ghost use Rattle.audit_output.specs.Outputs.{IsPrintFault, output_of, shown_on};
 ghost use Rattle.audit_report.specs.Outputs.{IsPut};
 ghost use Rattle.audit_program.specs.Finishes.{IsFinishFault, IsFinished, end_of};
 ghost use Rattle.audit_program.specs.Outputs.{IsPutBy, remedy_lines, remedy_lines_in};

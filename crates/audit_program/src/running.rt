@@ -18,11 +18,11 @@ ghost use Rattle.audit_output.specs.Outputs.{IsPrintFault};
 ghost use Rattle.audit_program.specs.BinaryRuns.{ArePartlyRun, IsBinariesRun};
 ghost use Rattle.audit_program.specs.Calls.{AddsCalls, StartsWhere, words_generate};
 ghost use Rattle.audit_program.specs.Causes.{Accepts, CauseOf, Settles};
-ghost use Rattle.audit_program.specs.Completes.{AreQuiet, IsReady};
+ghost use Rattle.audit_program.specs.Completes.{AllStayed, IsReady};
 ghost use Rattle.audit_program.specs.Outputs.{AsksForNoAudit, IsEnded, IsPutBy, plain_text, words_place};
 ghost use Rattle.audit_program.specs.Runs.{IsRun};
 ghost use Rattle.audit_program.specs.Statuses.{fault_status, is_early};
-ghost use Rattle.audit_program.specs.Tasks.{task_of};
+ghost use Rattle.audit_program.specs.Tasks.{AsksForBinaries, task_of};
 ghost use Rattle.audit_program.specs.declared.tasks.Task.{Task};
 
 use crate::binary_runs::run_binaries;
@@ -205,7 +205,7 @@ pub fn run<F: Files, P: Decoder, R: Runner, W: Wire, D: CacheDisk, O: Sink, E: S
     // a run that has all that it asks for, and of which no call on host or outputs fails, ends
     // without a fault but want of memory
     ensures complete { F.tells → IsReady (map string_bytes words.now) (F.host files.old)
-        → AreQuiet
+        → AllStayed
         (record {
           files = F.faults files.old;
           starts = R.faults runner.old;
@@ -239,6 +239,12 @@ pub fn run<F: Files, P: Decoder, R: Runner, W: Wire, D: CacheDisk, O: Sink, E: S
     ensures uncalled { AsksForNoAudit (command_of (map string_bytes words.now))
         → (files.new ≡ files.old) × (decoder.new ≡ decoder.old) × (runner.new ≡ runner.old)
         × (wire.new ≡ wire.old) × (disk.new ≡ disk.old) }
+
+    // nothing is decoded but for audits of binaries, which start nothing
+    ensures undecoded { (AsksForBinaries (command_of (map string_bytes words.now)) → ⊥)
+        → decoder.new ≡ decoder.old }
+    ensures unstarted { AsksForBinaries (command_of (map string_bytes words.now))
+        → runner.new ≡ runner.old }
 
     // where the run ends before the audit, but for want of memory, nothing is asked of the wire and
     // the cache; otherwise, however it ends, a part of the paths from the front, no file changes

@@ -11,7 +11,7 @@ use Rattle.std.proofs.lemmas.Map.Views.{Contains-from_any, list_any-from_Contain
 use Rattle.std.proofs.lemmas.Slice.Eq.{bytes_eq-Decides}
 use Rattle.std.proofs.lemmas.List.Elements.{filter-append}
 use Rattle.audit_report.specs.Firsts.{first_of_each, is_text_of, with_all_new, with_new}
-use Rattle.audit_report.specs.Rules.{AreFirstUses, first_place}
+use Rattle.tame_names.specs.FirstPlaces.{AreEachOnce, first_place}
 
 -- ---- texts that are equal
 
@@ -170,7 +170,7 @@ unfolding IsDistinct
 distinct f [] h = tt
 distinct f (z ∷ zs) h = (all_apart f z zs h.0, distinct f zs h.1)
 
-pub first_uses : (ts : List (List ℕ)) → AreFirstUses (firsts ts) ts
+pub first_uses : (ts : List (List ℕ)) → AreEachOnce (firsts ts) ts
 first_uses ts = record {
   distinct = distinct (first_place ts) (firsts ts) (firsts_rise ts);
   order = IsStrictlyIncreasing-from_sorted _ (sorted (first_place ts) (firsts ts) (firsts_rise ts));

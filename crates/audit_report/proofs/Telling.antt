@@ -10,7 +10,8 @@ use Rattle.audit_advisory.specs.declared.outputs.WarningKind.{WarningKind}
 use Rattle.audit_advisory.specs.declared.reports.Report.{Report}
 use Rattle.audit_report.specs.Blocks.{advisory_at}
 use Rattle.audit_report.specs.Firsts.{first_of_each, with_all_new}
-use Rattle.audit_report.specs.Rules.{AreFirstUses, HasRulesOfResults}
+use Rattle.tame_names.specs.FirstPlaces.{AreEachOnce}
+use Rattle.audit_report.specs.Rules.{HasRulesOfResults}
 use Rattle.audit_report.specs.Sarif.{Finding, findings_of, hit_finding, hit_finding_at, run_of, warning_finding, warning_finding_at}
 use Rattle.audit_report.specs.SarifRuns.{Tells}
 use Rattle.audit_report.specs.declared.sarif_logs.Rule.{Rule}
@@ -123,7 +124,7 @@ rules_are_first : (fs : List Finding) → Names fs → HasRulesOfResults (run_of
 rules_are_first fs h =
     let ids : map rule_id (first_of_each rule_id (rules_of fs)) ≡ first_of_each (λ t. t) (map (λ r. r.rule_id) (results_of fs)) =
     map_firsts rule_id (rules_of fs) ∙ ap (first_of_each (λ t. t)) h in
-    let P : List (List ℕ) → Type 0 = λ ids. AreFirstUses ids (map (λ r. r.rule_id) (results_of fs)) in
+    let P : List (List ℕ) → Type 0 = λ ids. AreEachOnce ids (map (λ r. r.rule_id) (results_of fs)) in
     subst P (sym ids) (first_uses (map (λ r. r.rule_id) (results_of fs)))
 
 pub rules_of_results : (uri : List ℕ) (advisories : List Advisory) (packages : List Package) (report : Report)

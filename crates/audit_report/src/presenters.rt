@@ -225,6 +225,9 @@ impl Presenter {
             → IsPut (E.holds err.old) (string_bytes made.old.err) (E.holds err.new) result }
         ensures out_nothing { made.old.out.bytes.items ≡ [] → out.new ≡ out.old }
         ensures err_nothing { string_bytes made.old.err ≡ [] → err.new ≡ err.old }
+        ensures in_order { O.tells
+            → (O.holds out.new ≡ O.holds out.old ++ made.old.out.bytes.items)
+            ⊎ (err.new ≡ err.old) }
         ensures out_later { O.faults out.old ≤ O.faults out.new }
         ensures err_later { E.faults err.old ≤ E.faults err.new }
         ensures failed { IsErrOf result PrintError.Io
@@ -276,6 +279,11 @@ impl Presenter {
         ensures err { E.tells → IsPut (E.holds err.old)
             (printed self.old (option_map (λ p. p.now) path.entry)
             database.now lockfile.now report.now).err (E.holds err.new) result }
+        // err is called once out holds its text whole
+        ensures in_order { O.tells → (O.holds out.new ≡ O.holds out.old
+            ++ (printed self.old (option_map (λ p. p.now) path.entry)
+            database.now lockfile.now report.now).out)
+            ⊎ (err.new ≡ err.old) }
         ensures out_later { O.faults out.old ≤ O.faults out.new }
         ensures err_later { E.faults err.old ≤ E.faults err.new }
         ensures failed { IsErrOf result PrintError.Io
@@ -325,6 +333,10 @@ impl Presenter {
             (self_text database.now advisories.now) (O.holds out.new) result }
         ensures err { E.tells → IsPut (E.holds err.old)
             (self_summary self.old.config.deny advisories.now) (E.holds err.new) result }
+        // out is called once err holds its line whole
+        ensures in_order { E.tells → (E.holds err.new ≡ E.holds err.old
+            ++ self_summary self.old.config.deny advisories.now)
+            ⊎ (out.new ≡ out.old) }
         ensures out_later { O.faults out.old ≤ O.faults out.new }
         ensures err_later { E.faults err.old ≤ E.faults err.new }
         ensures failed { IsErrOf result PrintError.Io

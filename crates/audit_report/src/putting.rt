@@ -1,5 +1,5 @@
 //! Putting texts that were made in memory.
-ghost use Rattle.std.specs.Prelude.{◌≡◌, ◌≤◌, ◌⊎◌, [], IfErr};
+ghost use Rattle.std.specs.Prelude.{◌≡◌, ◌≤◌, ◌++◌, ◌⊎◌, [], IfErr};
 ghost use Rattle.tame_names.specs.Counts.{CountRose};
 ghost use Rattle.audit_report.specs.Outputs.{IsPut};
 
@@ -64,6 +64,9 @@ pub fn put_texts<O: Sink, E: Sink>(
     ensures second { E.tells → IsPut (E.holds second.old) summary.now (E.holds second.new) result }
     ensures first_nothing { text.now ≡ [] → first.new ≡ first.old }
     ensures second_nothing { summary.now ≡ [] → second.new ≡ second.old }
+    // the second is called once the first holds its text whole
+    ensures in_order { O.tells → (O.holds first.new ≡ O.holds first.old ++ text.now)
+        ⊎ (second.new ≡ second.old) }
     ensures first_later { O.faults first.old ≤ O.faults first.new }
     ensures second_later { E.faults second.old ≤ E.faults second.new }
     ensures failed { IfErr result (λ e. (e ≡ PrintError.Io)

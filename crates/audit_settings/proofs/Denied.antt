@@ -10,7 +10,7 @@ use Rattle.audit_advisory.specs.declared.metadata.Informational.{Informational}
 use Rattle.audit_advisory.specs.declared.metadata.Informational.TheVariants.{Notice, Unmaintained, Unsound, Other}
 use Rattle.audit_advisory.specs.declared.outputs.DenyOption.{DenyOption}
 use Rattle.audit_advisory.specs.declared.outputs.DenyOption.TheVariants as deny
-use Rattle.audit_settings.specs.Denied.{denies_kind}
+use Rattle.audit_settings.specs.Denied.{adds_kind}
 use Rattle.audit_settings.specs.Overriding.{denied}
 use Rattle.audit_settings.specs.Reported.{has_kind, is_same_kind, warned_of, with_kind}
 
@@ -90,7 +90,7 @@ has_three k ks =
 
 -- ---- what is warned of
 
-none_other : (t : List ℕ) (options : List DenyOption) → list_any (denies_kind (Other t)) options ≡ false
+none_other : (t : List ℕ) (options : List DenyOption) → list_any (adds_kind (Other t)) options ≡ false
 none_other t [] = refl
 none_other t (deny.Warnings ∷ options) = none_other t options
 none_other t (deny.Unmaintained ∷ options) = none_other t options
@@ -115,50 +115,50 @@ none_of_three false more e = sym e
 
 all_three : (k : Informational) (h : Bool) (options : List DenyOption)
     → (((h || is_same_kind Notice k) || is_same_kind Unmaintained k) || is_same_kind Unsound k)
-    ≡ (h || (denies_kind k deny.Warnings || list_any (denies_kind k) options))
-all_three Notice h options = first_of_three h (list_any (denies_kind Notice) options)
-all_three Unmaintained h options = second_of_three h (list_any (denies_kind Unmaintained) options)
-all_three Unsound h options = third_of_three h (list_any (denies_kind Unsound) options)
-all_three (Other t) h options = none_of_three h (list_any (denies_kind (Other t)) options) (none_other t options)
+    ≡ (h || (adds_kind k deny.Warnings || list_any (adds_kind k) options))
+all_three Notice h options = first_of_three h (list_any (adds_kind Notice) options)
+all_three Unmaintained h options = second_of_three h (list_any (adds_kind Unmaintained) options)
+all_three Unsound h options = third_of_three h (list_any (adds_kind Unsound) options)
+all_three (Other t) h options = none_of_three h (list_any (adds_kind (Other t)) options) (none_other t options)
 
-denies_unmaintained : (k : Informational) → is_same_kind Unmaintained k ≡ denies_kind k deny.Unmaintained
-denies_unmaintained Notice = refl
-denies_unmaintained Unmaintained = refl
-denies_unmaintained Unsound = refl
-denies_unmaintained (Other t) = refl
+adds_unmaintained : (k : Informational) → is_same_kind Unmaintained k ≡ adds_kind k deny.Unmaintained
+adds_unmaintained Notice = refl
+adds_unmaintained Unmaintained = refl
+adds_unmaintained Unsound = refl
+adds_unmaintained (Other t) = refl
 
-denies_unsound : (k : Informational) → is_same_kind Unsound k ≡ denies_kind k deny.Unsound
-denies_unsound Notice = refl
-denies_unsound Unmaintained = refl
-denies_unsound Unsound = refl
-denies_unsound (Other t) = refl
+adds_unsound : (k : Informational) → is_same_kind Unsound k ≡ adds_kind k deny.Unsound
+adds_unsound Notice = refl
+adds_unsound Unmaintained = refl
+adds_unsound Unsound = refl
+adds_unsound (Other t) = refl
 
-denies_yanked : (k : Informational) → false ≡ denies_kind k deny.Yanked
-denies_yanked Notice = refl
-denies_yanked Unmaintained = refl
-denies_yanked Unsound = refl
-denies_yanked (Other t) = refl
+adds_yanked : (k : Informational) → false ≡ adds_kind k deny.Yanked
+adds_yanked Notice = refl
+adds_yanked Unmaintained = refl
+adds_yanked Unsound = refl
+adds_yanked (Other t) = refl
 
 one_more : (h j more : Bool) → ((h || j) || more) ≡ (h || (j || more))
 one_more true j more = refl
 one_more false j more = refl
 
-pub warned-kinds : (options : List DenyOption) (ks : List Informational) (k : Informational) → has_kind k (warned_of options ks) ≡ (has_kind k ks || list_any (denies_kind k) options)
+pub warned-kinds : (options : List DenyOption) (ks : List Informational) (k : Informational) → has_kind k (warned_of options ks) ≡ (has_kind k ks || list_any (adds_kind k) options)
 warned-kinds [] ks k = sym (or-false (has_kind k ks))
 warned-kinds (deny.Warnings ∷ options) ks k = has_three k ks ∙ all_three k (has_kind k ks) options
 warned-kinds (deny.Unmaintained ∷ options) ks k =
     warned-kinds options (with_kind Unmaintained ks) k
-    ∙ ap (λ b. b || list_any (denies_kind k) options) (has_with k Unmaintained ks)
-    ∙ one_more (has_kind k ks) (is_same_kind Unmaintained k) (list_any (denies_kind k) options)
-    ∙ ap (λ b. has_kind k ks || (b || list_any (denies_kind k) options)) (denies_unmaintained k)
+    ∙ ap (λ b. b || list_any (adds_kind k) options) (has_with k Unmaintained ks)
+    ∙ one_more (has_kind k ks) (is_same_kind Unmaintained k) (list_any (adds_kind k) options)
+    ∙ ap (λ b. has_kind k ks || (b || list_any (adds_kind k) options)) (adds_unmaintained k)
 warned-kinds (deny.Unsound ∷ options) ks k =
     warned-kinds options (with_kind Unsound ks) k
-    ∙ ap (λ b. b || list_any (denies_kind k) options) (has_with k Unsound ks)
-    ∙ one_more (has_kind k ks) (is_same_kind Unsound k) (list_any (denies_kind k) options)
-    ∙ ap (λ b. has_kind k ks || (b || list_any (denies_kind k) options)) (denies_unsound k)
+    ∙ ap (λ b. b || list_any (adds_kind k) options) (has_with k Unsound ks)
+    ∙ one_more (has_kind k ks) (is_same_kind Unsound k) (list_any (adds_kind k) options)
+    ∙ ap (λ b. has_kind k ks || (b || list_any (adds_kind k) options)) (adds_unsound k)
 warned-kinds (deny.Yanked ∷ options) ks k =
     warned-kinds options ks k
-    ∙ ap (λ b. has_kind k ks || (b || list_any (denies_kind k) options)) (denies_yanked k)
+    ∙ ap (λ b. has_kind k ks || (b || list_any (adds_kind k) options)) (adds_yanked k)
 
 -- ---- what was stated stands in front
 

@@ -9,7 +9,7 @@ ghost use Rattle.audit_advisory.specs.declared.outputs.DenyOption.{DenyOption};
 ghost use Rattle.audit_advisory.specs.declared.outputs.DenyOption.TheVariants.{Warnings};
 ghost use Rattle.audit_settings.specs.Commands.{no_option};
 ghost use Rattle.audit_settings.specs.Defaults.{default_settings};
-ghost use Rattle.audit_settings.specs.Denied.{denies_kind};
+ghost use Rattle.audit_settings.specs.Denied.{adds_kind};
 ghost use Rattle.audit_settings.specs.Overriding.{denied, overridden};
 ghost use Rattle.audit_settings.specs.Reported.{has_kind, warned_of};
 ghost use Rattle.audit_settings.specs.Settings.{settings_in};
@@ -43,12 +43,12 @@ pub fn denied_options_are_appended()
         → denied (front ++ Warnings ∷ back) settled ≡ all_deny_options ++ back }
 {}
 
-/// Advisories of a kind are warned of exactly where the settings state the kind or some option
-/// denies it, whatever the order of the options; what is stated stands in front, in its order.
+/// Advisories of a kind are warned of exactly where the settings state the kind or some option adds
+/// it, whatever the order of the options; what is stated stands in front, in its order.
 pub fn denied_kinds_are_warned_of()
     ensures kinds { (options : List DenyOption) (stated : List Informational) (k : Informational)
         → has_kind k (warned_of options stated)
-        ≡ (has_kind k stated || list_any (denies_kind k) options) }
+        ≡ (has_kind k stated || list_any (adds_kind k) options) }
     ensures stated { (options : List DenyOption) (stated : List Informational)
         → (more : List Informational) × (warned_of options stated ≡ stated ++ more) }
 {}

@@ -1,7 +1,7 @@
 //! The settings of an audit: what `audit.toml` says, and how the words of a command override it.
 //!
-//! Promises: a text reads to its settings, or the first rule that it breaks is named with its
-//! place; an option changes exactly its setting, and no option changes none.
+//! Promises: a text reads to its settings, or the first rule that it breaks is named, with its key
+//! where it has one; an option changes exactly its setting, and no option changes none.
 //! Stands on `tame_names`, `toml_tables`, and the settings of a report of `audit_advisory`.
 //!
 //! ```ignore

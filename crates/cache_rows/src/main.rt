@@ -62,6 +62,7 @@ fn answer(alloc: Global, stage: &mut Stage, row: Row<'_>) -> Result<String, RowF
         "look" => storing::look(alloc, &mut stage.disk),
         "first" => storing::first(alloc, words),
         "second" => storing::second(alloc, words),
+        "torn" => storing::torn(alloc, words),
         "crashed" => storing::crashed_write(alloc, words),
         "foreign" => storing::foreign(alloc, words),
         "path" => storing::path(alloc, words),

@@ -2,7 +2,7 @@
 use crate::revisions::revision_of;
 use row_fixtures::{
     FLAGGED_FILE, RevisionWord, Row, RowFault, body_of, crashed, disk_failing, disk_with,
-    flagged_body, flagged_entry, stop, told,
+    flagged_body, flagged_entry, shown_word, stop, told,
 };
 use std::alloc::{AllocError, Global};
 use tame_cache::{
@@ -119,6 +119,24 @@ pub fn second(alloc: Global, mut words: Row<'_>) -> Result<String, RowFault> {
     let first = write(alloc, &mut disk, true)?;
     let then = write_and_look(alloc, &mut disk, false)?;
     Ok(format!(in alloc; "{first}, {then}")?)
+}
+
+/// `torn FILE AT PIECE`: what a write of a piece at a place that fails leaves of a file, where a
+/// failed write tears.
+pub fn torn(alloc: Global, mut words: Row<'_>) -> Result<String, RowFault> {
+    let file = words.bytes(alloc)?;
+    let at = words.number()?;
+    let piece = words.bytes(alloc)?;
+    let mut first = Row::of("1");
+    let mut disk = disk_with(alloc, file.as_slice(), first.numbers(alloc)?)?;
+    disk.tear();
+    if disk.write_at(FLAGGED_FILE, at, piece.as_slice()).is_ok() {
+        return Ok(String::from_str(alloc, "written")?);
+    }
+    match disk.read(alloc, FLAGGED_FILE) {
+        Ok(Some(left)) => Ok(shown_word(alloc, left.as_slice())?),
+        _ => Err(RowFault::Unread),
+    }
 }
 
 /// What a read finds after a crash, and what storing once more does.

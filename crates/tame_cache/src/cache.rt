@@ -1,5 +1,5 @@
 //! The entries of an index in a folder.
-ghost use Rattle.std.specs.Prelude.{◌≡◌, ◌≢◌, ◌⊎◌, ◌↔◌, ◌≤◌, ◌+◌, ℕ, List, Ok, Err, Some, IsTrue, IfOk, IfErr, length};
+ghost use Rattle.std.specs.Prelude.{◌≡◌, ◌≢◌, ◌⊎◌, ◌↔◌, ◌≤◌, ◌+◌, ◌++◌, ◌∷◌, [], None, ℕ, List, Ok, Err, Some, IsTrue, IfOk, IfErr, length};
 ghost use Rattle.tame_names.specs.Counts.{HasCause, CountRose};
 ghost use Rattle.tame_names.specs.KrateNames.{text_of};
 ghost use Rattle.tame_names.specs.Names.{IsIndexPath};
@@ -170,6 +170,12 @@ impl IndexCache {
         ensures folders { D.tells → MakesOnly
             (λ q. cache_file_of self.now.path (text_of name.entry) ≡ Some q) (D.folders disk.old)
             (D.folders disk.new) }
+
+        // where no file was there, those above it are made
+        ensures made { D.tells → (q : List ℕ)
+            → cache_file_of self.now.path (text_of name.entry) ≡ Some q
+            → result ≡ Ok Kept.Written → reads (D.past disk.old q) ≡ None
+            → D.folders disk.new ≡ D.folders disk.old ++ q ∷ [] }
 
         // a kept file is kept at every moment, whatever stands at others, where what is written is
         // what the server held; and so is a kept disk

@@ -1,5 +1,5 @@
 //! A disk in memory, which keeps a record of all its changes.
-ghost use Rattle.std.specs.Prelude.{◌≡◌, ◌≢◌, ◌⊎◌, ◌<◌, ◌≤◌, ◌+◌, ◌-◌, ◌/◌, ◌^◌, ◌++◌, min, map, ⊤, Some, Err, [], ◌∷◌, List, ℕ, length, take, false, IfOk, IsErr, OnOk, OnErr, option_map, option_copied};
+ghost use Rattle.std.specs.Prelude.{◌≡◌, ◌≢◌, ◌⊎◌, ◌<◌, ◌≤◌, ◌+◌, ◌-◌, ◌/◌, ◌^◌, ◌++◌, min, map, ⊤, Some, Err, [], ◌∷◌, List, ℕ, length, take, false, true, IfOk, IsErr, OnOk, OnErr, option_map, option_copied};
 ghost use Rattle.std.specs.String.{string_bytes};
 ghost use Rattle.tame_names.specs.Counts.{HasCause};
 ghost use Rattle.tame_cache.specs.Counting.{IsCalled, IsToFail, RanOutOfMemory};
@@ -111,6 +111,7 @@ impl MemCacheDisk {
 
     /// The n-th call from now and all later ones fail; 0 is as 1.
     pub fn stop_at(&mut self, n: u64)
+        ensures tears { self.new.tears ≡ self.old.tears }
         ensures same { (q : List ℕ) → past_in self.new q ≡ past_in self.old q }
         ensures folders { folders_in self.new ≡ folders_in self.old }
         ensures faults { self.new.counts.faults ≡ self.old.counts.faults }
@@ -123,6 +124,7 @@ impl MemCacheDisk {
 
     /// From now a write that fails writes the first half of its piece.
     pub fn tear(&mut self)
+        ensures tears { self.new.tears ≡ true }
         ensures same { (q : List ℕ) → past_in self.new q ≡ past_in self.old q }
         ensures folders { folders_in self.new ≡ folders_in self.old }
         ensures counts { self.new.counts ≡ self.old.counts }
@@ -208,6 +210,7 @@ impl CacheDisk for MemCacheDisk {
     }
 
     fn peek(&mut self, path: &str) -> Result<Peek, DiskFault>
+        ensures tears { self.new.tears ≡ self.old.tears }
         ensures first { IfOk result (λ first. first
             ≡ first_of (reads (past_in self.old path.now))) }
         ensures same { (q : List ℕ) → past_in self.new q ≡ past_in self.old q }
@@ -228,6 +231,7 @@ impl CacheDisk for MemCacheDisk {
     }
 
     fn read(&mut self, alloc: Global, path: &str) -> Result<Option<Vec<u8>>, DiskReadFault>
+        ensures tears { self.new.tears ≡ self.old.tears }
         ensures file { IfOk result (λ file. option_map (λ bytes. bytes.items) file
             ≡ reads (past_in self.old path.now)) }
         ensures same { (q : List ℕ) → past_in self.new q ≡ past_in self.old q }
@@ -251,6 +255,7 @@ impl CacheDisk for MemCacheDisk {
     }
 
     fn make_dirs(&mut self, path: &str) -> Result<(), DiskFault>
+        ensures tears { self.new.tears ≡ self.old.tears }
         ensures same { (q : List ℕ) → past_in self.new q ≡ past_in self.old q }
         ensures folders { MakesOnly (λ q. q ≡ path.now) (folders_in self.old)
             (folders_in self.new) }
@@ -299,6 +304,7 @@ impl CacheDisk for MemCacheDisk {
     }
 
     fn cut(&mut self, path: &str, len: u64) -> Result<(), DiskFault>
+        ensures tears { self.new.tears ≡ self.old.tears }
         ensures cut { OnOk result (reads (past_in self.new path.now)
             ≡ option_map (take len) (reads (past_in self.old path.now))) }
         ensures step { MayCut len (past_in self.old path.now) (past_in self.new path.now) }
@@ -318,6 +324,7 @@ impl CacheDisk for MemCacheDisk {
     }
 
     fn sync(&mut self, path: &str) -> Result<(), DiskFault>
+        ensures tears { self.new.tears ≡ self.old.tears }
         ensures synced { OnOk result (past_in self.new path.now
             ≡ Synced (reads (past_in self.old path.now)) ∷ past_in self.old path.now) }
         ensures step { MaySync (past_in self.old path.now) (past_in self.new path.now) }

@@ -1,5 +1,5 @@
 //! The first step of a write: what a read gives is brought onto the disk.
-ghost use Rattle.std.specs.Prelude.{◌≡◌, ◌≢◌, ◌≤◌, ◌+◌, List, ℕ, IfOk};
+ghost use Rattle.std.specs.Prelude.{◌≡◌, ◌≢◌, ◌≤◌, ◌+◌, ◌++◌, ◌∷◌, [], List, ℕ, IfOk, OnOk, None};
 ghost use Rattle.tame_cache.specs.Disk.{reads, may_leave, EachMoment};
 ghost use Rattle.tame_cache.specs.Folders.{MakesOnly};
 ghost use Rattle.tame_cache.specs.Faults.{HasDiskCause};
@@ -16,6 +16,9 @@ pub fn settle<D: CacheDisk>(disk: &mut D, path: &str) -> Result<Peek, DiskFault>
     ensures any_moment { D.tells → EachMoment (D.past disk.old path.now) (D.past disk.new path.now)
         (may_leave (D.past disk.old path.now)) }
     ensures others { D.tells → (q : List ℕ) → q ≢ path.now → D.past disk.new q ≡ D.past disk.old q }
+    // where no file is there, the folders above it are made, and no others
+    ensures made { D.tells → OnOk result (reads (D.past disk.old path.now) ≡ None
+        → D.folders disk.new ≡ D.folders disk.old ++ path.now ∷ []) }
     ensures folders { D.tells → MakesOnly (λ q. q ≡ path.now) (D.folders disk.old)
         (D.folders disk.new) }
     ensures calls { D.made disk.new ≤ D.made disk.old + 4 }

@@ -1,6 +1,6 @@
 //! A whole write: a crash at any moment leaves the file of before, a refused one or the new entry.
-ghost use Rattle.std.specs.Prelude.{◌≡◌, ◌≢◌, ◌⊎◌, ◌≤◌, ◌+◌, List, ℕ, ◌∷◌, Some, OnOk};
-ghost use Rattle.tame_cache.specs.Disk.{may_leave, EachMoment};
+ghost use Rattle.std.specs.Prelude.{◌≡◌, ◌≢◌, ◌⊎◌, ◌≤◌, ◌+◌, ◌++◌, [], List, ℕ, ◌∷◌, Some, None, OnOk};
+ghost use Rattle.tame_cache.specs.Disk.{may_leave, reads, EachMoment};
 ghost use Rattle.tame_cache.specs.Folders.{MakesOnly};
 ghost use Rattle.tame_cache.specs.Faults.{HasDiskCause};
 ghost use Rattle.tame_cache.specs.Gate.{IsUnreadable, IsOrderly, IsStored};
@@ -25,6 +25,8 @@ pub fn store<D: CacheDisk>(disk: &mut D, path: &str, entry: &[u8]) -> Result<(),
     ensures others { D.tells → (q : List ℕ) → q ≢ path.now → D.past disk.new q ≡ D.past disk.old q }
     ensures folders { D.tells → MakesOnly (λ q. q ≡ path.now) (D.folders disk.old)
         (D.folders disk.new) }
+    ensures made { D.tells → OnOk result (reads (D.past disk.old path.now) ≡ None
+        → D.folders disk.new ≡ D.folders disk.old ++ path.now ∷ []) }
     ensures calls { D.made disk.new ≤ D.made disk.old + 13 }
     ensures cause { HasDiskCause (D.faults disk.old) (D.faults disk.new) result }
 {

@@ -67,7 +67,7 @@ pub fn revisions_are_read_by_name()
 {}
 
 /// Each marker of a template is replaced where it stands, and all else stays as it is. A text
-/// without a `{` is a folder.
+/// without a `{` is a folder, but for the one of crates.io, which names files of another form.
 pub fn markers_are_replaced_in_place()
     ensures template { (name version dl : List ℕ) → list_any is_brace dl ≡ true
         → download_url name version dl ≡ filled name version dl }

@@ -4,13 +4,17 @@
 //! Promises: an entry is written exactly as its definition says, and where no zero byte stands in
 //! its revision and its lines it is read back as these; a file that is no entry is refused, by
 //! the first rule that it breaks.
-//! Stands on the texts, names and sinks of `tame_names`, and on the records of `tame_records`.
+//! Stands on the texts, names and sinks of `tame_names`, on the records of `tame_records`, and on
+//! `serde_json`, `json`, `semver`, `hex` and `memchr`.
 //!
 //! ```ignore
 //! let lines = JsonLines::validate(body)?;
 //! let revision = Revision::Http(HttpRevision::Etag("x"));
 //! let file = CacheWrite::Remote(lines).entry(alloc, &revision)?;
-//! let krate = ValidCacheEntry::read(file.as_slice())?.to_krate(alloc, None)?;
+//! let krate = match ValidCacheEntry::read(file.as_slice()) {
+//!     Ok(entry) => entry.to_krate(alloc, None)?,
+//!     Err(fault) => return Err(fault.into()),
+//! };
 //! ```
 #![tactic(auto)]
 

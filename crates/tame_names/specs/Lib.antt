@@ -1,4 +1,5 @@
 pub mod Counts
+pub mod FirstPlaces
 pub mod KrateNames
 pub mod MemoryFiles
 pub mod NameRules

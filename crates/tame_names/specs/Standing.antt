@@ -1,9 +1,10 @@
 -- What a host has: what stands at its paths, its input, its environment and its current folder; and
 -- what calls on it may answer (this project).
-use Rattle.std.specs.Prelude.{◌≡◌, ◌≤◌, ◌<◌, ℕ, List, [], ◌∷◌, ◌++◌, length, Option, Some, None, Result, Ok, Err}
+use Rattle.std.specs.Prelude.{◌≡◌, ◌≤◌, ◌<◌, ℕ, List, [], ◌∷◌, ◌++◌, length, codes, bytes_eq, Option, Some, None, if◌then◌else◌, Result, Ok, Err}
 use Rattle.tame_names.specs.declared.host.EnvValue.{EnvValue}
 use Rattle.tame_names.specs.declared.host.FailedCall.{FailedCall}
 use Rattle.tame_names.specs.declared.host.FileCall.{FileCall}
+use Rattle.tame_names.specs.declared.host.FileCall.TheVariants as file_call
 use Rattle.tame_names.specs.declared.host.FileFault.{FileFault}
 use Rattle.tame_names.specs.declared.host.FileFault.TheVariants as file_fault
 use Rattle.tame_names.specs.declared.host.Listed.{Listed}
@@ -70,3 +71,9 @@ abbrev pub failed_calls : {T : Type 0} → List FailedCall → FileCall → Opti
     → Result T FileFault → List FailedCall
 failed_calls before call path (Err fault) = with_fault before call path fault
 failed_calls before call path (Ok a) = before
+
+-- the call that reads what is at a path, where `-` is standard input
+abbrev pub reading_call : List ℕ → FailedCall
+reading_call path =
+    if bytes_eq path (codes "-") then record { call = file_call.ReadStdin; path = None }
+    else record { call = file_call.Read; path = Some path }

@@ -123,7 +123,7 @@ pub trait Files {
         ensures failed { tells → failed self.new
             ≡ failed_calls (failed self.old) FileCall.ReadStdin None result };
 
-    /// The entries of the folder at a path, each once; nothing where no folder is there.
+    /// The entries of the folder at a path; nothing where no folder is there.
     fn list(&mut self, alloc: Global, path: &str) -> Result<Option<Items<Listed>>, FileFault>
         ensures cause { HasCause FileFault.NoMemory (faults self.old) (faults self.new) result }
         ensures same { tells → host self.new ≡ host self.old }

@@ -1,9 +1,10 @@
 //! Crate names with their place in an index, texts and lists that contracts see as lists, and the
 //! traits through which the product reaches files (`Files`) and output (`Sink`).
 //!
-//! A name is accepted exactly by its rule, and its path is a function of it. What a call on a host
-//! answers is a function of what the host has, and a fault of a sink leaves a part of the piece
-//! from the front. It stands on std, on `memchr` and on `thiserror`, and on no crate here.
+//! Promises: a name is accepted exactly by its rule, and its path is a function of it; what a call
+//! on a host answers is a function of what the host has; a fault of a sink leaves a part of the
+//! piece from the front.
+//! Stands on `memchr` and `thiserror`, and on no crate here.
 //!
 //! ```text
 //! let name = KrateName::crates_io("Serde")?;

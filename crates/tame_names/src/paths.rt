@@ -38,7 +38,7 @@ pub fn is_same_path(one: &str, other: &str) -> bool
 }
 
 /// A path below a folder: the path itself where the folder is empty or the path begins with `/`,
-/// else both, with one `/` between them.
+/// else both, with a `/` between them where the folder ends with none.
 pub fn join(alloc: Global, folder: &str, path: &str) -> Result<Text, NoMemory>
     ensures { IfOk result (λ whole. whole ≡ spec.join folder.now path.now) }
 {

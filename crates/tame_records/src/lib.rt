@@ -1,8 +1,10 @@
 //! Lines of a registry's index as records, digests, and the versions of a crate.
 //!
-//! A line reads exactly to its record, or has none; its version and flag are those of the record,
-//! whichever way it is read. A body reads to the records of its lines, and the line that a version
-//! writes reads back to it. It stands on `tame_names`, and on `serde_json`, `semver` and `hex`.
+//! Promises: a line reads exactly to its record, or has none; its version and flag are those of
+//! the record, whichever way it is read; a body reads to the records of its lines, and the line
+//! that a version writes reads back to it.
+//! Stands on the texts and names of `tame_names`, and on `serde_json`, `json`, `semver`, `hex`,
+//! `itertools` and `thiserror`.
 //!
 //! ```text
 //! let version = IndexVersion::read_line(alloc, line)?;

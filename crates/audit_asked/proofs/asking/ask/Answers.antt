@@ -23,8 +23,8 @@ returns-in_err-config-clause-start_cause g c =
 pub returns-in_err-place-clause-failed : goal.returns-in_err-place-clause-failed
 returns-in_err-place-clause-failed g c = λ told.
     let is : c.from_residual-in_err-place.result ≡ Err c.in_err-place.field-0.0 = first_of (search rules, grind (arith, common_steps)) in
-    let h : AddsBy IsPlaceCall (g.F.Files.failed c.args.files.now) (g.F.Files.failed c.place.new.files) c.in_err-place.field-0.0 =
-    rw (c.in_ok-config.ensures.failed told) at (c.in_err-place.ensures.failed told) in
+    let h : AddsBy (IsPlaceCall c.args.command.now.file (g.F.Files.host c.args.files.now)) (g.F.Files.failed c.args.files.now) (g.F.Files.failed c.place.new.files) c.in_err-place.field-0.0 =
+    rw (c.path_of.ensures, c.in_ok-config.ensures.same told, c.in_ok-config.ensures.failed told) at (c.in_err-place.ensures.failed told) in
     widen_err _ _ _ _ _ c.in_err-place.field-0.0 is (λ path call k. inr (c.in_ok-config.config, c.in_ok-config.ensures.ok told, inl k)) h
 
 pub returns-clause-started : goal.returns-clause-started

@@ -1,11 +1,11 @@
-use Rattle.std.proofs.Common.{[], Ok, Some, ap, map, refl, subst}
+use Rattle.std.proofs.Common.{[], Ok, Some, ap, map, refl, subst, sym}
 use Rattle.std.specs.Prelude.{string_bytes}
 use Rattle.audit_words.specs.Reading.{command_of}
 use Rattle.audit_words.specs.declared.commands.Command.TheVariants as command
 use Rattle.audit_asked.specs.declared.faults.RunFault.TheVariants as fault
 use Rattle.audit_core.proofs.Exchanged.{keeps_nothing, part_none}
 use Rattle.audit_program.specs.Outputs.{AsksForNoAudit, words_place}
-use Rattle.audit_program.specs.Tasks.{fix_task, task_of}
+use Rattle.audit_program.specs.Tasks.{AsksForBinaries, fix_task, task_of}
 use Rattle.audit_program.specs.declared.tasks.Remedy.TheVariants.{Report}
 use Rattle.audit_program.proofs.Commands.{accepted_by, if_none, if_none_then, no_memory_called, plain_none, plain_put, task_cause}
 use Rattle.audit_program.proofs.Completing.{task_complete}
@@ -97,3 +97,18 @@ pub returns-in-Ok-Bin-clause-uncalled : goal.returns-in-Ok-Bin-clause-uncalled
 returns-in-Ok-Bin-clause-uncalled g c nothing =
     let mine = rw c.in-Ok-Bin.field-0-is at c.in-Ok-Bin.ensures.ok in
     absurd (subst AsksForNoAudit mine nothing)
+
+pub returns-in-Ok-Bin-clause-undecoded : goal.returns-in-Ok-Bin-clause-undecoded
+returns-in-Ok-Bin-clause-undecoded g c other =
+    let mine = rw c.in-Ok-Bin.field-0-is at c.in-Ok-Bin.ensures.ok in
+    absurd (other (subst AsksForBinaries (sym mine) tt))
+
+pub returns-in-Ok-Audit-clause-unstarted : goal.returns-in-Ok-Audit-clause-unstarted
+returns-in-Ok-Audit-clause-unstarted g c is =
+    let mine = rw c.in-Ok-Audit.field-0-is at c.in-Ok-Audit.ensures.ok in
+    absurd (subst AsksForBinaries mine is)
+
+pub returns-in-Ok-Fix-clause-unstarted : goal.returns-in-Ok-Fix-clause-unstarted
+returns-in-Ok-Fix-clause-unstarted g c is =
+    let mine = rw c.in-Ok-Fix.field-0-is at c.in-Ok-Fix.ensures.ok in
+    absurd (subst AsksForBinaries mine is)

@@ -35,6 +35,7 @@ returns-in-Err g c = record {
   folders = λ told packages is. none_made _ _ _ refl;
   unasked = λ other. refl;
   unchanged = λ other told q. refl;
+  unmade = λ other told. refl;
   off = λ is. refl;
 }
 
