@@ -57,10 +57,10 @@ generates command host (Err reason) = false
 
 -- a call for the advisories of a database
 abbrev pub IsAdvisoriesCall : Host → Option (List ℕ) → List ℕ → FailedCall → Type 0
-IsAdvisoriesCall host None told call = IsReadingCall (advisory_paths host None) told call
+IsAdvisoriesCall host None told call = IsReadingCall host (advisory_paths host None) told call
 IsAdvisoriesCall host (Some database) told call =
     IsListingCall host database told call
-    ⊎ IsReadingCall (advisory_paths host (Some database)) told call
+    ⊎ IsReadingCall host (advisory_paths host (Some database)) told call
 
 -- a call once the database is known
 abbrev pub IsKnownCall : Host → Option (List ℕ) → List ℕ → List ℕ → FailedCall → Type 0
@@ -79,7 +79,8 @@ IsTextsCall host config place told call =
 -- a call once the settings are known
 abbrev pub IsLaterCall : AuditCommand → Host → AuditConfig → List ℕ → FailedCall → Type 0
 IsLaterCall command host config told call =
-    IsPlaceCall command.file host told call ⊎ IsTextsCall host config (place_of command.file) told call
+    IsPlaceCall command.file host told call
+    ⊎ IsTextsCall host config (place_of command.file) told call
 
 abbrev pub IsAskedCall : AuditCommand → Host → List ℕ → FailedCall → Type 0
 IsAskedCall command host told call =

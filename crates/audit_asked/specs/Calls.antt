@@ -1,5 +1,5 @@
 -- The calls on a host's files that may fail, and what a failed one ends (this project).
-use Rattle.std.specs.Prelude.{◌≡◌, ◌≤◌, ◌⊎◌, ℕ, codes, List, [], ◌∷◌, ◌++◌, false, Option, Some, None, Result, Ok, Err, IfErr}
+use Rattle.std.specs.Prelude.{◌≡◌, ◌≤◌, ◌⊎◌, ℕ, codes, List, [], ◌∷◌, ◌++◌, take, false, Option, Some, None, Result, Ok, Err, IfErr}
 use Rattle.std.specs.List.{Contains, slice_get}
 use Rattle.tame_names.specs.Counts.{CountRose}
 use Rattle.tame_names.specs.Paths.{join}
@@ -8,7 +8,8 @@ use Rattle.tame_names.specs.declared.host.FailedCall.{FailedCall}
 use Rattle.tame_names.specs.declared.host.FileCall.{FileCall}
 use Rattle.tame_names.specs.declared.host.FileCall.TheVariants as file_call
 use Rattle.tame_location.specs.Homes.{IsHomeCall}
-use Rattle.audit_asked.specs.Advisories.{crates_folder, names_at}
+use Rattle.audit_advisory.specs.declared.advisories.Advisory.{Advisory}
+use Rattle.audit_asked.specs.Advisories.{advisories_from, crates_folder, names_at}
 use Rattle.audit_asked.specs.Places.{is_there, lockfile_name, manifest_name}
 use Rattle.audit_asked.specs.Settings.{config_at, folder_file, home_file, known_home}
 use Rattle.audit_asked.specs.declared.faults.RunFault.{RunFault}
@@ -119,10 +120,12 @@ IsListingCall host database told call =
     ⊎ IsListingBelow (crates_folder database)
     (names_at wanted.Folders host (crates_folder database)) told call
 
--- the reading of one of these paths
-abbrev pub IsReadingCall : List (List ℕ) → List ℕ → FailedCall → Type 0
-IsReadingCall paths told call =
-    (n : ℕ) × (slice_get paths n ≡ Some told) × IsCallOn file_call.Read told told call
+-- the reading of one of these advisories, once all in front of it were accepted
+abbrev pub IsReadingCall : Host → List (List ℕ) → List ℕ → FailedCall → Type 0
+IsReadingCall host paths told call =
+    (n : ℕ) × (slice_get paths n ≡ Some told)
+    × ((front : List Advisory) × (advisories_from host 0 (take n paths) ≡ Ok front))
+    × IsCallOn file_call.Read told told call
 
 -- the reading of the lockfile
 abbrev pub IsLockfileCall : List ℕ → List ℕ → FailedCall → Type 0

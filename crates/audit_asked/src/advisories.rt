@@ -129,7 +129,7 @@ fn advisories_at<F: Files>(
         → advisories_from (F.host files.old) 0 paths.now ≡ Err (refused e)) }
     ensures only { IfErr result IsReadFault }
     ensures cause { HasFileCause (F.faults files.old) (F.faults files.new) result }
-    ensures failed { F.tells → AddsFailed (IsReadingCall paths.now)
+    ensures failed { F.tells → AddsFailed (IsReadingCall (F.host files.old) paths.now)
         (F.failed files.old) (F.failed files.new) result }
     ensures same { F.tells → F.host files.new ≡ F.host files.old }
 {

@@ -1,7 +1,9 @@
 //! What a run asks of its host.
 ghost use Rattle.std.specs.Prelude.{◌≡◌, Ok, Err, IfOk, IfErr, IsTrue, option_map};
+ghost use Rattle.tame_names.specs.Standing.{IsInput, StaysButInput};
 ghost use Rattle.audit_asked.specs.Asked.{IsAskedCall, IsTextsCall, asked, generates, status_told, texts_asked};
 ghost use Rattle.audit_asked.specs.Calls.{AddsFailed, HasFileCause};
+ghost use Rattle.audit_asked.specs.Places.{place_of};
 ghost use Rattle.audit_asked.specs.Refusals.{Gives, IsAskFault, IsReadFault, is_told, refused};
 ghost use Rattle.audit_asked.specs.Settings.{settled};
 ghost use Rattle.audit_asked.specs.Starts.{HasRunStartCause, RunStartsWhere, StartsAtMost};
@@ -58,7 +60,8 @@ fn texts<F: Files>(
     ensures cause { HasFileCause (F.faults files.old) (F.faults files.new) result }
     ensures failed { F.tells → AddsFailed (IsTextsCall (F.host files.old) config place)
         (F.failed files.old) (F.failed files.new) result }
-    ensures same { F.tells → F.host files.new ≡ F.host files.old }
+    ensures same { F.tells → StaysButInput (IsInput place)
+        (F.host files.old) (F.host files.new) }
 {
     let database = database(alloc, files, &config.database.path)?;
     let advisories = advisories(alloc, files, &database)?;
@@ -98,7 +101,8 @@ pub fn ask<F: Files, R: Runner>(
     ensures cause { HasFileCause (F.faults files.old) (F.faults files.new) result }
     ensures failed { F.tells → AddsFailed (IsAskedCall command.now (F.host files.old))
         (F.failed files.old) (F.failed files.new) result }
-    ensures same { F.tells → F.host files.new ≡ F.host files.old }
+    ensures same { F.tells → StaysButInput (IsInput (place_of command.now.file))
+        (F.host files.old) (F.host files.new) }
 {
     let config = settled(alloc, command, files)?;
     let place = place(alloc, files, runner, path_of(&command.file))?;

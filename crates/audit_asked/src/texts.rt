@@ -1,5 +1,6 @@
 //! The texts of a host's files.
-ghost use Rattle.std.specs.Prelude.{◌≡◌, ◌⊎◌, Ok, Err, Some, None, IfOk, IfErr, IsTrue};
+ghost use Rattle.std.specs.Prelude.{◌≡◌, ◌⊎◌, Ok, Err, Some, None, IfOk, IfErr, IsTrue, ⊤};
+ghost use Rattle.tame_names.specs.Standing.{IsInput, StaysButInput};
 ghost use Rattle.tame_names.specs.Utf8.{utf8_text};
 ghost use Rattle.tame_names.specs.declared.host.FileCall.TheVariants as FileCall;
 ghost use Rattle.audit_asked.specs.Calls.{AddsFailed, HasFileCause, IsCallOn, IsInputCall, IsLockfileCall};
@@ -81,7 +82,7 @@ fn input_text<F: Files>(alloc: Global, files: &mut F, path: &str) -> Result<Text
     ensures cause { HasFileCause (F.faults files.old) (F.faults files.new) result }
     ensures failed { F.tells → AddsFailed (IsInputCall path.now)
         (F.failed files.old) (F.failed files.new) result }
-    ensures same { F.tells → F.host files.new ≡ F.host files.old }
+    ensures same { F.tells → StaysButInput ⊤ (F.host files.old) (F.host files.new) }
 {
     let copy = Text::of(alloc, path)?;
     match files.read_stdin(alloc, TEXT_LIMIT) {
@@ -107,7 +108,8 @@ pub(crate) fn input_or_text<F: Files>(
     ensures cause { HasFileCause (F.faults files.old) (F.faults files.new) result }
     ensures failed { F.tells → AddsFailed (IsLockfileCall path.now)
         (F.failed files.old) (F.failed files.new) result }
-    ensures same { F.tells → F.host files.new ≡ F.host files.old }
+    ensures same { F.tells → StaysButInput (IsInput path.now)
+        (F.host files.old) (F.host files.new) }
 {
     if path == "-" {
         input_text(alloc, files, path)

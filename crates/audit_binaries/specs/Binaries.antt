@@ -107,13 +107,14 @@ failed_by path (answer.Audited found audited) = []
 failed_by path (answer.Refused f) = failed_reads path f
 
 -- the counts of files and decoder never fall; a file that couldn't be read raised the one, and is
--- told, and a failed decoding raised the other
+-- told, and a failed decoding raised the other, which stays otherwise
 pub record IsCounted (tells : Tells) (began ended : Outside) (path : List ℕ)
     (a : BinaryAnswer) : Type 0 where
   pub files : began.file_faults ≤ ended.file_faults
   pub decoder : began.decode_faults ≤ ended.decode_faults
   pub file : a ≡ answer.Refused fault.File → CountRose began.file_faults ended.file_faults
   pub decode : a ≡ answer.Refused fault.Decode → CountRose began.decode_faults ended.decode_faults
+  pub quiet : a ≢ answer.Refused fault.Decode → ended.decode_faults ≡ began.decode_faults
   pub failed : tells.files → ended.failed ≡ began.failed ++ failed_by path a
 
 pub record IsBinary (tells : Tells) (scan : Scan) (began ended : Outside) (path : List ℕ)
@@ -143,7 +144,7 @@ IsBegun tells scan began ended path =
 pub record IsCutOff (tells : Tells) (scan : Scan) (began ended : Outside)
     (path : List ℕ) : Type 0 where
   pub files : began.file_faults ≤ ended.file_faults
-  pub decoder : began.decode_faults ≤ ended.decode_faults
+  pub decoder : ended.decode_faults ≡ began.decode_faults
   pub failed : tells.files → ended.failed ≡ began.failed
   pub begun : IsBegun tells scan began ended path
 

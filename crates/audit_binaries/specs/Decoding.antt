@@ -1,5 +1,5 @@
 -- What a decoder makes of the bytes of a binary (this project).
-use Rattle.std.specs.Prelude.{◌≡◌, ◌≤◌, ℕ, List, length, nat_lt, Option, Some, None, if◌then◌else◌, Result, Ok, Err}
+use Rattle.std.specs.Prelude.{◌≡◌, ◌≢◌, ◌≤◌, ℕ, List, length, nat_lt, Option, Some, None, if◌then◌else◌, Result, Ok, Err}
 use Rattle.std.specs.Str.{is_utf8}
 use Rattle.tame_names.specs.Counts.{CountRose}
 use Rattle.audit_binaries.specs.Payloads.{payload_of}
@@ -25,10 +25,11 @@ Decodes answer (Err (fault.Over n)) = answer ≡ Err n
 Decodes answer (Err fault.Failed) = Unit {0}
 Decodes answer (Err fault.NoMemory) = Unit {0}
 
--- the count never falls, and a call that failed raised it; an answer over the limit is no fault
+-- the count rises where a call failed, and stays otherwise; an answer over the limit is no fault
 pub record HasDecodeCause (before now : ℕ) (result : Result Decoded DecodeFault) : Type 0 where
   pub later : before ≤ now
   pub failed : result ≡ Err fault.Failed → CountRose before now
+  pub quiet : result ≢ Err fault.Failed → now ≡ before
 
 -- ---- the answers by payloads
 

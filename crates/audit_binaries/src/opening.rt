@@ -67,6 +67,8 @@ fn decode_binary<P: Decoder>(
     ensures later { P.faults decoder.old ≤ P.faults decoder.new }
     ensures rose { result ≡ Err (Unopened.Refused BinaryFault.Decode)
         → CountRose (P.faults decoder.old) (P.faults decoder.new) }
+    ensures quiet { result ≢ Err (Unopened.Refused BinaryFault.Decode)
+        → P.faults decoder.new ≡ P.faults decoder.old }
     ensures same { P.tells → (other : List ℕ) (bound : ℕ)
         → P.answers decoder.new other bound ≡ P.answers decoder.old other bound }
 {
@@ -104,6 +106,8 @@ pub(crate) fn open_binary<F: Files, P: Decoder>(
         → CountRose (F.faults files.old) (F.faults files.new) }
     ensures decode { result ≡ Err (Unopened.Refused BinaryFault.Decode)
         → CountRose (P.faults decoder.old) (P.faults decoder.new) }
+    ensures quiet { result ≢ Err (Unopened.Refused BinaryFault.Decode)
+        → P.faults decoder.new ≡ P.faults decoder.old }
     ensures failed { F.tells → IfErr result (IfRefused (λ f.
         F.failed files.new ≡ F.failed files.old ++ failed_reads path.now f)) }
     ensures unfailed { F.tells → IfOk result (λ _. F.failed files.new ≡ F.failed files.old) }

@@ -14,10 +14,6 @@ use Rattle.audit_lock.specs.declared.lockfiles.LockfileFault.TheVariants as lock
 abbrev pub lockfile_limit : ℕ
 lockfile_limit = 67108864
 
--- this path is that of standard input
-abbrev pub is_input : List ℕ → Type 0
-is_input path = path ≡ codes "-"
-
 -- what stands at a path, where `-` is standard input
 abbrev pub standing_at : Host → List ℕ → Standing
 standing_at host path = if bytes_eq path (codes "-") then File host.input else host.stands path

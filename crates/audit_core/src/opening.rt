@@ -2,7 +2,7 @@
 ghost use Rattle.std.specs.Prelude.{◌≡◌, ◌≢◌, ◌<◌, ◌++◌, ◌∷◌, [], ◌⊎◌, ℕ, List, true, false, Ok, Err, IfOk, IfErr};
 ghost use Rattle.std.specs.Str.{is_utf8};
 ghost use Rattle.tame_names.specs.Counts.{HasCause, CountRose};
-ghost use Rattle.tame_names.specs.Standing.{IsAboveLimit, Reads, failed_calls, reading_call};
+ghost use Rattle.tame_names.specs.Standing.{IsAboveLimit, IsInput, Reads, StaysButInput, failed_calls, reading_call};
 ghost use Rattle.audit_lock.specs.Locked.{locked};
 ghost use Rattle.audit_lock.specs.declared.resolving.Package.{Package};
 ghost use Rattle.audit_core.specs.Opened.{IsReason, lockfile_limit, standing_at, text_at};
@@ -47,7 +47,8 @@ impl From<NoMemory> for FileAuditError {
 fn read_at<F: Files>(alloc: Global, files: &mut F, path: &str) -> Result<ReadAnswer, FileFault>
     ensures cause { HasCause FileFault.NoMemory (F.faults files.old) (F.faults files.new) result }
     ensures above { IsAboveLimit lockfile_limit result }
-    ensures same { F.tells → F.host files.new ≡ F.host files.old }
+    ensures same { F.tells → StaysButInput (IsInput path.now)
+        (F.host files.old) (F.host files.new) }
     ensures answer { F.tells
         → Reads (standing_at (F.host files.old) path.now) lockfile_limit result }
     ensures failed { F.tells → F.failed files.new ≡ failed_calls (F.failed files.old)
@@ -86,7 +87,8 @@ fn read_text<F: Files>(alloc: Global, files: &mut F, path: &str) -> Result<Text,
         → F.failed files.new ≡ F.failed files.old ++ reading_call path.now ∷ [] }
     ensures unfailed { F.tells → result ≢ Err FileAuditError.File
         → F.failed files.new ≡ F.failed files.old }
-    ensures same { F.tells → F.host files.new ≡ F.host files.old }
+    ensures same { F.tells → StaysButInput (IsInput path.now)
+        (F.host files.old) (F.host files.new) }
 {
     match read_at(alloc, files, path) {
         Ok(ReadAnswer::Whole(bytes)) => whole_text(alloc, bytes.as_slice()),
@@ -149,19 +151,23 @@ impl Auditor {
         // the front, no file changes but those of asked paths, and no folders are made but those
         // above these
         ensures part { F.tells → W.tells → (text : List ℕ) (packages : List Package)
-            → text_at (standing_at (F.host files.old) path.now) ≡ Ok text → locked text ≡ Ok packages
+            → text_at (standing_at (F.host files.old) path.now) ≡ Ok text
+            → locked text ≡ Ok packages
             → AddsPart (asked_of self.now.checks packages) (W.exchanges wire.old)
             (W.exchanges wire.new) }
         ensures others { F.tells → D.tells → (text : List ℕ) (packages : List Package)
-            → text_at (standing_at (F.host files.old) path.now) ≡ Ok text → locked text ≡ Ok packages
+            → text_at (standing_at (F.host files.old) path.now) ≡ Ok text
+            → locked text ≡ Ok packages
             → KeepsOthers (asked_of self.now.checks packages) (D.past disk.old) (D.past disk.new) }
         ensures folders { F.tells → D.tells → (text : List ℕ) (packages : List Package)
-            → text_at (standing_at (F.host files.old) path.now) ≡ Ok text → locked text ≡ Ok packages
+            → text_at (standing_at (F.host files.old) path.now) ≡ Ok text
+            → locked text ≡ Ok packages
             → MakesAskedFolders (asked_of self.now.checks packages) (D.folders disk.old)
             (D.folders disk.new) }
 
         // whatever the answer: what stays, and what is kept
-        ensures same { F.tells → F.host files.new ≡ F.host files.old }
+        ensures same { F.tells → StaysButInput (IsInput path.now)
+            (F.host files.old) (F.host files.new) }
         ensures kept { W.tells → D.tells
             → StaysKept (W.exchanges wire.old) (W.exchanges wire.new) (D.past disk.old)
             (D.past disk.new) }

@@ -1,11 +1,13 @@
 -- What was asked, by its parts.
-use Rattle.std.proofs.Common.{◌≡◌, ◌≤◌, ℕ, List, Bool, true, false, Option, Some, None, Result, Ok, Err, refl, arith}
+use Rattle.std.proofs.Common.{◌≡◌, ◌≤◌, ◌⊎◌, inl, inr, ℕ, List, Bool, true, false, Option, Some, None, Result, Ok, Err, refl, sym, subst, arith}
 use Rattle.std.specs.Prelude.{IfSome, pos}
 use Rattle.tame_names.specs.Standing.{Host}
+use Rattle.tame_names.specs.declared.host.FailedCall.{FailedCall}
 use Rattle.audit_settings.specs.declared.commands.AuditCommand.{AuditCommand}
 use Rattle.audit_settings.specs.declared.configs.AuditConfig.{AuditConfig}
 use Rattle.audit_asked.specs.Advisories.{advisories_asked}
 use Rattle.audit_asked.specs.Asked.{asked, texts_asked}
+use Rattle.audit_asked.specs.Calls.{AddsBy}
 use Rattle.audit_asked.specs.Databases.{database_asked}
 use Rattle.audit_asked.specs.ForBinaries.{asked_for_binaries}
 use Rattle.audit_asked.specs.Places.{place_asked}
@@ -15,7 +17,10 @@ use Rattle.audit_asked.specs.Starts.{RunStartsWhere}
 use Rattle.audit_asked.specs.Texts.{go_on, input_or_text}
 use Rattle.audit_asked.specs.declared.asking.Asked.{Asked}
 use Rattle.audit_asked.specs.declared.binaries.AskedForBinaries.{AskedForBinaries}
+use Rattle.audit_asked.specs.declared.faults.RunFault.{RunFault}
+use Rattle.audit_asked.specs.declared.faults.RunFault.TheVariants as fault
 use Rattle.audit_asked.specs.declared.runners.Started.{Started}
+use Rattle.audit_program.specs.Calls.{AddsRunCall}
 use Rattle.tame_names.specs.Counts.{CountRoseBy}
 
 -- where all is accepted, the first part is, and the rest goes on with it
@@ -61,3 +66,38 @@ rose_from failed a b c low rose = omega (arith, low, rose)
 pub if_some : {T : Type 0} (o : Option T) (P Q : T → Type 0) → ((x : T) → P x → Q x) → IfSome o P → IfSome o Q
 if_some None P Q f h = tt
 if_some (Some x) P Q f h = f x h
+
+-- the call that failed in asking, by the fault that is told of it
+call_case : (may : List ℕ → FailedCall → Type 0) (before now : List FailedCall) (f : RunFault) → AddsBy may before now f → AddsRunCall may before now (Some f)
+call_case may before now (fault.File path) h = h
+call_case may before now fault.NoMemory h = inl h
+call_case may before now (fault.Generate status) h = h
+call_case may before now (fault.Start failed) h = h
+call_case may before now (fault.Lockfile reason) h = h
+call_case may before now fault.Print h = h
+call_case may before now (fault.Usage place) h = h
+call_case may before now (fault.Settings reason) h = h
+call_case may before now (fault.Missing path) h = h
+call_case may before now (fault.NotUtf8 path) h = h
+call_case may before now (fault.TooLarge path len) h = h
+call_case may before now (fault.Advisory n reason) h = h
+
+-- the same where memory ran out in telling it
+memory_case : (may : List ℕ → FailedCall → Type 0) (before now : List FailedCall) (f : RunFault) → AddsBy may before now f → AddsRunCall may before now (Some fault.NoMemory)
+memory_case may before now (fault.File path) h = inr (path, h.0, h.1, h.2)
+memory_case may before now fault.NoMemory h = inl h
+memory_case may before now (fault.Generate status) h = inl h
+memory_case may before now (fault.Start failed) h = inl h
+memory_case may before now (fault.Lockfile reason) h = inl h
+memory_case may before now fault.Print h = inl h
+memory_case may before now (fault.Usage place) h = inl h
+memory_case may before now (fault.Settings reason) h = inl h
+memory_case may before now (fault.Missing path) h = inl h
+memory_case may before now (fault.NotUtf8 path) h = inl h
+memory_case may before now (fault.TooLarge path len) h = inl h
+memory_case may before now (fault.Advisory n reason) h = inl h
+
+pub call_told : (may : List ℕ → FailedCall → Type 0) (before now : List FailedCall) (f : RunFault) (o : Option RunFault) → (o ≡ Some f) ⊎ (o ≡ Some fault.NoMemory) → AddsBy may before now f
+    → AddsRunCall may before now o
+call_told may before now f o (inl is) h = let P : Option RunFault → Type 0 = λ x. AddsRunCall may before now x in subst P (sym is) (call_case may before now f h)
+call_told may before now f o (inr is) h = let P : Option RunFault → Type 0 = λ x. AddsRunCall may before now x in subst P (sym is) (memory_case may before now f h)

@@ -1,5 +1,5 @@
 -- The starts of a run by its fault.
-use Rattle.std.proofs.Common.{◌≡◌, ◌⊎◌, inl, inr, ℕ, List, Bool, true, false, Option, Some, None, Err, sym, subst}
+use Rattle.std.proofs.Common.{◌≡◌, ◌⊎◌, inl, inr, ℕ, List, Bool, true, false, Option, Some, None, Ok, Err, refl, sym, subst}
 use Rattle.std.specs.Prelude.{IfSome, IfNone, IsSome}
 use Rattle.tame_names.specs.Standing.{Host}
 use Rattle.audit_settings.specs.declared.commands.AuditCommand.{AuditCommand}
@@ -10,7 +10,7 @@ use Rattle.audit_asked.specs.declared.faults.RunFault.{RunFault}
 use Rattle.audit_asked.specs.declared.faults.RunFault.TheVariants as fault
 use Rattle.audit_asked.specs.declared.runners.Started.{Started}
 use Rattle.audit_program.specs.Calls.{StartsBy, StartsWhere}
-use Rattle.audit_program.specs.Causes.{BinariesCause}
+use Rattle.audit_program.specs.Causes.{BinariesCause, IsAskedFault}
 
 -- ---- where asking failed
 
@@ -32,6 +32,33 @@ pub failed_starts : (b : Bool) (before now : List Started) (f : RunFault) (o : O
 failed_starts true before now f o (inl is) most h = let P : Option RunFault → Type 0 = λ x. StartsBy before now x in subst P (sym is) (fault_case before now f most h)
 failed_starts true before now f o (inr is) most h = let P : Option RunFault → Type 0 = λ x. StartsBy before now x in subst P (sym is) most
 failed_starts false before now f o is most h = h
+
+-- ---- where asking was accepted, and nothing was audited
+
+given_starts : (b : Bool) (before now : List Started) (given : Asked) (o : Option RunFault) → RunStartsWhere b before now (Ok given) → StartsAtMost before now → IfSome o (IsAskedFault given)
+    → ((n : ℕ) → o ≡ Some (fault.Start n) → ⊥) → StartsWhere b before now o
+given_starts false before now given o h most cause none = h
+given_starts true before now given None h most cause none = h
+given_starts true before now given (Some (fault.Lockfile reason)) h most cause none = h
+given_starts true before now given (Some fault.Print) h most cause none = h
+given_starts true before now given (Some fault.NoMemory) h most cause none = most
+given_starts true before now given (Some (fault.Start n)) h most cause none = absurd (none n refl)
+given_starts true before now given (Some (fault.Generate status)) h most cause none = absurd cause
+given_starts true before now given (Some (fault.File path)) h most cause none = absurd cause
+given_starts true before now given (Some (fault.Usage place)) h most cause none = absurd cause
+given_starts true before now given (Some (fault.Settings reason)) h most cause none = absurd cause
+given_starts true before now given (Some (fault.Missing path)) h most cause none = absurd cause
+given_starts true before now given (Some (fault.NotUtf8 path)) h most cause none = absurd cause
+given_starts true before now given (Some (fault.TooLarge path len)) h most cause none = absurd cause
+given_starts true before now given (Some (fault.Advisory n reason)) h most cause none = absurd cause
+
+pub unaudited_starts : {T : Type 0} (a : Option T) (b : Bool) (before mid now : List Started) (given : Asked) (o : Option RunFault) → RunStartsWhere b before mid (Ok given) → StartsAtMost before mid
+    → IfSome o (IsAskedFault given) → ((n : ℕ) → o ≡ Some (fault.Start n) → IsSome a) → IfNone a (now ≡ mid) → IfNone a (StartsWhere b before now o)
+unaudited_starts (Some x) b before mid now given o h most cause some same = tt
+unaudited_starts None b before mid now given o h most cause some same =
+    let none : (n : ℕ) → o ≡ Some (fault.Start n) → ⊥ = λ n is. let no = some n is in cc in
+    let P : List Started → Type 0 = λ x. StartsWhere b before x o in
+    subst P (sym same) (given_starts b before mid given o h most cause none)
 
 -- one start failed where asking ended so
 pub asked_one : (f : RunFault) (o : Option RunFault) (n : ℕ) → (o ≡ Some f) ⊎ (o ≡ Some fault.NoMemory) → IsAskFault f → o ≡ Some (fault.Start n) → n ≡ 1

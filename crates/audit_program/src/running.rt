@@ -1,6 +1,7 @@
 //! A run of the program.
 ghost use Rattle.std.specs.Prelude.{◌≡◌, ◌≢◌, ◌⊎◌, ◌++◌, [], ℕ, List, map, codes, string_bytes, Ok, Err, Some, None, IsTrue, IsSome, IfSome, IfNone};
 ghost use Rattle.tame_names.specs.Counts.{CountRose, CountRoseBy};
+ghost use Rattle.tame_names.specs.Standing.{IsInput, StaysButInput};
 ghost use Rattle.audit_lock.specs.declared.resolving.Package.{Package};
 ghost use Rattle.audit_settings.specs.declared.commands.AuditCommand.{AuditCommand};
 ghost use Rattle.audit_settings.specs.declared.configs.AuditConfig.{AuditConfig};
@@ -221,7 +222,7 @@ pub fn run<F: Files, P: Decoder, R: Runner, W: Wire, D: CacheDisk, O: Sink, E: S
         → (result.fault ≡ None) ⊎ (result.fault ≡ Some RunFault.NoMemory) }
 
     // which calls on the host failed, what was started without an audit, and that what the host has
-    // stays
+    // stays, but for standard input where it is the lockfile
     ensures failed { F.tells → AddsCalls (command_of (map string_bytes words.now))
         (F.host files.old) (F.failed files.old) (F.failed files.new) result.fault }
     ensures started { F.tells → R.tells → IfNone result.audited (StartsWhere
@@ -229,7 +230,9 @@ pub fn run<F: Files, P: Decoder, R: Runner, W: Wire, D: CacheDisk, O: Sink, E: S
         (R.starts runner.old) (R.starts runner.new) result.fault) }
     ensures at_most { R.tells → IfNone result.audited
         (StartsAtMost (R.starts runner.old) (R.starts runner.new)) }
-    ensures files_same { F.tells → F.host files.new ≡ F.host files.old }
+    ensures files_same { F.tells → StaysButInput
+        (IsInput (words_place (command_of (map string_bytes words.now))))
+        (F.host files.old) (F.host files.new) }
 
     // however the run ends, a kept disk is kept at every moment where the exchanges were honest
     ensures kept { W.tells → D.tells → StaysKept (W.exchanges wire.old) (W.exchanges wire.new)

@@ -1,6 +1,7 @@
 //! Runs of audits of lockfiles: `audit` and `fix`.
 ghost use Rattle.std.specs.Prelude.{◌≡◌, ◌≢◌, ◌⊎◌, ◌≤◌, ◌<◌, ◌++◌, [], ℕ, List, pos, Ok, Err, Some, None, IsTrue, IsSome, IfSome, IfNone};
 ghost use Rattle.tame_names.specs.Counts.{CountRose, CountRoseBy};
+ghost use Rattle.tame_names.specs.Standing.{IsInput, StaysButInput};
 ghost use Rattle.audit_lock.specs.Locked.{locked};
 ghost use Rattle.audit_lock.specs.declared.resolving.Package.{Package};
 ghost use Rattle.audit_settings.specs.declared.configs.AuditConfig.{AuditConfig};
@@ -218,7 +219,8 @@ pub fn run_task<F: Files, R: Runner, W: Wire, D: CacheDisk, O: Sink, E: Sink>(
         (R.starts runner.old) (R.starts runner.new) result.fault) }
     ensures at_most { R.tells → IfNone result.audited
         (StartsAtMost (R.starts runner.old) (R.starts runner.new)) }
-    ensures files_same { F.tells → F.host files.new ≡ F.host files.old }
+    ensures files_same { F.tells → StaysButInput (IsInput (place_of task.now.command.file))
+        (F.host files.old) (F.host files.new) }
     ensures early { IfNone result.audited (result.fault ≢ Some RunFault.NoMemory
         → (wire.new ≡ wire.old) × (disk.new ≡ disk.old)) }
     ensures kept { W.tells → D.tells → StaysKept (W.exchanges wire.old) (W.exchanges wire.new)

@@ -33,6 +33,17 @@ pub record Host : Type 0 where
   -- the path of the current folder
   pub current : List ℕ
 
+-- this path is that of standard input
+abbrev pub IsInput : List ℕ → Type 0
+IsInput path = path ≡ codes "-"
+
+-- a host stays, but that its input may have been read where this is so
+pub record StaysButInput (reads : Type 0) (old new : Host) : Type 0 where
+  pub stands : new.stands ≡ old.stands
+  pub environment : new.environment ≡ old.environment
+  pub current : new.current ≡ old.current
+  pub input : (reads → ⊥) → new.input ≡ old.input
+
 -- ---- what calls answer
 
 -- absent exactly where nothing is there, whole exactly where a file within the limit is, over
@@ -43,6 +54,11 @@ Reads s limit (Ok (answer.Whole bytes)) = (s ≡ File bytes.items) × (length by
 Reads s limit (Ok (answer.Over n)) =
     (bytes : List ℕ) × (s ≡ File bytes) × (n ≡ length bytes) × (limit < n)
 Reads s limit (Err fault) = Unit {0}
+
+-- a read of standard input that answers all of it leaves nothing
+abbrev pub IsLeft : Result ReadAnswer FileFault → List ℕ → Type 0
+IsLeft (Ok (answer.Whole bytes)) left = left ≡ []
+IsLeft _ left = Unit {0}
 
 -- a number of bytes that is over the limit is above it
 abbrev pub IsAboveLimit : ℕ → Result ReadAnswer FileFault → Type 0

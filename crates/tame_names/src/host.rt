@@ -1,5 +1,5 @@
 //! The host: its files, its input, its environment and its current folder.
-ghost use Rattle.std.specs.Prelude.{◌≡◌, ◌≢◌, ℕ, List, Ok, Some, None, IfOk};
+ghost use Rattle.std.specs.Prelude.{◌≡◌, ◌≢◌, ℕ, List, Ok, Some, None, IfOk, ⊤};
 ghost use Rattle.tame_names.specs.Counts.{HasCause};
 
 use crate::errors::NoMemory;
@@ -85,7 +85,7 @@ pub struct FailedCall {
 
 /// The host. A path that ends with slashes stands for the path without them, but for `/` itself.
 pub trait Files {
-    ghost use Rattle.tame_names.specs.Standing.{Host, IsAboveLimit, Reads, File, failed_calls, kind_of, listing};
+    ghost use Rattle.tame_names.specs.Standing.{Host, IsAboveLimit, IsLeft, Reads, StaysButInput, File, failed_calls, kind_of, listing};
     ghost use Rattle.tame_names.specs.declared.host.FailedCall.{FailedCall};
 
     /// That it tells what it has and which calls have failed.
@@ -113,13 +113,15 @@ pub trait Files {
         ensures failed { tells → failed self.new
             ≡ failed_calls (failed self.old) FileCall.Read (Some path.now) result };
 
-    /// Reads standard input, where it has no more than `limit` bytes. It is never absent.
+    /// Reads standard input, where it has no more than `limit` bytes. It is never absent. Read
+    /// whole, it is empty from then on.
     fn read_stdin(&mut self, alloc: Global, limit: u64) -> Result<ReadAnswer, FileFault>
         ensures cause { HasCause FileFault.NoMemory (faults self.old) (faults self.new) result }
         ensures above { IsAboveLimit limit result }
         ensures there { result ≢ Ok ReadAnswer.Absent }
-        ensures same { tells → host self.new ≡ host self.old }
+        ensures same { tells → StaysButInput ⊤ (host self.old) (host self.new) }
         ensures answer { tells → Reads (File (host self.old).input) limit result }
+        ensures left { tells → IsLeft result (host self.new).input }
         ensures failed { tells → failed self.new
             ≡ failed_calls (failed self.old) FileCall.ReadStdin None result };
 

@@ -3,7 +3,7 @@ ghost use Rattle.std.specs.Prelude.{◌≡◌, ◌≢◌, ◌≤◌, [], ⊤, Ok
 ghost use Rattle.tame_names.specs.Counts.{HasCause, CountRose, next_call};
 ghost use Rattle.tame_names.specs.MemoryFiles.{Counted, IsReadable, host_in, standing_in, value_in};
 ghost use Rattle.tame_names.specs.MemoryFiles as spec;
-ghost use Rattle.tame_names.specs.Standing.{IsAboveLimit, Reads, File, failed_calls, kind_of, listing, with_fault};
+ghost use Rattle.tame_names.specs.Standing.{IsAboveLimit, IsLeft, Reads, StaysButInput, File, failed_calls, kind_of, listing, with_fault};
 
 use crate::errors::NoMemory;
 use crate::host::{EnvValue, FailedCall, FileCall, FileFault, Files, Listed, PathKind, ReadAnswer};
@@ -319,14 +319,17 @@ impl Files for MemFiles {
         ensures cause { HasCause FileFault.NoMemory self.old.faults self.new.faults result }
         ensures above { IsAboveLimit limit result }
         ensures there { result ≢ Ok ReadAnswer.Absent }
-        ensures same { host_in self.new ≡ host_in self.old }
+        ensures same { StaysButInput ⊤ (host_in self.old) (host_in self.new) }
         ensures answer { Reads (File self.old.input) limit result }
+        ensures left { IsLeft result self.new.input }
         ensures failed { self.new.failed
             ≡ failed_calls self.old.failed FileCall.ReadStdin None result }
         ensures counted { Counted (Unit {0}) self.old self.new result }
     {
         self.begin(FileCall::ReadStdin, None)?;
-        copy_within(alloc, self.input.as_slice(), limit)
+        let answer = copy_within(alloc, self.input.as_slice(), limit)?;
+        self.input = Items::new(alloc);
+        Ok(answer)
     }
 
     fn list(&mut self, alloc: Global, path: &str) -> Result<Option<Items<Listed>>, FileFault>

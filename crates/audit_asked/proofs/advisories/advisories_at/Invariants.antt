@@ -1,4 +1,4 @@
-use Rattle.std.proofs.Common.{◌≡◌, ◌≤◌, drop}
+use Rattle.std.proofs.Common.{◌≡◌, ◌≤◌, Ok, drop, take}
 use Rattle.audit_asked.specs.Advisories.{advisories_from}
 use Rattle.audit_asked.proofs.Ahead.{before}
 use Rattle.audit_asked.proofs.advisories.advisories_at.Given as goal
@@ -11,4 +11,5 @@ invariant-loop-n g l = record {
   failed : g.F.Files.tells → g.F.Files.failed l.files ≡ g.F.Files.failed l.fn.files;
   advisories : g.F.Files.tells → advisories_from (g.F.Files.host l.fn.files) 0 l.paths
       ≡ before l.advisories (advisories_from (g.F.Files.host l.fn.files) l.n (drop l.n l.paths));
+  front : g.F.Files.tells → advisories_from (g.F.Files.host l.fn.files) 0 (take l.n l.paths) ≡ Ok l.advisories;
 }

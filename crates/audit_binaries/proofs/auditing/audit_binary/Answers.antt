@@ -24,6 +24,7 @@ returns-in-Ok-audit_text-clause-answered g c =
         decoder = opened.decoder_later;
         file = λ is. absurd cc;
         decode = λ is. absurd cc;
+        quiet = λ other. opened.quiet (λ is. absurd cc);
         failed = λ told. opened.unfailed told ∙ sym (append-nil _);
       };
     }
@@ -50,7 +51,7 @@ returns-clause-cut g c =
     } in
     record {
       files = opened.files_later;
-      decoder = opened.decoder_later;
+      decoder = opened.quiet (λ is. absurd cc);
       failed = opened.unfailed;
       begun = begun_by tells scan began ended c.args.path.now c.in-Ok.said opened.said
           (λ f is. let same = done.uncalled f is in record { moment = rw (same.0, same.1) refl; folders = ap (g.D.CacheDisk.folders) same.1 })

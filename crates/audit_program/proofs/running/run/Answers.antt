@@ -25,6 +25,16 @@ returns-in-Ok-Audit-clause-complete g c told ready quiet =
     task_complete g.F.Files.tells (map string_bytes c.args.words.now) (g.F.Files.host c.args.files.now) (record { command = c.in-Ok-Audit.command; remedy = Report }) _ _ c.run_task.result.fault (ap task_of mine) ready told c.run_task.ensures.cause
     (record { print = c.run_task.ensures.rose; file = c.run_task.ensures.file_rose; start = c.run_task.ensures.start_rose }) quiet
 
+pub returns-in-Ok-Audit-clause-part : goal.returns-in-Ok-Audit-clause-part
+returns-in-Ok-Audit-clause-part g c told_files told given packages accepts =
+    let mine = rw c.in-Ok-Audit.field-0-is at c.in-Ok-Audit.ensures.ok in
+    c.run_task.ensures.part told_files told given packages (accepted_by (map string_bytes c.args.words.now) (g.F.Files.host c.args.files.now) (record { command = c.in-Ok-Audit.command; remedy = Report }) given packages (ap task_of mine) accepts) accepts.lockfile
+
+pub returns-in-Ok-Audit-clause-folders : goal.returns-in-Ok-Audit-clause-folders
+returns-in-Ok-Audit-clause-folders g c told_files told given packages accepts =
+    let mine = rw c.in-Ok-Audit.field-0-is at c.in-Ok-Audit.ensures.ok in
+    c.run_task.ensures.folders told_files told given packages (accepted_by (map string_bytes c.args.words.now) (g.F.Files.host c.args.files.now) (record { command = c.in-Ok-Audit.command; remedy = Report }) given packages (ap task_of mine) accepts) accepts.lockfile
+
 pub returns-in-Ok-Audit-clause-others : goal.returns-in-Ok-Audit-clause-others
 returns-in-Ok-Audit-clause-others g c told_files told given packages accepts q other =
     let mine = rw c.in-Ok-Audit.field-0-is at c.in-Ok-Audit.ensures.ok in

@@ -7,9 +7,9 @@ use Rattle.audit_settings.specs.declared.configs.AuditConfig.{AuditConfig}
 use Rattle.audit_core.specs.Audits.{KeepsOthers}
 use Rattle.audit_core.specs.Checks.{asked_of, checks_of}
 use Rattle.audit_core.proofs.Exchanged.{keeps_nothing, part_none}
-use Rattle.audit_program.proofs.Asking.{asked_config, generated_as, if_some, rose_from}
-use Rattle.audit_program.proofs.Commands.{if_none}
-use Rattle.audit_program.proofs.Starting.{asked_one, audited_some, failed_starts}
+use Rattle.audit_program.proofs.Asking.{asked_config, call_told, generated_as, if_some, rose_from}
+use Rattle.audit_program.proofs.Commands.{if_none, if_none_then}
+use Rattle.audit_program.proofs.Starting.{asked_one, audited_some, failed_starts, unaudited_starts}
 use Rattle.audit_program.proofs.task_runs.run_task.Goals as goal
 
 pub returns-in-Ok-clause-audited : goal.returns-in-Ok-clause-audited
@@ -22,6 +22,12 @@ returns-in-Ok-clause-audited g c =
       is_generated = λ told_files told. generated_as _ c.in-Ok.given _ _ (c.in-Ok.ensures.started told_files told);
       run = h;
     }) c.run_given.ensures.audited
+
+pub returns-in-Ok-clause-started : goal.returns-in-Ok-clause-started
+returns-in-Ok-clause-started g c told_files told =
+    unaudited_starts c.run_given.result.audited (generates c.args.task.now.command (g.F.Files.host c.args.files.now) (settled c.args.task.now.command (g.F.Files.host c.args.files.now))) _ _ _ c.in-Ok.given
+    c.run_given.result.fault (c.in-Ok.ensures.started told_files told) (c.in-Ok.ensures.at_most told) c.run_given.ensures.fault c.run_given.ensures.start_audit
+    (if_none_then c.run_given.result.audited _ _ (λ same. ap g.R.Runner.starts same) c.run_given.ensures.unstarted)
 
 pub returns-in-Ok-clause-start_rose : goal.returns-in-Ok-clause-start_rose
 returns-in-Ok-clause-start_rose g c failed is =
@@ -57,6 +63,9 @@ returns-in-Err-clause-started g c told_files told =
     if_none c.failed.result.audited _
     (failed_starts (generates c.args.task.now.command (g.F.Files.host c.args.files.now) (settled c.args.task.now.command (g.F.Files.host c.args.files.now))) _ _ c.in-Err.fault c.failed.result.fault c.failed.ensures.fault
     (c.in-Err.ensures.at_most told) (c.in-Err.ensures.started told_files told))
+
+pub returns-in-Err-clause-failed : goal.returns-in-Err-clause-failed
+returns-in-Err-clause-failed g c told = call_told _ _ _ c.in-Err.fault c.failed.result.fault c.failed.ensures.fault (c.in-Err.ensures.failed told)
 
 pub returns-in-Err-clause-one_start : goal.returns-in-Err-clause-one_start
 returns-in-Err-clause-one_start g c failed is =
