@@ -8,6 +8,7 @@ mod hosts;
 mod index_lines;
 mod revision_words;
 mod rows;
+mod tables;
 
 pub use escapes::{plain_bytes, plain_text, shown, shown_word};
 pub use faults::{RowFault, answered, told};
@@ -20,3 +21,4 @@ pub use index_lines::{
 };
 pub use revision_words::{RevisionWord, owned_text};
 pub use rows::Row;
+pub use tables::{Table, answer_lines};

@@ -1,6 +1,6 @@
 use Rattle.std.proofs.Common.{refl}
 use Rattle.std.specs.Str.{chars}
-use Rattle.format_rows.proofs.names.serde_json.Goals as goal
+use Rattle.index_rows.proofs.formats.names.serde_json.Goals as goal
 
 pub from_static-requires : goal.from_static-requires
 unfolding chars

@@ -1,6 +1,6 @@
 //! Entries as bytes.
-use crate::revisions::revision_of;
-use crate::sources::{Source, written};
+use crate::cache::revisions::revision_of;
+use crate::cache::sources::{Source, written};
 use row_fixtures::{RevisionWord, Row, RowFault, body_of, entry_of, shown};
 use std::alloc::{AllocError, Global};
 use tame_entry::{CacheWrite, IndexEntry, JsonLines, Revision, ValidCacheEntry};

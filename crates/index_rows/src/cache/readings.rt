@@ -1,6 +1,6 @@
 //! Index entries read as the versions of a crate, and line by line.
-use crate::revisions::revision_of;
-use crate::sources::{Source, written};
+use crate::cache::revisions::revision_of;
+use crate::cache::sources::{Source, written};
 use row_fixtures::{RevisionWord, Row, RowFault, shown, shown_word};
 use std::alloc::{AllocError, Global};
 use tame_entry::{

@@ -1,7 +1,5 @@
 //! Rows of requests, of what becomes of answers, and of the memory of entity tags: each line of
 //! the input is a case, and its answer is a line of the output.
-#![tactic(auto)]
-
 mod answers;
 mod etags;
 mod git;
@@ -9,14 +7,12 @@ mod naming;
 mod requests;
 mod stage;
 
-use row_fixtures::{Row, RowFault, answered};
-use stage::Stage;
+use row_fixtures::{Row, RowFault};
+pub use stage::Stage;
 use std::alloc::Global;
-use std::io;
-use std::io::{BufRead, BufReader};
 
 /// The answer of a row.
-fn answer(alloc: Global, stage: &mut Stage, row: Row<'_>) -> Result<String, RowFault> {
+pub fn answer(alloc: Global, stage: &mut Stage, row: Row<'_>) -> Result<String, RowFault> {
     let mut words = row;
     match words.word() {
         "take" => answers::take(alloc, &stage.index, words),
@@ -44,17 +40,4 @@ fn answer(alloc: Global, stage: &mut Stage, row: Row<'_>) -> Result<String, RowF
         "laws" => requests::laws(alloc),
         _ => Err(RowFault::Unread),
     }
-}
-
-fn main(rt: HostRuntime) -> io::Result<()> {
-    let alloc = rt.alloc();
-    let Ok(mut stage) = Stage::new(alloc) else {
-        return Ok(());
-    };
-    for line in BufReader::new(alloc, rt.reader())?.lines(alloc) {
-        let line = line?;
-        let answer = answer(alloc, &mut stage, Row::of(line.as_str()));
-        rt.println(answered(alloc, line.as_str(), answer)?)?;
-    }
-    Ok(())
 }

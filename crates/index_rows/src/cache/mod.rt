@@ -1,8 +1,6 @@
 //! Rows of index entries as bytes and as versions, of configurations of an index, and of entries
 //! stored on a disk that fails and crashes: each line of the input is a case, and its answer is a
 //! line of the output.
-#![tactic(auto)]
-
 mod configs;
 mod entries;
 mod readings;
@@ -12,11 +10,9 @@ mod sources;
 mod stage;
 mod storing;
 
-use row_fixtures::{Row, RowFault, answered};
-use stage::Stage;
+use row_fixtures::{Row, RowFault};
+pub use stage::Stage;
 use std::alloc::Global;
-use std::io;
-use std::io::{BufRead, BufReader};
 
 /// The answer of a row of values.
 fn answer_of_values(alloc: Global, row: Row<'_>) -> Result<String, RowFault> {
@@ -52,7 +48,7 @@ fn answer_of_values(alloc: Global, row: Row<'_>) -> Result<String, RowFault> {
 }
 
 /// The answer of a row.
-fn answer(alloc: Global, stage: &mut Stage, row: Row<'_>) -> Result<String, RowFault> {
+pub fn answer(alloc: Global, stage: &mut Stage, row: Row<'_>) -> Result<String, RowFault> {
     let mut words = row;
     match words.word() {
         "files" => stage.lay_files(alloc, words),
@@ -68,17 +64,4 @@ fn answer(alloc: Global, stage: &mut Stage, row: Row<'_>) -> Result<String, RowF
         "path" => storing::path(alloc, words),
         _ => answer_of_values(alloc, row),
     }
-}
-
-fn main(rt: HostRuntime) -> io::Result<()> {
-    let alloc = rt.alloc();
-    let Ok(mut stage) = Stage::new(alloc) else {
-        return Ok(());
-    };
-    for line in BufReader::new(alloc, rt.reader())?.lines(alloc) {
-        let line = line?;
-        let answer = answer(alloc, &mut stage, Row::of(line.as_str()));
-        rt.println(answered(alloc, line.as_str(), answer)?)?;
-    }
-    Ok(())
 }

@@ -1,5 +1,5 @@
 //! Entries stored on a disk in memory that fails and crashes.
-use crate::revisions::revision_of;
+use crate::cache::revisions::revision_of;
 use row_fixtures::{
     FLAGGED_FILE, RevisionWord, Row, RowFault, body_of, crashed, disk_failing, disk_with,
     flagged_body, flagged_entry, shown_word, stop, told,

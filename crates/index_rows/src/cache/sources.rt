@@ -1,5 +1,5 @@
 //! Index entries as words of a row.
-use crate::revisions::revision_of;
+use crate::cache::revisions::revision_of;
 use row_fixtures::{RevisionWord, Row, RowFault, body_of, entry_of};
 use std::alloc::Global;
 use tame_entry::{IndexEntry, JsonLines, LockedMmap};

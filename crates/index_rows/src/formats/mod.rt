@@ -1,21 +1,17 @@
 //! Rows of formats: names, digests, records, crates, lockfiles, and the texts of errors: each line
 //! of the input is a case, and its answer is a line of the output.
-#![tactic(auto)]
-
 mod errors;
-mod formats;
 mod krates;
 mod lockfiles;
 mod names;
 mod records;
 mod stage;
+mod values;
 mod written;
 
-use row_fixtures::{Row, RowFault, answered};
-use stage::Stage;
+use row_fixtures::{Row, RowFault};
+pub use stage::Stage;
 use std::alloc::Global;
-use std::io;
-use std::io::{BufRead, BufReader};
 
 /// The answer of a row of names and small values.
 fn answer_of_formats(alloc: Global, row: Row<'_>) -> Result<String, RowFault> {
@@ -27,13 +23,13 @@ fn answer_of_formats(alloc: Global, row: Row<'_>) -> Result<String, RowFault> {
         "cargo" => names::cargo(alloc, words),
         "prefix" => names::prefix(alloc, words),
         "static" => names::static_name(alloc),
-        "pieces" => formats::pieces(alloc, words),
-        "lines" => formats::lines(alloc, words),
-        "utf8" => formats::utf8(alloc, words),
-        "digest" => formats::digest(alloc, words),
-        "digests" => formats::digests(alloc, words),
-        "request" => formats::request(alloc, words),
-        "clone" => formats::clone(alloc, words),
+        "pieces" => values::pieces(alloc, words),
+        "lines" => values::lines(alloc, words),
+        "utf8" => values::utf8(alloc, words),
+        "digest" => values::digest(alloc, words),
+        "digests" => values::digests(alloc, words),
+        "request" => values::request(alloc, words),
+        "clone" => values::clone(alloc, words),
         "error" => errors::error(alloc, words),
         _ => Err(RowFault::Unread),
     }
@@ -64,7 +60,7 @@ fn answer_of_records(alloc: Global, row: Row<'_>) -> Result<String, RowFault> {
 }
 
 /// The answer of a row.
-fn answer(alloc: Global, stage: &mut Stage, row: Row<'_>) -> Result<String, RowFault> {
+pub fn answer(alloc: Global, stage: &mut Stage, row: Row<'_>) -> Result<String, RowFault> {
     let mut words = row;
     match words.word() {
         "files" => stage.lay_files(alloc, words),
@@ -74,17 +70,4 @@ fn answer(alloc: Global, stage: &mut Stage, row: Row<'_>) -> Result<String, RowF
         "packages" => lockfiles::packages(alloc, stage.text.as_str()),
         _ => answer_of_records(alloc, row),
     }
-}
-
-fn main(rt: HostRuntime) -> io::Result<()> {
-    let alloc = rt.alloc();
-    let Ok(mut stage) = Stage::new(alloc) else {
-        return Ok(());
-    };
-    for line in BufReader::new(alloc, rt.reader())?.lines(alloc) {
-        let line = line?;
-        let answer = answer(alloc, &mut stage, Row::of(line.as_str()));
-        rt.println(answered(alloc, line.as_str(), answer)?)?;
-    }
-    Ok(())
 }

@@ -1,1 +1,0 @@
--- Rows alone: no definition of its own.
