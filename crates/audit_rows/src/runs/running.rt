@@ -1,7 +1,7 @@
 //! Runs of the command over a host in memory.
+use crate::runs::stage::Stage;
+use crate::runs::telling::{told, told_short};
 use crate::scripts::scripted;
-use crate::stage::Stage;
-use crate::telling::{told, told_short};
 use audit_asked::MemRunner;
 use audit_binaries::MemDecoder;
 use audit_program::{Outcome, run};

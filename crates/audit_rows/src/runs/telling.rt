@@ -1,5 +1,5 @@
 //! Runs, each as one line.
-use crate::runs::Ran;
+use crate::runs::running::Ran;
 use audit_asked::Started;
 use audit_binaries::{BinariesAudit, BinaryAnswer, Decoder};
 use audit_core::{Audited, Judged, Turn};

@@ -1,5 +1,5 @@
 //! Plans, their starts and what is told of them.
-use crate::stage::{Laid, Stage};
+use crate::fixes::stage::{Laid, Stage};
 use audit_asked::{MemRunner, NoRunner, Runner, Started};
 use audit_fix::{FixPlan, FixStep, failed_starts, fix_lines, fix_status, start_steps};
 use row_fixtures::{Row, RowFault};

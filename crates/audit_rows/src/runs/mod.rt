@@ -1,22 +1,17 @@
 //! Rows of whole runs of the command over memory: each line of the input is a step, and its
 //! answer is a line of the output.
-#![tactic(auto)]
-
 mod crashes;
 mod kept_files;
-mod runs;
-mod scripts;
+mod running;
 mod stage;
 mod telling;
 
-use row_fixtures::{Row, RowFault, answered};
-use stage::Stage;
+use row_fixtures::{Row, RowFault};
+pub use stage::Stage;
 use std::alloc::Global;
-use std::io;
-use std::io::{BufRead, BufReader};
 
 /// The answer of a row.
-fn answer(alloc: Global, stage: &mut Stage, row: Row<'_>) -> Result<String, RowFault> {
+pub fn answer(alloc: Global, stage: &mut Stage, row: Row<'_>) -> Result<String, RowFault> {
     let mut words = row;
     match words.word() {
         "disk" => stage.lay_disk(alloc, words),
@@ -37,26 +32,13 @@ fn answer(alloc: Global, stage: &mut Stage, row: Row<'_>) -> Result<String, RowF
         "decodes" => stage.fail_decodes(alloc, words),
         "errors" => stage.fail_errors(alloc, words),
         "puts" => stage.fail_puts(alloc, words),
-        "run" => runs::run_audit(alloc, stage),
-        "words" => runs::run_words(alloc, stage, words),
-        "audit" => runs::audit(alloc, stage, words),
-        "failing" => runs::run_failing(alloc, stage, words),
+        "run" => running::run_audit(alloc, stage),
+        "words" => running::run_words(alloc, stage, words),
+        "audit" => running::audit(alloc, stage, words),
+        "failing" => running::run_failing(alloc, stage, words),
         "file" => kept_files::file(alloc, &mut stage.disk),
         "next" => kept_files::next(alloc, &stage.index, &mut stage.disk),
         "crashed" => crashes::crashed_audit(alloc, stage, words),
         _ => Err(RowFault::Unread),
     }
-}
-
-fn main(rt: HostRuntime) -> io::Result<()> {
-    let alloc = rt.alloc();
-    let Ok(mut stage) = Stage::new(alloc) else {
-        return Ok(());
-    };
-    for line in BufReader::new(alloc, rt.reader())?.lines(alloc) {
-        let line = line?;
-        let answer = answer(alloc, &mut stage, Row::of(line.as_str()));
-        rt.println(answered(alloc, line.as_str(), answer)?)?;
-    }
-    Ok(())
 }

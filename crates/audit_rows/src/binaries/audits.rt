@@ -1,5 +1,5 @@
 //! Audits of binaries, each as one line.
-use crate::stage::Stage;
+use crate::binaries::stage::Stage;
 use audit_advisory::DenyOption;
 use audit_binaries::{BinariesAudit, BinaryAnswer, MemDecoder, audit_binaries};
 use audit_core::{AuditError, Audited, Auditor};

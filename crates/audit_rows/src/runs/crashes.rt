@@ -1,8 +1,8 @@
 //! Audits that are stopped at a call of the disk, and then crash.
-use crate::kept_files::named_next;
-use crate::runs::{Ran, audited};
+use crate::runs::kept_files::named_next;
+use crate::runs::running::{Ran, audited};
+use crate::runs::stage::Stage;
 use crate::scripts::answer_of;
-use crate::stage::Stage;
 use row_fixtures::{RevisionWord, Row, RowFault, flagged_body, owned_text, shown};
 use std::alloc::Global;
 use tame_cache::CacheDisk;

@@ -13,19 +13,15 @@
 //! - `failing READS DECODES`: the reads and the decodings with these numbers, counted from 1, fail
 //!   in the next audit;
 //! - `audit PATH ..`: the audit of the binaries at these paths.
-#![tactic(auto)]
-
 mod audits;
 mod stage;
 
-use row_fixtures::{Row, RowFault, answered};
-use stage::Stage;
+use row_fixtures::{Row, RowFault};
+pub use stage::Stage;
 use std::alloc::Global;
-use std::io;
-use std::io::{BufRead, BufReader};
 
 /// The answer of a row, which is nothing where the step isn't an audit.
-fn answer(alloc: Global, stage: &mut Stage, row: Row<'_>) -> Result<String, RowFault> {
+pub fn answer(alloc: Global, stage: &mut Stage, row: Row<'_>) -> Result<String, RowFault> {
     let mut words = row;
     match words.word() {
         "clear" => stage.clear(alloc),
@@ -40,18 +36,4 @@ fn answer(alloc: Global, stage: &mut Stage, row: Row<'_>) -> Result<String, RowF
         "audit" => audits::audit(alloc, stage, words),
         _ => Err(RowFault::Unread),
     }
-}
-
-fn main(rt: HostRuntime) -> io::Result<()> {
-    let alloc = rt.alloc();
-    let mut stage = Stage::new(alloc);
-    for line in BufReader::new(alloc, rt.reader())?.lines(alloc) {
-        let line = line?;
-        let answer = answer(alloc, &mut stage, Row::of(line.as_str()));
-        let text = answered(alloc, line.as_str(), answer)?;
-        if !text.is_empty() || line.is_empty() {
-            rt.println(text)?;
-        }
-    }
-    Ok(())
 }

@@ -1,13 +1,12 @@
 //! What the rows work on.
+use crate::scripts::scripted;
 use audit_advisory::DenyOption;
 use audit_binaries::BinaryLimits;
-use row_fixtures::{
-    Laid, LaidNode, RevisionWord, Row, RowFault, body_of, disk_failing, lockfile_of,
-};
+use row_fixtures::{Laid, LaidNode, Row, RowFault, disk_failing, lockfile_of};
 use std::alloc::Global;
 use tame_cache::MemCacheDisk;
-use tame_names::{Items, NoMemory, Text};
-use tame_sparse::{Held, Scripted, WireAnswer};
+use tame_names::{Items, Text};
+use tame_sparse::Scripted;
 
 /// What stands, what is answered and what is asked for.
 #[derive(Drop)]
@@ -35,31 +34,6 @@ fn limit(word: &str) -> Result<Option<u64>, RowFault> {
             Err(_) => Err(RowFault::Unread),
         },
     }
-}
-
-/// The bytes that a status is sent with.
-fn sent(alloc: Global, status: u16, body: &[u8]) -> Result<Items<u8>, NoMemory> {
-    Items::copied(alloc, if status == 200 { body } else { b"" })
-}
-
-/// The answer of a server that holds a body under a revision, sent at 200 alone.
-fn scripted(alloc: Global, words: &mut Row<'_>) -> Result<Scripted, RowFault> {
-    let status = words.status()?;
-    let revision = RevisionWord::of(alloc, words.word())?;
-    let body = body_of(alloc, words.word())?;
-    let answer = WireAnswer {
-        status,
-        revision: revision.owned(alloc)?,
-        body: sent(alloc, status, body.as_slice())?,
-    };
-    let held = Held {
-        revision: revision.owned(alloc)?,
-        body: Items::copied(alloc, body.as_slice())?,
-    };
-    Ok(Scripted {
-        held: Some(held),
-        answer: Some(answer),
-    })
 }
 
 impl Stage {
@@ -129,9 +103,8 @@ impl Stage {
         nothing(alloc)
     }
 
-    pub fn add_answer(&mut self, alloc: Global, mut words: Row<'_>) -> Result<String, RowFault> {
-        let answer = scripted(alloc, &mut words)?;
-        self.script.add(answer)?;
+    pub fn add_answer(&mut self, alloc: Global, words: Row<'_>) -> Result<String, RowFault> {
+        self.script.add(scripted(alloc, words)?)?;
         nothing(alloc)
     }
 
