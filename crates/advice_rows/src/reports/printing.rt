@@ -1,6 +1,6 @@
 //! What is printed.
+use crate::row_words::{found, place, places};
 use crate::stage::{Laid, Stage};
-use crate::words::{found, place, places};
 use audit_report::{PrintError, SarifLog, push_loaded, push_unchecked, push_updating};
 use row_fixtures::{Row, RowFault};
 use std::alloc::{AllocError, Global};

@@ -1,10 +1,6 @@
-//! Rows of printed reports. Each line of the input is a step; a step that prints is answered by
-//! what was answered and by what two outputs gained. `LINE` is the rest of a line, in which `\n`,
-//! `\t`, `\\` and `\xHH` are escapes; `-` stands for nothing, and commas part lists:
+//! Rows of printed reports. A step that prints is answered by what was answered and by what two
+//! outputs gained. Beside the steps of `Stage`:
 //!
-//! - `clear`: no advisory and no lockfile;
-//! - `advisory`: an advisory begins, `lock`: the lockfile begins, `| LINE`: the next line of it;
-//! - `report YANKED IGNORE SEVERITY ARCH OS KINDS`: the report of the advisories on the lockfile;
 //! - `empty`: the report without anything; `hit ADVISORY PACKAGE` and `warn KIND PACKAGE ADVISORY`
 //!   add a vulnerability and a warning by places;
 //! - `presenter FORMAT TREES STATUS DENY`: a new presenter; TREES is `tree` or `bare`, STATUS
@@ -20,28 +16,18 @@
 //!   segments;
 //! - `exits PLACES`: whether the report and the advisories at these places make an audit fail;
 //! - `loaded N PATH`, `updating`, `unchecked NAME VERSION CAUSE`: these status lines.
-#![tactic(auto)]
-
 mod filtering;
 mod printing;
-mod stage;
-mod words;
+mod steps;
 
-use row_fixtures::{Row, RowFault, answered};
-use stage::Stage;
+use crate::stage::Stage;
+use row_fixtures::{Row, RowFault};
 use std::alloc::Global;
-use std::io;
-use std::io::{BufRead, BufReader};
 
 /// The answer of a row, which is nothing where the step prints nothing.
-fn answer(alloc: Global, stage: &mut Stage, row: Row<'_>) -> Result<String, RowFault> {
+pub fn answer(alloc: Global, stage: &mut Stage, row: Row<'_>) -> Result<String, RowFault> {
     let mut words = row;
     match words.word() {
-        "clear" => stage.clear(alloc),
-        "advisory" => stage.begin_advisory(alloc),
-        "lock" => stage.begin_lock(alloc),
-        "|" => stage.add_line(alloc, words),
-        "report" => stage.make_report(alloc, words),
         "empty" => stage.make_empty(alloc),
         "hit" => stage.add_hit(alloc, words),
         "warn" => stage.add_warning(alloc, words),
@@ -57,20 +43,6 @@ fn answer(alloc: Global, stage: &mut Stage, row: Row<'_>) -> Result<String, RowF
         "loaded" => printing::loaded(alloc, words),
         "updating" => printing::updating(alloc),
         "unchecked" => printing::unchecked(alloc, words),
-        _ => Err(RowFault::Unread),
+        _ => stage.answer(alloc, row),
     }
-}
-
-fn main(rt: HostRuntime) -> io::Result<()> {
-    let alloc = rt.alloc();
-    let mut stage = Stage::new(alloc);
-    for line in BufReader::new(alloc, rt.reader())?.lines(alloc) {
-        let line = line?;
-        let answer = answer(alloc, &mut stage, Row::of(line.as_str()));
-        let text = answered(alloc, line.as_str(), answer)?;
-        if !text.is_empty() || line.is_empty() {
-            rt.println(text)?;
-        }
-    }
-    Ok(())
 }

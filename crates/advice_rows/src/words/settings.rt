@@ -1,5 +1,5 @@
 //! The settings of an audit.
-use crate::options::words_of;
+use crate::words::options::words_of;
 use audit_settings::{AuditCommand, AuditConfig};
 use audit_words::{Command, read_words};
 use row_fixtures::{Row, RowFault};

@@ -1,10 +1,12 @@
-//! What the rows work on.
-use crate::filtering::symbols;
-use crate::words::{denied, format, informational, kind, listed, place, place_or_none, severity};
-use audit_advisory::{
-    Advisory, AdvisoryFault, Comparisons, Database, OutputConfig, Report, Settings, Vulnerability,
-    Warning,
-};
+//! What the rows of advisories, reports and trees work on. `LINE` is the rest of a line, in which
+//! `\n`, `\t`, `\\` and `\xHH` are escapes; `-` stands for nothing, and commas part lists:
+//!
+//! - `clear`: no advisory and no lockfile;
+//! - `advisory`: an advisory begins, `lock`: the lockfile begins, `| LINE`: the next line of it;
+//! - `report YANKED IGNORE SEVERITY ARCH OS KINDS`: the report of the advisories on the lockfile,
+//!   of which the packages YANKED, each `NAME@VERSION`, are yanked.
+use crate::row_words::{informational, listed, severity};
+use audit_advisory::{Advisory, AdvisoryFault, Comparisons, Database, Report, Settings};
 use audit_lock::{Lockfile, LockfileFault, Package};
 use audit_report::Presenter;
 use row_fixtures::{Row, RowFault, plain_text};
@@ -40,7 +42,8 @@ pub struct Stage {
     pub presenter: Option<Presenter>,
 }
 
-fn read_advisory(alloc: Global, text: &str) -> Result<Advisory, RowFault> {
+/// The advisory of a text that is one.
+pub fn read_advisory(alloc: Global, text: &str) -> Result<Advisory, RowFault> {
     match Advisory::read(alloc, text) {
         Ok(advisory) => Ok(advisory),
         Err(AdvisoryFault::NoMemory) => Err(RowFault::NoMemory),
@@ -56,7 +59,8 @@ fn read_advisories(alloc: Global, texts: &[Text]) -> Result<Items<Advisory>, Row
     Ok(advisories)
 }
 
-fn read_lockfile(alloc: Global, text: &str) -> Result<Lockfile, RowFault> {
+/// The lockfile of a text that is one.
+pub fn read_lockfile(alloc: Global, text: &str) -> Result<Lockfile, RowFault> {
     match Lockfile::read(alloc, text) {
         Ok(lockfile) => Ok(lockfile),
         Err(LockfileFault::NoMemory) => Err(RowFault::NoMemory),
@@ -76,7 +80,8 @@ fn named(alloc: Global, packages: &[Package], words: &[Text]) -> Result<Items<us
     Ok(places)
 }
 
-fn settings_of(alloc: Global, row: Row<'_>) -> Result<Settings, RowFault> {
+/// Settings of the words `IGNORE SEVERITY ARCH OS KINDS`.
+pub fn settings_of(alloc: Global, row: Row<'_>) -> Result<Settings, RowFault> {
     let mut row = row;
     Ok(Settings {
         ignore: listed(alloc, &mut row)?,
@@ -85,6 +90,13 @@ fn settings_of(alloc: Global, row: Row<'_>) -> Result<Settings, RowFault> {
         target_os: listed(alloc, &mut row)?,
         informational_warnings: informational(alloc, &mut row)?,
     })
+}
+
+/// Lines without the newline of the last one, which comes with the answer.
+pub fn without_newline(lines: String) -> String {
+    let mut lines = lines;
+    let _newline = lines.pop();
+    lines
 }
 
 fn report_of(
@@ -117,7 +129,7 @@ impl Stage {
     }
 
     /// `clear`
-    pub fn clear(&mut self, alloc: Global) -> Result<String, RowFault> {
+    fn clear(&mut self, alloc: Global) -> Result<String, RowFault> {
         *self = Stage::new(alloc);
         Ok(String::new(alloc))
     }
@@ -135,26 +147,51 @@ impl Stage {
     }
 
     /// `advisory`
-    pub fn begin_advisory(&mut self, alloc: Global) -> Result<String, RowFault> {
+    fn begin_advisory(&mut self, alloc: Global) -> Result<String, RowFault> {
         self.begin(alloc, Begun::Advisory)
     }
 
     /// `lock`
-    pub fn begin_lock(&mut self, alloc: Global) -> Result<String, RowFault> {
+    fn begin_lock(&mut self, alloc: Global) -> Result<String, RowFault> {
         self.begin(alloc, Begun::Lock)
     }
 
     /// `| LINE`
-    pub fn add_line(&mut self, alloc: Global, row: Row<'_>) -> Result<String, RowFault> {
+    fn add_line(&mut self, alloc: Global, row: Row<'_>) -> Result<String, RowFault> {
         let line = plain_text(alloc, row.rest())?;
         self.text.push_str(line.as_str())?;
         self.text.push_str("\n")?;
         Ok(String::new(alloc))
     }
 
-    /// `report YANKED IGNORE SEVERITY ARCH OS KINDS`
-    pub fn make_report(&mut self, alloc: Global, row: Row<'_>) -> Result<String, RowFault> {
+    /// The text that is being laid is whole.
+    pub fn end(&mut self, alloc: Global) -> Result<(), RowFault> {
         self.begin(alloc, Begun::Nothing)?;
+        Ok(())
+    }
+
+    /// The text of one more advisory.
+    pub fn add_advisory(&mut self, alloc: Global, text: String) -> Result<String, RowFault> {
+        self.advisories.add(Text::from_string(text))?;
+        Ok(String::new(alloc))
+    }
+
+    /// The text of the first advisory, if there is one.
+    pub fn first(&self) -> Result<&str, RowFault> {
+        match self.advisories.as_slice().first() {
+            Some(text) => Ok(text.as_str()),
+            None => Err(RowFault::Unread),
+        }
+    }
+
+    /// The text of the lockfile.
+    pub fn lock(&self) -> &str {
+        self.lock.as_str()
+    }
+
+    /// `report YANKED IGNORE SEVERITY ARCH OS KINDS`
+    fn make_report(&mut self, alloc: Global, row: Row<'_>) -> Result<String, RowFault> {
+        self.end(alloc)?;
         let advisories = read_advisories(alloc, self.advisories.as_slice())?;
         let database = Database::new(alloc, advisories)?;
         let lockfile = read_lockfile(alloc, self.lock.as_str())?;
@@ -168,60 +205,23 @@ impl Stage {
     }
 
     /// What was laid, if it was.
-    fn laid(&mut self) -> Result<&mut Laid, RowFault> {
+    pub fn laid(&mut self) -> Result<&mut Laid, RowFault> {
         match &mut self.laid {
             Some(laid) => Ok(laid),
             None => Err(RowFault::Unread),
         }
     }
 
-    /// `empty`
-    pub fn make_empty(&mut self, alloc: Global) -> Result<String, RowFault> {
-        let laid = self.laid()?;
-        laid.report.vulnerabilities = Items::new(alloc);
-        laid.report.warnings = Items::new(alloc);
-        Ok(String::new(alloc))
-    }
-
-    /// `hit ADVISORY PACKAGE`
-    pub fn add_hit(&mut self, alloc: Global, mut row: Row<'_>) -> Result<String, RowFault> {
-        let advisory = place(&mut row)?;
-        let package = place(&mut row)?;
-        let hit = Vulnerability { advisory, package };
-        self.laid()?.report.vulnerabilities.add(hit)?;
-        Ok(String::new(alloc))
-    }
-
-    /// `warn KIND PACKAGE ADVISORY`
-    pub fn add_warning(&mut self, alloc: Global, mut row: Row<'_>) -> Result<String, RowFault> {
-        let warning = Warning {
-            kind: kind(&mut row)?,
-            package: place(&mut row)?,
-            advisory: place_or_none(alloc, &mut row)?,
-        };
-        self.laid()?.report.warnings.add(warning)?;
-        Ok(String::new(alloc))
-    }
-
-    /// `presenter FORMAT TREES STATUS DENY`
-    pub fn make_presenter(&mut self, alloc: Global, mut row: Row<'_>) -> Result<String, RowFault> {
-        let config = OutputConfig {
-            format: format(&mut row)?,
-            show_tree: row.is("tree", "bare")?,
-            quiet: row.is("quiet", "loud")?,
-            deny: denied(alloc, &mut row)?,
-        };
-        self.presenter = Some(Presenter::new(alloc, &config)?);
-        Ok(String::new(alloc))
-    }
-
-    /// `symbols SYMBOLS`
-    pub fn set_symbols(&mut self, alloc: Global, mut row: Row<'_>) -> Result<String, RowFault> {
-        let symbols = symbols(alloc, &mut row)?;
-        match &mut self.presenter {
-            Some(presenter) => presenter.set_symbols(symbols),
-            None => return Err(RowFault::Unread),
+    /// The answer of a row that the tables share.
+    pub fn answer(&mut self, alloc: Global, row: Row<'_>) -> Result<String, RowFault> {
+        let mut words = row;
+        match words.word() {
+            "clear" => self.clear(alloc),
+            "advisory" => self.begin_advisory(alloc),
+            "lock" => self.begin_lock(alloc),
+            "|" => self.add_line(alloc, words),
+            "report" => self.make_report(alloc, words),
+            _ => Err(RowFault::Unread),
         }
-        Ok(String::new(alloc))
     }
 }

@@ -1,5 +1,5 @@
 //! Symbols, and the paths that they keep.
-use crate::words::listed;
+use crate::row_words::listed;
 use audit_advisory::FunctionPath;
 use audit_report::SymbolSet;
 use row_fixtures::{Row, RowFault};

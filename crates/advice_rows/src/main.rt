@@ -1,0 +1,78 @@
+//! Rows of advice: each line of the input is a case or a step, which is answered by what it tells.
+//! A line `== SECTION` begins the rows of a table, of which nothing stays for the next:
+//!
+//! - `words`: words, settings, and settings under words;
+//! - `advisories`: requirements, advisories, what they hit, and reports of small databases;
+//! - `reports`: printed reports and status lines;
+//! - `trees`: the inverse dependency trees of lockfiles.
+//!
+//! `advice_rows reports ADVISORIES LOCKFILE N` and `advice_rows trees LOCKFILE [NAME]` count instead
+//! what is found and rendered, to be timed.
+#![tactic(auto)]
+
+mod advisories;
+mod reports;
+mod row_words;
+mod stage;
+mod timing;
+mod trees;
+mod words;
+
+use row_fixtures::{Row, RowFault, Table, answer_lines};
+use stage::Stage;
+use std::alloc::Global;
+use std::io::ErrorKind;
+use std::{env, io};
+
+/// The table that rows are read by.
+#[derive(Drop)]
+enum Section {
+    Unnamed,
+    Words,
+    Advisories(Stage),
+    Reports(Stage),
+    Trees(Stage),
+}
+
+impl Section {
+    /// `== SECTION`: the table of this name, with nothing on its stage.
+    fn begin(&mut self, alloc: Global, mut words: Row<'_>) -> Result<String, RowFault> {
+        let name = words.word();
+        *self = match name {
+            "words" => Section::Words,
+            "advisories" => Section::Advisories(Stage::new(alloc)),
+            "reports" => Section::Reports(Stage::new(alloc)),
+            "trees" => Section::Trees(Stage::new(alloc)),
+            _ => return Err(RowFault::Unread),
+        };
+        Ok(format!(in alloc; "== {name}")?)
+    }
+}
+
+impl Table for Section {
+    fn answer(&mut self, alloc: Global, row: Row<'_>) -> Result<String, RowFault> {
+        let mut words = row;
+        if words.word() == "==" {
+            return self.begin(alloc, words);
+        }
+        match self {
+            Section::Unnamed => Err(RowFault::Unread),
+            Section::Words => words::answer(alloc, row),
+            Section::Advisories(stage) => advisories::answer(alloc, stage, row),
+            Section::Reports(stage) => reports::answer(alloc, stage, row),
+            Section::Trees(stage) => trees::answer(alloc, stage, row),
+        }
+    }
+}
+
+fn main(rt: HostRuntime) -> io::Result<()> {
+    let mut words = env::args(&rt)?.skip(1);
+    let Some(way) = words.next() else {
+        return answer_lines(&rt, &mut Section::Unnamed);
+    };
+    match way.as_str() {
+        "reports" => timing::count_reports(&rt, words.next(), words.next(), words.next()),
+        "trees" => timing::count_trees(&rt, words.next(), words.next()),
+        _ => Err(io::Error::from(ErrorKind::InvalidInput)),
+    }
+}
