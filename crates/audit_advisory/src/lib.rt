@@ -17,6 +17,7 @@
 mod advisories;
 mod affected;
 mod bounds;
+mod compatibility;
 mod counting;
 mod databases;
 mod edges;
@@ -29,6 +30,7 @@ mod intervals;
 mod laws;
 mod metadata;
 mod outputs;
+mod replaced;
 mod reports;
 mod requirements;
 mod searching;
@@ -37,10 +39,9 @@ mod versions;
 
 pub use advisories::Advisory;
 pub use affected::{Function, FunctionPath};
-pub use bounds::{Lower, Upper};
+pub use compatibility::compatible;
 pub use counting::{Comparisons, name_order};
 pub use databases::Database;
-pub use edges::{Edge, Release};
 pub use exits::{fails, report_fails, self_fails};
 pub use faults::{AdvisoryFault, AdvisoryRule};
 pub use hitting::{hits, read_version};
@@ -50,7 +51,7 @@ pub use laws::{
     segments_give_the_path,
 };
 pub use metadata::{Informational, Metadata};
-pub use outputs::{DenyOption, OutputConfig, OutputFormat, WarningKind};
+pub use outputs::{DenyOption, OutputConfig, OutputFormat, VERSION, WarningKind};
 pub use reports::{Report, Vulnerability, Warning};
 pub use requirements::Requirement;
 pub use settings::{Settings, Severity};

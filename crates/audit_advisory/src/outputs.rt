@@ -6,6 +6,9 @@ ghost use Rattle.audit_advisory.specs.Outputs as spec;
 use std::alloc::Global;
 use tame_names::{Items, NoMemory};
 
+/// The version of `cargo-audit` that is ported, which texts and reports name.
+pub const VERSION: &str = "0.22.2";
+
 /// What is warned of.
 #[derive(Clone, Copy, Debug, PartialEq, Eq)]
 pub enum WarningKind {

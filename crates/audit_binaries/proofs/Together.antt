@@ -6,6 +6,7 @@ use Rattle.tame_names.specs.Counts.{CountRose, CountRoseBy}
 use Rattle.tame_cache.specs.Kept.{IsKept}
 use Rattle.tame_cache.proofs.KeptLemmas.{kept_after}
 use Rattle.tame_cache.proofs.FolderLemmas.{made_weaker, none_made, then_made}
+use Rattle.tame_sparse.specs.Exchanges.{crates_io_index}
 use Rattle.tame_sparse.specs.declared.network.Exchange.{Exchange}
 use Rattle.audit_core.specs.Audits.{AreTurns, KeepsOthers, MakesAskedFolders, Moment}
 use Rattle.audit_core.specs.Checks.{asked_of}
@@ -196,8 +197,8 @@ all_held tells scan began ended (p ∷ paths) (answer.Audited found audited ∷ 
       more.0,
       parts,
       h.1.answered.audit.says.headline on told_wire told m one.0 one.1 own kept,
-      all_held tells scan h.0 ended paths answers on told_wire told h.2 m more.0 more.1 rest (kept_after m [] began.moment.files h.0.moment.files (h.1.answered.kept told_wire told m one.0 one.1 own kept)),
+      all_held tells scan h.0 ended paths answers on told_wire told h.2 m more.0 more.1 rest (kept_after m crates_io_index [] began.moment.files h.0.moment.files (h.1.answered.kept told_wire told m one.0 one.1 own kept)),
     )
 all_held tells scan began ended (p ∷ paths) (answer.Refused f ∷ answers) on told_wire told h m added is honest kept =
     let moment = h.1.answered.1.moment in
-    all_held tells scan h.0 ended paths answers on told_wire told h.2 m added (is ∙ ap (λ (x : Moment). x.exchanges ++ added) (sym moment)) honest (subst (λ (x : Moment). IsKept m [] x.files) (sym moment) kept)
+    all_held tells scan h.0 ended paths answers on told_wire told h.2 m added (is ∙ ap (λ (x : Moment). x.exchanges ++ added) (sym moment)) honest (subst (λ (x : Moment). IsKept m crates_io_index [] x.files) (sym moment) kept)

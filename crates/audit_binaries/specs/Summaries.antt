@@ -5,6 +5,7 @@ use Rattle.audit_advisory.specs.Exits.{report_fails, self_fails}
 use Rattle.audit_advisory.specs.declared.outputs.DenyOption.{DenyOption}
 use Rattle.tame_entry.specs.ServerMaps.{ServerMap}
 use Rattle.tame_cache.specs.Kept.{Disk, IsKept}
+use Rattle.tame_sparse.specs.Exchanges.{crates_io_index}
 use Rattle.tame_sparse.specs.Honest.{AreHonest}
 use Rattle.tame_sparse.specs.declared.network.Exchange.{Exchange}
 use Rattle.audit_core.specs.Checks.{asked_of, judged_of}
@@ -73,7 +74,7 @@ AreHeld checks added (Refused f ∷ answers) = AreHeld checks added answers
 abbrev pub AllHeld : Checks → List Exchange → List Exchange → Disk → List BinaryAnswer → Type 0
 AllHeld checks before now disk answers =
     (m : ServerMap) (added : List Exchange) → now ≡ before ++ added → AreHonest m added
-    → IsKept m [] disk → AreHeld checks added answers
+    → IsKept m crates_io_index [] disk → AreHeld checks added answers
 
 -- nothing was audited
 abbrev pub AreRefused : List BinaryAnswer → Type 0

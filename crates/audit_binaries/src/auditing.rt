@@ -116,6 +116,8 @@ pub fn audit_binary<F: Files, P: Decoder, W: Wire, D: CacheDisk>(
     ensures unasked { auditor.now.checks ≢ Checks.Online → wire.new ≡ wire.old }
     ensures unchanged { auditor.now.checks ≢ Checks.Online → D.tells
         → (q : List ℕ) → D.past disk.new q ≡ D.past disk.old q }
+    ensures unmade { auditor.now.checks ≢ Checks.Online → D.tells
+        → D.folders disk.new ≡ D.folders disk.old }
     ensures off { auditor.now.checks ≡ Checks.Off → disk.new ≡ disk.old }
 {
     let said = match open_binary(alloc, limits, path, files, decoder) {
@@ -222,6 +224,8 @@ fn audit_each<F: Files, P: Decoder, W: Wire, D: CacheDisk>(
     ensures unasked { auditor.now.checks ≢ Checks.Online → wire.new ≡ wire.old }
     ensures unchanged { auditor.now.checks ≢ Checks.Online → D.tells
         → (q : List ℕ) → D.past disk.new q ≡ D.past disk.old q }
+    ensures unmade { auditor.now.checks ≢ Checks.Online → D.tells
+        → D.folders disk.new ≡ D.folders disk.old }
     ensures off { auditor.now.checks ≡ Checks.Off → disk.new ≡ disk.old }
 {
     let mut answers = Items::new(alloc);
@@ -365,6 +369,8 @@ pub fn audit_binaries<F: Files, P: Decoder, W: Wire, D: CacheDisk>(
     ensures unasked { auditor.now.checks ≢ Checks.Online → wire.new ≡ wire.old }
     ensures unchanged { auditor.now.checks ≢ Checks.Online → D.tells
         → (q : List ℕ) → D.past disk.new q ≡ D.past disk.old q }
+    ensures unmade { auditor.now.checks ≢ Checks.Online → D.tells
+        → D.folders disk.new ≡ D.folders disk.old }
     ensures off { auditor.now.checks ≡ Checks.Off → disk.new ≡ disk.old }
 {
     let own = auditor.self_advisories(alloc)?;

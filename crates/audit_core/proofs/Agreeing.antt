@@ -1,14 +1,12 @@
 -- Audits over servers that held the same agree.
-use Rattle.std.proofs.Common.{◌≡◌, ◌⊎◌, inl, inr, ◌≤◌, ◌<◌, ℕ, List, [], ◌∷◌, ◌++◌, map, Bool, true, false, cond, Option, Some, None, Result, Ok, Err, IsTrue, refl, sym, ap, ◌∙◌, subst, arith}
+use Rattle.std.proofs.Common.{◌≡◌, ◌⊎◌, inl, inr, ◌≤◌, ◌<◌, ℕ, List, [], ◌∷◌, Bool, true, false, cond, Option, Some, None, Result, Ok, Err, IsTrue, refl, sym, ap, ◌∙◌, subst, arith}
 use Rattle.std.specs.Prelude.{IfSome, IsSomeAnd, bytes_eq, ◌-◌, ◌^◌}
-use Rattle.tame_names.specs.Counts.{CountStayed, CountRose}
+use Rattle.tame_names.specs.Counts.{CountRose}
 use Rattle.tame_names.specs.Names.{path}
-use Rattle.tame_records.specs.Lines.{lines}
 use Rattle.tame_entry.specs.Entry.{read_entry}
 use Rattle.tame_entry.specs.ServerMaps.{ServerMap, body_at}
-use Rattle.tame_entry.specs.Lines.{plain, valid}
+use Rattle.tame_entry.specs.Lines.{valid}
 use Rattle.tame_entry.specs.Revision.{EntryRevision, Http, Commit, Unknown, is_honest_text, revision_text}
-use Rattle.tame_entry.specs.VersionStatuses.{version_flags}
 use Rattle.tame_entry.specs.declared.revisions.OwnedRevision.{OwnedRevision}
 use Rattle.tame_entry.proofs.EntryLemmas.{plain_valid}
 use Rattle.tame_names.specs.declared.errors.CacheError.{CacheError}
@@ -16,18 +14,18 @@ use Rattle.tame_entry.specs.Entry.{ReadEntry}
 use Rattle.tame_cache.specs.Disk.{File, reads}
 use Rattle.tame_cache.specs.Kept.{Disk, IsGood, IsGoodRead, IsGoodUnder, IsKept}
 use Rattle.tame_cache.proofs.Moments.{reads_left}
+use Rattle.tame_sparse.specs.Exchanges.{crates_io_index}
 use Rattle.tame_sparse.specs.Honest.{AreHonest, IsHonest, IsMapped}
-use Rattle.tame_sparse.specs.Named.{named, named_file, named_http, named_read}
+use Rattle.tame_sparse.specs.Named.{named, named_file, named_read}
 use Rattle.tame_sparse.specs.declared.network.Exchange.{Exchange}
-use Rattle.tame_sparse.specs.declared.network.Held.{Held}
+use Rattle.tame_sparse.specs.declared.network.Representation.{Representation}
 use Rattle.tame_sparse.specs.declared.network.WireAnswer.{WireAnswer}
 use Rattle.tame_sparse.proofs.TrimLemmas.{honest_named}
-use Rattle.audit_lock.specs.Locked.{locked}
 use Rattle.audit_lock.specs.declared.resolving.Package.{Package}
 use Rattle.audit_core.specs.Alike.{AreAlike, AreAlikeAnswers, AreAllAlike, IsSoundAudit}
-use Rattle.audit_core.specs.Answers.{IsHeldAnswer, body_answer, by_status, held_answer, kept_held, sent_held}
+use Rattle.audit_core.specs.Answers.{IsHeldAnswer, by_status, held_answer, kept_held, sent_held}
 use Rattle.audit_core.specs.Auditors.{audit_exit, audit_report}
-use Rattle.audit_core.specs.Audits.{TurnsNameAndLeave, TurnNamesAndLeaves, Moment}
+use Rattle.audit_core.specs.Audits.{TurnsNameAndLeave, Moment}
 use Rattle.audit_core.specs.Checks.{judged_of}
 use Rattle.audit_core.specs.Turns.{Chains, index_file}
 use Rattle.audit_core.specs.Verdicts.{AreVerdicts, IsVerdictByHeldAt, IsVerdictByHeld, exchange_of, turn_of, verdict_by}
@@ -35,7 +33,6 @@ use Rattle.audit_core.specs.declared.answers.PathAnswer.{PathAnswer}
 use Rattle.audit_core.specs.declared.asking.Turn.{Turn}
 use Rattle.audit_core.specs.declared.auditing.Audited.{Audited}
 use Rattle.audit_core.specs.declared.auditors.Auditor.{Auditor}
-use Rattle.audit_core.specs.declared.checking.Checks.{Checks}
 use Rattle.audit_core.specs.declared.checking.Checks.TheVariants.{Online}
 use Rattle.audit_core.specs.declared.verdicts.Judged.{Judged}
 use Rattle.audit_core.specs.declared.verdicts.Verdict.{Verdict}
@@ -43,7 +40,7 @@ use Rattle.audit_core.proofs.Exchanged.{cancel}
 
 -- ---- a body that was confirmed is valid
 
-valid_under : (m : ServerMap) (p bytes body : List ℕ) (x : EntryRevision) (r : OwnedRevision) → IsGoodUnder m p bytes x → named x ≡ Some r → body_at m p r ≡ Some body → valid body ≡ true
+valid_under : (m : ServerMap) (p bytes body : List ℕ) (x : EntryRevision) (r : OwnedRevision) → IsGoodUnder m crates_io_index p bytes x → named x ≡ Some r → body_at m p r ≡ Some body → valid body ≡ true
 valid_under m p bytes body (Http r0) r good names held =
     let same : r0 ≡ r = cc (honest_named r0 good.1.0, names) in
     let P : OwnedRevision → Type 0 = λ x. body_at m p x ≡ Some body in
@@ -53,21 +50,21 @@ valid_under m p bytes body (Http r0) r good names held =
 valid_under m p bytes body (Commit digits) r good names held = cc
 valid_under m p bytes body Unknown r good names held = cc
 
-valid_read : (m : ServerMap) (p bytes body : List ℕ) (o : Result ReadEntry CacheError) (r : OwnedRevision) → IsGoodRead m p bytes o → named_read o ≡ Some r → body_at m p r ≡ Some body → valid body ≡ true
+valid_read : (m : ServerMap) (p bytes body : List ℕ) (o : Result ReadEntry CacheError) (r : OwnedRevision) → IsGoodRead m crates_io_index p bytes o → named_read o ≡ Some r → body_at m p r ≡ Some body → valid body ≡ true
 valid_read m p bytes body (Ok e) r good names held = valid_under m p bytes body e.revision r good names held
 valid_read m p bytes body (Err f) r good names held = cc
 
-valid_file : (m : ServerMap) (p body : List ℕ) (file : File) (r : OwnedRevision) → IsGood m p file → named_file file ≡ Some r → body_at m p r ≡ Some body → valid body ≡ true
+valid_file : (m : ServerMap) (p body : List ℕ) (file : File) (r : OwnedRevision) → IsGood m crates_io_index p file → named_file crates_io_index file ≡ Some r → body_at m p r ≡ Some body → valid body ≡ true
 valid_file m p body None r good names held = cc
-valid_file m p body (Some bytes) r good names held = valid_read m p bytes body (read_entry bytes) r good names held
+valid_file m p body (Some bytes) r good names held = valid_read m p bytes body (read_entry crates_io_index bytes) r good names held
 
-valid_held : (m : ServerMap) (p : List ℕ) (file : File) (n : Option OwnedRevision) (h : Held) (o : Option OwnedRevision) → IsGood m p file → (n ≡ None) ⊎ (n ≡ named_file file)
+valid_held : (m : ServerMap) (p : List ℕ) (file : File) (n : Option OwnedRevision) (h : Representation) (o : Option OwnedRevision) → IsGood m crates_io_index p file → (n ≡ None) ⊎ (n ≡ named_file crates_io_index file)
     → IfSome o (λ r. IsTrue (is_honest_text (revision_text r)) × (body_at m p r ≡ Some h.body)) → IsSomeAnd o (λ r. n ≡ Some r) → valid h.body ≡ true
 valid_held m p file n h None good names mapped is = absurd is
 valid_held m p file n h (Some r) good (inl none) mapped is = cc
 valid_held m p file n h (Some r) good (inr same) mapped is = valid_file m p h.body file r good (sym same ∙ is) mapped.1
 
-confirmed_held : (m : ServerMap) (p : List ℕ) (file : File) (n : Option OwnedRevision) (o : Option Held) → IsGood m p file → (n ≡ None) ⊎ (n ≡ named_file file)
+confirmed_held : (m : ServerMap) (p : List ℕ) (file : File) (n : Option OwnedRevision) (o : Option Representation) → IsGood m crates_io_index p file → (n ≡ None) ⊎ (n ≡ named_file crates_io_index file)
     → IfSome o (IsMapped m p) → IsSomeAnd o (λ h. IsSomeAnd h.revision (λ r. n ≡ Some r)) → kept_held o ≡ sent_held o
 confirmed_held m p file n None good names mapped is = absurd is
 confirmed_held m p file n (Some h) good names mapped is =
@@ -75,11 +72,11 @@ confirmed_held m p file n (Some h) good names mapped is =
     rw right refl
 
 -- what was held says the same whether it is sent or confirmed, where it was confirmed
-abbrev IsConfirmed : Option Held → Option WireAnswer → Type 0
+abbrev IsConfirmed : Option Representation → Option WireAnswer → Type 0
 IsConfirmed held None = Unit {0}
 IsConfirmed held (Some a) = a.status ≡ 304 → kept_held held ≡ sent_held held
 
-one_confirmed : (m : ServerMap) (p : List ℕ) (file : File) (n : Option OwnedRevision) (held : Option Held) (came : Option WireAnswer) → IsGood m p file → (n ≡ None) ⊎ (n ≡ named_file file)
+one_confirmed : (m : ServerMap) (p : List ℕ) (file : File) (n : Option OwnedRevision) (held : Option Representation) (came : Option WireAnswer) → IsGood m crates_io_index p file → (n ≡ None) ⊎ (n ≡ named_file crates_io_index file)
     → IfSome held (IsMapped m p) → IfSome came (Rattle.tame_sparse.specs.Honest.IsHonestAnswer n held) → IsConfirmed held came
 one_confirmed m p file n held None good names mapped honest = tt
 one_confirmed m p file n held (Some a) good names mapped honest = λ is. confirmed_held m p file n held good names mapped (honest.not_modified is)
@@ -88,12 +85,12 @@ abbrev AreConfirmed : List Exchange → Type 0
 AreConfirmed [] = Unit {0}
 AreConfirmed (e ∷ es) = IsConfirmed e.held e.answer × AreConfirmed es
 
-all_confirmed : (m : ServerMap) (old new : Disk) (es : List Exchange) (ts : List Turn) → TurnsNameAndLeave old new es ts → AreHonest m es → IsKept m [] old → AreConfirmed es
+all_confirmed : (m : ServerMap) (old new : Disk) (es : List Exchange) (ts : List Turn) → TurnsNameAndLeave old new es ts → AreHonest m es → IsKept m crates_io_index [] old → AreConfirmed es
 all_confirmed m old new [] ts turned honest kept = tt
 all_confirmed m old new (e ∷ es) [] turned honest kept = absurd turned
 all_confirmed m old new (e ∷ es) (t ∷ ts) turned honest kept =
     let f = index_file e.path in
-    let good : IsGood m e.path (reads (old f)) = (kept e.path turned.0.place).all_good (reads (old f)) (reads_left (old f)) in
+    let good : IsGood m crates_io_index e.path (reads (old f)) = (kept e.path turned.0.place).all_good (reads (old f)) (reads_left (old f)) in
     (one_confirmed m e.path (reads (old f)) e.named e.held e.answer good turned.0.named.else_nothing honest.0.mapped honest.0.answered, all_confirmed m old new es ts turned.1 honest.1 kept)
 
 -- ---- alike exchanges have one answer
@@ -104,7 +101,7 @@ sent_status s x y is = rw is refl
 kept_status : (s : ℕ) (x y : PathAnswer) → s ≡ 304 → by_status s x y ≡ y
 kept_status s x y is = rw is refl
 
-alike_held : (o p : Option Held) (came came_too : Option WireAnswer) → o ≡ p → AreAlikeAnswers came came_too → IsConfirmed o came → held_answer o came ≡ held_answer p came_too
+alike_held : (o p : Option Representation) (came came_too : Option WireAnswer) → o ≡ p → AreAlikeAnswers came came_too → IsConfirmed o came → held_answer o came ≡ held_answer p came_too
 alike_held o p None None same alike confirmed = refl
 alike_held o p None (Some b) same alike confirmed = absurd alike
 alike_held o p (Some a) None same alike confirmed = absurd alike
@@ -113,7 +110,7 @@ alike_held o p (Some a) (Some b) same (inl (inl sent, too)) confirmed =
 alike_held o p (Some a) (Some b) same (inl (inr kept, too)) confirmed =
     kept_status a.status (sent_held o) (kept_held o) kept ∙ confirmed kept ∙ ap sent_held same ∙ sym (sent_status b.status (sent_held p) (kept_held p) too)
 alike_held o p (Some a) (Some b) same (inr status) confirmed =
-    ap (λ n. by_status n (sent_held o) (kept_held o)) status ∙ ap (λ (h : Option Held). by_status b.status (sent_held h) (kept_held h)) same
+    ap (λ n. by_status n (sent_held o) (kept_held o)) status ∙ ap (λ (h : Option Representation). by_status b.status (sent_held h) (kept_held h)) same
 
 -- ---- the exchanges of a path
 

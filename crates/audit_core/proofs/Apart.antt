@@ -5,6 +5,7 @@ use Rattle.tame_names.specs.Names.{IsIndexPath}
 use Rattle.tame_cache.specs.Disk.{Step, reads}
 use Rattle.tame_cache.specs.Kept.{Disk}
 use Rattle.tame_cache.proofs.KeptLemmas.{one_file}
+use Rattle.tame_sparse.specs.Exchanges.{crates_io_index}
 use Rattle.tame_sparse.specs.Named.{NamesKept}
 use Rattle.tame_sparse.specs.declared.network.Exchange.{Exchange}
 use Rattle.audit_core.specs.Answers.{IsAnswer, IsNotModified}
@@ -120,7 +121,7 @@ turned_others told t old new q (e ∷ es) (h ∷ hs) x other = turned_others tol
 pub record IsWhole (old new : Disk) (e : Exchange) (h : AnsweredTurn) : Type 0 where
   pub place : IsIndexPath e.path
   pub path : e.path ≡ h.turn.path
-  pub named : NamesKept (reads (old (index_file e.path))) h.turn.disk_before h.turn.disk_asked e.named
+  pub named : NamesKept crates_io_index (reads (old (index_file e.path))) h.turn.disk_before h.turn.disk_asked e.named
   pub answer : IsAnswer (reads (old (index_file e.path))) e.answer h.answer
   pub leaves : LeavesFile e.answer h.turn.disk_asked h.turn.disk_after (old (index_file e.path)) (new (index_file e.path))
 
@@ -138,7 +139,7 @@ paired_from old mid new f (e ∷ es) (h ∷ hs) other same x =
       record {
         place = x.0.place;
         path = x.0.path;
-        named = subst (λ (s : List Step). NamesKept (reads s) h.turn.disk_before h.turn.disk_asked e.named) here x.0.named;
+        named = subst (λ (s : List Step). NamesKept crates_io_index (reads s) h.turn.disk_before h.turn.disk_asked e.named) here x.0.named;
         answer = subst (λ (s : List Step). IsAnswer (reads s) e.answer h.answer) here x.0.answer;
         leaves = subst (λ (s : List Step). LeavesFile e.answer h.turn.disk_asked h.turn.disk_after s (new (index_file e.path))) here x.0.leaves;
       },

@@ -8,10 +8,10 @@ use Rattle.tame_entry.specs.declared.revisions.OwnedRevision.{OwnedRevision}
 use Rattle.tame_cache.specs.Disk.{reads}
 use Rattle.tame_cache.specs.Kept.{Disk, IsKept, Keeps}
 use Rattle.tame_cache.proofs.KeptLemmas.{keeps_none, keeps_same, keeps_then}
-use Rattle.tame_sparse.specs.Exchanges.{crates_io_uri}
+use Rattle.tame_sparse.specs.Exchanges.{crates_io_index, crates_io_uri}
 use Rattle.tame_sparse.specs.Honest.{AreHonest, IsHonest, IsHonestAnswer, IsMapped}
 use Rattle.tame_sparse.specs.declared.network.Exchange.{Exchange}
-use Rattle.tame_sparse.specs.declared.network.Held.{Held}
+use Rattle.tame_sparse.specs.declared.network.Representation.{Representation}
 use Rattle.tame_sparse.specs.declared.network.WireAnswer.{WireAnswer}
 use Rattle.audit_core.specs.Answers.{IsAnswer, IsNotModified}
 use Rattle.audit_core.specs.Turns.{AddsPart, IsExchanged, StaysKept, LeavesFile, index_file}
@@ -37,21 +37,21 @@ honest_back m (x ∷ xs) ys h = honest_back m xs ys h.1
 -- ---- kept all the time
 
 pub keeps_nothing : (before now : List Exchange) (old : Disk) → StaysKept before now old old
-keeps_nothing before now old m added is honest kept = keeps_none m [] old kept
+keeps_nothing before now old m added is honest kept = keeps_none m crates_io_index [] old kept
 
 pub keeps_unchanged : (before now : List Exchange) (old new : Disk) → ((q : List ℕ) → new q ≡ old q) → StaysKept before now old new
-keeps_unchanged before now old new same m added is honest kept = keeps_same m [] old new same kept
+keeps_unchanged before now old new same m added is honest kept = keeps_same m crates_io_index [] old new same kept
 
 pub keeps_more : (before mid now : List Exchange) (old between new : Disk) (es fs : List Exchange) → mid ≡ before ++ es → now ≡ mid ++ fs → StaysKept before mid old between → StaysKept mid now between new → StaysKept before now old new
 keeps_more before mid now old between new es fs first second one two m added is honest kept =
     let whole : added ≡ es ++ fs = cancel before added (es ++ fs) (sym is ∙ second ∙ ap (λ (xs : List Exchange). xs ++ fs) first ∙ append_assoc before es fs) in
     let P : List Exchange → Type 0 = λ xs. AreHonest m xs in
     let both = subst P whole honest in
-    keeps_then m [] old between new (one m es first (honest_front m es fs both) kept) (two m fs second (honest_back m es fs both))
+    keeps_then m crates_io_index [] old between new (one m es first (honest_front m es fs both) kept) (two m fs second (honest_back m es fs both))
 
 -- ---- an honest answer carries what the map gives
 
-mapped_body : (m : ServerMap) (p : List ℕ) (h : Held) (a : WireAnswer) → IsMapped m p h → a.revision ≡ h.revision → a.body ≡ h.body → IfSome a.revision (λ r. Maps m p r a.body)
+mapped_body : (m : ServerMap) (p : List ℕ) (h : Representation) (a : WireAnswer) → IsMapped m p h → a.revision ≡ h.revision → a.body ≡ h.body → IfSome a.revision (λ r. Maps m p r a.body)
 mapped_body m p h a mapped revision body =
     let P : Option OwnedRevision → Type 0 = λ o. IfSome o (λ r. Maps m p r a.body) in
     subst P (sym revision) (go h.revision mapped)
@@ -60,11 +60,11 @@ mapped_body m p h a mapped revision body =
     go None is = tt
     go (Some r) is = subst (λ (bytes : List ℕ). Maps m p r bytes) (sym body) is
 
-sent_body : (m : ServerMap) (p : List ℕ) (o : Option Held) (a : WireAnswer) → IfSome o (IsMapped m p) → IsSomeAnd o (λ h. (a.revision ≡ h.revision) × (a.body ≡ h.body)) → IfSome a.revision (λ r. Maps m p r a.body)
+sent_body : (m : ServerMap) (p : List ℕ) (o : Option Representation) (a : WireAnswer) → IfSome o (IsMapped m p) → IsSomeAnd o (λ h. (a.revision ≡ h.revision) × (a.body ≡ h.body)) → IfSome a.revision (λ r. Maps m p r a.body)
 sent_body m p None a mapped is = absurd is
 sent_body m p (Some h) a mapped is = mapped_body m p h a mapped is.0 is.1
 
-pub honest_sent : (m : ServerMap) (p : List ℕ) (named : Option OwnedRevision) (held : Option Held) (a : WireAnswer) → IfSome held (IsMapped m p) → IsHonestAnswer named held a → a.status ≡ 200 → IfSome a.revision (λ r. Maps m p r a.body)
+pub honest_sent : (m : ServerMap) (p : List ℕ) (named : Option OwnedRevision) (held : Option Representation) (a : WireAnswer) → IfSome held (IsMapped m p) → IsHonestAnswer named held a → a.status ≡ 200 → IfSome a.revision (λ r. Maps m p r a.body)
 honest_sent m p named held a mapped honest is = sent_body m p held a mapped (honest.sent is)
 
 -- ---- one exchange
@@ -74,7 +74,7 @@ pub answered_ok : (told : Type 0) (r : Result PathAnswer NoMemory) (asked after 
     → ((IsNotModified e.answer → told) → IfOk r (IsAnswer (reads (old (index_file e.path))) e.answer))
     → (told → OnOk r (LeavesFile e.answer asked after (old (index_file e.path)) (new (index_file e.path))))
     → (told → (q : List ℕ) → q ≢ index_file e.path → new q ≡ old q)
-    → (told → (m : ServerMap) → IsHonest m e → IsKept m [] old → Keeps m [] old new)
+    → (told → (m : ServerMap) → IsHonest m e → IsKept m crates_io_index [] old → Keeps m crates_io_index [] old new)
     → IfOk r (λ a. (x : Exchange) × (now ≡ before ++ x ∷ []) × (x.path ≡ path) × (x.named ≡ named) × (x.url ≡ crates_io_uri x.path) × IsExchanged told asked after old new x a)
 answered_ok told (Ok a) asked after old new before now path named e follows at names url answer leaves others keeps =
     (e, follows, at, names, url, record { answer = answer; leaves = leaves; others = others; keeps = keeps })
@@ -89,7 +89,7 @@ answered_none told asked after old e none =
       answer = λ told. subst P (sym none) (inl refl);
       leaves = λ told. subst Q (sym none) (record { stored = tt; unstored = λ other. refl });
       others = λ told q other. refl;
-      keeps = λ told m honest kept. keeps_none m [] old kept;
+      keeps = λ told m honest kept. keeps_none m crates_io_index [] old kept;
     }
 
 -- an exchange of this path is a part of what is asked
@@ -102,4 +102,4 @@ part_none paths before now same = ([], 0, same ∙ sym (append-nil before), refl
 -- from a disk that is the same
 pub keeps_from : (before now : List Exchange) (old mid new : Disk) → ((q : List ℕ) → mid q ≡ old q) → StaysKept before now mid new → StaysKept before now old new
 keeps_from before now old mid new same h m added is honest kept =
-    keeps_then m [] old mid new (keeps_same m [] old mid same kept) (λ k. h m added is honest k)
+    keeps_then m crates_io_index [] old mid new (keeps_same m crates_io_index [] old mid same kept) (λ k. h m added is honest k)

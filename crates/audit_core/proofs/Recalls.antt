@@ -1,5 +1,5 @@
 -- Turns by the cache alone, and the verdicts by them.
-use Rattle.std.proofs.Common.{◌≡◌, ◌⊎◌, inl, inr, ℕ, List, [], ◌∷◌, ◌++◌, map, Bool, true, false, cond, Option, Some, None, refl, sym, ap, ◌∙◌, subst}
+use Rattle.std.proofs.Common.{◌≡◌, ℕ, List, [], ◌∷◌, ◌++◌, map, Bool, true, false, cond, Option, Some, refl, subst}
 use Rattle.std.specs.Prelude.{bytes_eq}
 use Rattle.tame_cache.specs.Disk.{Step, reads}
 use Rattle.tame_cache.specs.Kept.{Disk}

@@ -21,6 +21,7 @@ use Rattle.tame_entry.specs.declared.index_entries.IndexEntry.TheVariants.{Remot
 use Rattle.tame_cache.specs.CacheFiles.{HandsOut}
 use Rattle.tame_cache.specs.Disk.{File}
 use Rattle.tame_cache.specs.Kept.{Disk, cache_file_of}
+use Rattle.tame_sparse.specs.Exchanges.{crates_io_index}
 use Rattle.tame_sparse.specs.ResponseResults.{AreSentLines, IsBodyResult, IsHeldBody, IsStatusFault, IsResponseResult, IsToStore, Stores, StoresWhole, ResponseResult, came}
 use Rattle.tame_sparse.specs.Honest.{SaysAbsent}
 use Rattle.tame_sparse.specs.declared.network.WireAnswer.{WireAnswer}
@@ -116,9 +117,10 @@ read_same (Ok e) = ap (λ ls. Lines (version_flags ls)) (second_items _)
 read_same (Err f) = refl
 
 -- what a read of the cache handed out says what the file says
-handed_answer : (o : Option IndexEntry) (file : File) (a : PathAnswer) → HandsOut o file → ((e : IndexEntry) → o ≡ Some e → a ≡ entry_answer e) → (o ≡ None → a ≡ Settled cause.Absent) → a ≡ file_answer file
+handed_answer : (o : Option IndexEntry) (file : File) (a : PathAnswer) → HandsOut crates_io_index o file → ((e : IndexEntry) → o ≡ Some e → a ≡ entry_answer e) → (o ≡ None → a ≡ Settled cause.Absent) → a ≡ file_answer file
 handed_answer None file a is some none = none refl ∙ ap file_answer (sym is)
-handed_answer (Some (Cache bytes)) file a is some none = some (Cache bytes) refl ∙ read_same (read_entry bytes) ∙ ap file_answer (sym is)
+handed_answer (Some (Cache bytes url)) file a is some none =
+    some (Cache bytes url) refl ∙ read_same (read_entry url bytes) ∙ ap (λ (u : List ℕ). read_answer (read_entry u bytes)) is.1 ∙ ap file_answer (sym is.0)
 handed_answer (Some (Remote json_lines)) file a is some none = absurd is
 handed_answer (Some (Local bytes)) file a is some none = absurd is
 
@@ -132,7 +134,7 @@ sent_lines : (body : List ℕ) (o : Option IndexEntry) (a : PathAnswer) → AreS
 sent_lines body None a is some = absurd is
 sent_lines body (Some (Remote json_lines)) a is some =
     some (Remote json_lines) refl ∙ ap (λ ls. Lines (version_flags ls)) (plain_items (lines_of json_lines) ∙ is.0) ∙ sym (body_right body is.1)
-sent_lines body (Some (Cache bytes)) a is some = absurd is
+sent_lines body (Some (Cache bytes url)) a is some = absurd is
 sent_lines body (Some (Local bytes)) a is some = absurd is
 
 sent_answer : (body : List ℕ) (taken : ResponseResult) (a : PathAnswer) → IsBodyResult body taken → IsAnswerOfResult taken a → a ≡ body_answer body
@@ -142,7 +144,7 @@ sent_answer body (Err e) a is h = elim is.refused [
   | inr other ↦ h.invalid other.0 (ap Err other.1) ∙ sym (body_wrong body other.2 refl)
 ]
 
-pub same_answer : (file : File) (taken : ResponseResult) (a : PathAnswer) → IfOk taken (λ o. HandsOut o file) → IfErr taken (λ e. (e ≡ error.NoMemory) ⊎ (e ≡ error.Io io_kind.Failed)) → IsAnswerOfResult taken a
+pub same_answer : (file : File) (taken : ResponseResult) (a : PathAnswer) → IfOk taken (λ o. HandsOut crates_io_index o file) → IfErr taken (λ e. (e ≡ error.NoMemory) ⊎ (e ≡ error.Io io_kind.Failed)) → IsAnswerOfResult taken a
     → (a ≡ file_answer file) ⊎ (a ≡ Settled cause.Store)
 same_answer file (Ok o) a handed failed h = inl (handed_answer o file a handed (λ e same. h.lines e (ap Ok same)) (λ same. h.absent (ap Ok same)))
 same_answer file (Err e) a handed failed h = elim failed [
@@ -156,7 +158,7 @@ status_answer s text taken a is h = h.status is.0 s text is.1 is.2
 -- ---- the answer
 
 pub taken_answer : (file : File) (response : Response) (taken : ResponseResult) (came : WireAnswer) (a : PathAnswer) → response.status ≡ came.status → response.body.now ≡ came.body → IsResponseResult response taken
-    → (response.status ≡ 304 → IfOk taken (λ o. HandsOut o file)) → IsAnswerOfResult taken a → IsAnswer file (Some came) a
+    → (response.status ≡ 304 → IfOk taken (λ o. HandsOut crates_io_index o file)) → IsAnswerOfResult taken a → IsAnswer file (Some came) a
 taken_answer file response taken came a status body is handed h = go (kind_of came.status)
   where
     by_choice : {x : PathAnswer} → a ≡ x → choose came.status (Settled cause.Absent) (body_answer came.body) (file_answer file) (Settled (cause.Status came.status)) ≡ x → a ≡ answer_of (file_answer file) (Some came)
@@ -212,7 +214,7 @@ sent_ok body (Err e) a is right h p = elim is.refused [
 ]
 
 pub left_file : (name q : List ℕ) (response : Response) (taken : ResponseResult) (answer : WireAnswer) (a : PathAnswer) (asked after : ℕ) (old new : Disk) → came response ≡ answer
-    → IsResponseResult response taken → IsAnswerOfResult taken a → Stores [] name (came response) true old new → (CountStayed asked after → IsToStore (came response) → OnOk taken (StoresWhole [] name (came response) new))
+    → IsResponseResult response taken → IsAnswerOfResult taken a → Stores crates_io_index [] name (came response) true old new → (CountStayed asked after → IsToStore crates_io_index (came response) → OnOk taken (StoresWhole crates_io_index [] name (came response) new))
     → cache_file_of [] name ≡ Some q → LeavesFile (Some answer) asked after (old q) (new q)
 left_file name q response taken answer a asked after old new same is h stores stored place =
     let P : WireAnswer → Type 0 = λ w. LeavesFile (Some w) asked after (old q) (new q) in

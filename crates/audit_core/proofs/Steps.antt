@@ -8,6 +8,7 @@ use Rattle.tame_names.specs.Names.{is_name, path}
 use Rattle.tame_cache.specs.Disk.{Step, reads}
 use Rattle.tame_cache.specs.Kept.{Disk}
 use Rattle.tame_cache.proofs.KeptLemmas.{keeps_same, keeps_then}
+use Rattle.tame_sparse.specs.Exchanges.{crates_io_index}
 use Rattle.tame_sparse.specs.declared.network.Exchange.{Exchange}
 use Rattle.audit_core.proofs.ResultLemmas.{answer_moved}
 use Rattle.audit_core.proofs.Lists.{cons_head, cons_tail, somes}
@@ -23,7 +24,7 @@ exchanged_from told asked after old mid new e a same x = record {
   answer = λ t. answer_moved (reads (mid (index_file e.path))) (reads (old (index_file e.path))) e.answer a (λ n. ap reads (same (t n) (index_file e.path))) (x.answer t);
   leaves = λ t. subst (λ (s : List Step). LeavesFile e.answer asked after s (new (index_file e.path))) (same t (index_file e.path)) (x.leaves t);
   others = λ t q other. x.others t q other ∙ same t q;
-  keeps = λ t m honest kept. keeps_then m [] old mid new (keeps_same m [] old mid (same t) kept) (λ k. x.keeps t m honest k);
+  keeps = λ t m honest kept. keeps_then m crates_io_index [] old mid new (keeps_same m crates_io_index [] old mid (same t) kept) (λ k. x.keeps t m honest k);
 }
 
 turned_from : (told : Type 0) (old mid new : Disk) (es : List Exchange) (hs : List AnsweredTurn) → (told → (q : List ℕ) → mid q ≡ old q) → TurnsInOrder told mid es hs new → TurnsInOrder told old es hs new
@@ -36,7 +37,7 @@ turned_from told old mid new (e ∷ es) (h ∷ hs) same x = (
     place = x.1.place;
     url = x.1.url;
     path = x.1.path;
-    named = λ t. subst (λ (s : List Step). Rattle.tame_sparse.specs.Named.NamesKept (reads s) h.turn.disk_before h.turn.disk_asked e.named) (same t (index_file e.path)) (x.1.named t);
+    named = λ t. subst (λ (s : List Step). Rattle.tame_sparse.specs.Named.NamesKept crates_io_index (reads s) h.turn.disk_before h.turn.disk_asked e.named) (same t (index_file e.path)) (x.1.named t);
     exchanged = exchanged_from told h.turn.disk_asked h.turn.disk_after old mid x.0 e h.answer same x.1.exchanged;
   },
   x.2,

@@ -1,10 +1,10 @@
 -- An audit that checks nothing.
-use Rattle.std.proofs.Common.{◌≡◌, ℕ, List, [], ◌++◌, refl, sym, subst}
+use Rattle.std.proofs.Common.{◌≡◌, List, [], refl, sym, subst}
 use Rattle.audit_lock.specs.declared.resolving.Package.{Package}
 use Rattle.audit_core.specs.Audits.{AuditSays, Moment}
 use Rattle.audit_core.specs.Checks.{asked_of, judged_of}
 use Rattle.audit_core.specs.declared.checking.Checks.{Checks}
-use Rattle.audit_core.specs.declared.checking.Checks.TheVariants.{Online, Offline, Off}
+use Rattle.audit_core.specs.declared.checking.Checks.TheVariants.{Off}
 
 says_nothing : (wire_tells disk_tells : Type 0) (m : Moment) → AuditSays Off wire_tells disk_tells m m [] [] [] []
 says_nothing wire_tells disk_tells m = record {

@@ -1,6 +1,6 @@
 -- The audit by its parts.
-use Rattle.std.proofs.Common.{◌≡◌, ◌⊎◌, inl, inr, ℕ, List, [], ◌∷◌, map, Bool, true, false, cond, Option, Some, None, refl, sym, ap, ◌∙◌, subst}
-use Rattle.std.specs.Prelude.{bytes_eq, find}
+use Rattle.std.proofs.Common.{◌≡◌, ◌⊎◌, inl, inr, ℕ, List, [], ◌∷◌, map, Bool, true, false, cond, Option, Some, refl, sym, ap, ◌∙◌, subst}
+use Rattle.std.specs.Prelude.{bytes_eq}
 use Rattle.tame_names.specs.Names.{path}
 use Rattle.tame_entry.specs.VersionStatuses.{status_among}
 use Rattle.tame_entry.specs.declared.version_status.VersionStatus.{VersionStatus}

@@ -3,6 +3,7 @@ use Rattle.std.specs.Prelude.{◌≡◌, ◌⊎◌, List, [], ◌∷◌, ◌++�
 use Rattle.tame_names.specs.Counts.{CountStayed}
 use Rattle.tame_entry.specs.ServerMaps.{ServerMap}
 use Rattle.tame_cache.specs.Kept.{IsKept}
+use Rattle.tame_sparse.specs.Exchanges.{crates_io_index}
 use Rattle.tame_sparse.specs.Honest.{AreHonest}
 use Rattle.tame_sparse.specs.declared.network.Exchange.{Exchange}
 use Rattle.tame_sparse.specs.declared.network.WireAnswer.{WireAnswer}
@@ -36,5 +37,5 @@ pub record IsSoundAudit (auditor : Auditor) (began ended : Moment) (added : List
   pub audit : IsAuditOf auditor (Unit {0}) (Unit {0}) began ended text audited
   pub follow : ended.exchanges ≡ began.exchanges ++ added
   pub honest : AreHonest server added
-  pub kept : IsKept server [] began.files
+  pub kept : IsKept server crates_io_index [] began.files
   pub disk_faults : CountStayed began.disk_faults ended.disk_faults

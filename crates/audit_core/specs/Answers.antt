@@ -10,7 +10,8 @@ use Rattle.tame_entry.specs.Lines.{valid}
 use Rattle.tame_entry.specs.VersionStatuses.{version_flags}
 use Rattle.tame_entry.specs.declared.index_entries.IndexEntry.{IndexEntry}
 use Rattle.tame_cache.specs.Disk.{File}
-use Rattle.tame_sparse.specs.declared.network.Held.{Held}
+use Rattle.tame_sparse.specs.Exchanges.{crates_io_index}
+use Rattle.tame_sparse.specs.declared.network.Representation.{Representation}
 use Rattle.tame_sparse.specs.declared.network.WireAnswer.{WireAnswer}
 use Rattle.audit_core.specs.declared.answers.PathAnswer.{PathAnswer}
 use Rattle.audit_core.specs.declared.answers.PathAnswer.TheVariants.{Settled, Lines}
@@ -49,7 +50,7 @@ read_answer (Err f) = Settled cause.Absent
 -- by the file of the cache
 abbrev pub file_answer : File → PathAnswer
 file_answer None = Settled cause.Absent
-file_answer (Some bytes) = read_answer (read_entry bytes)
+file_answer (Some bytes) = read_answer (read_entry crates_io_index bytes)
 
 -- ---- the table over what came
 
@@ -66,22 +67,22 @@ IsAnswer file came a =
 -- ---- the table over what the server held
 
 -- a held body where it is sent; where nothing is held an honest server doesn't send 200
-abbrev pub sent_held : Option Held → PathAnswer
+abbrev pub sent_held : Option Representation → PathAnswer
 sent_held None = Settled cause.Absent
 sent_held (Some h) = body_answer h.body
 
 -- a held body where it is confirmed; where nothing is held an honest server doesn't send 304
-abbrev pub kept_held : Option Held → PathAnswer
+abbrev pub kept_held : Option Representation → PathAnswer
 kept_held None = Settled cause.Absent
 kept_held (Some h) = Lines (version_flags (lines h.body))
 
-abbrev pub held_answer : Option Held → Option WireAnswer → PathAnswer
+abbrev pub held_answer : Option Representation → Option WireAnswer → PathAnswer
 held_answer held None = Settled cause.Wire
 held_answer held (Some a) = by_status a.status (sent_held held) (kept_held held)
 
 -- at not-modified it may be that the kept entry couldn't be read, where the disk's count of faults
 -- rose
-abbrev pub IsHeldAnswer : Option Held → Option WireAnswer → ℕ → ℕ → PathAnswer → Type 0
+abbrev pub IsHeldAnswer : Option Representation → Option WireAnswer → ℕ → ℕ → PathAnswer → Type 0
 IsHeldAnswer held came asked after a =
     (a ≡ held_answer held came)
     ⊎ (IsNotModified came × CountRose asked after × (a ≡ Settled cause.Store))

@@ -6,6 +6,7 @@ use Rattle.tame_entry.specs.ServerMaps.{ServerMap}
 use Rattle.tame_cache.specs.Disk.{reads}
 use Rattle.tame_cache.specs.Folders.{MakesOnly}
 use Rattle.tame_cache.specs.Kept.{Disk, IsKept}
+use Rattle.tame_sparse.specs.Exchanges.{crates_io_index}
 use Rattle.tame_sparse.specs.Honest.{AreHonest}
 use Rattle.tame_sparse.specs.Named.{NamesKept}
 use Rattle.tame_sparse.specs.declared.network.Exchange.{Exchange}
@@ -35,7 +36,8 @@ use Rattle.audit_core.specs.declared.verdicts.Verdict.TheVariants.{Unchecked}
 pub record TurnNamesAndLeaves (old new : Disk) (e : Exchange) (t : Turn) : Type 0 where
   pub place : IsIndexPath e.path
   pub path : e.path ≡ t.path
-  pub named : NamesKept (reads (old (index_file e.path))) t.disk_before t.disk_asked e.named
+  pub named : NamesKept crates_io_index (reads (old (index_file e.path))) t.disk_before t.disk_asked
+      e.named
   pub leaves : LeavesFile e.answer t.disk_asked t.disk_after (old (index_file e.path))
       (new (index_file e.path))
 
@@ -83,7 +85,8 @@ abbrev pub VerdictsMatchServer : List (ℕ × Package) → List Exchange → Lis
     → List Turn → List Judged → Type 0
 VerdictsMatchServer packages before now disk turns verdicts =
     (m : ServerMap) (added : List Exchange) → now ≡ before ++ added → AreHonest m added
-    → IsKept m [] disk → AreVerdicts (IsVerdictByHeldAt added turns) packages verdicts
+    → IsKept m crates_io_index [] disk
+    → AreVerdicts (IsVerdictByHeldAt added turns) packages verdicts
 
 -- one turn for each path that is asked for, in their order; the counts go on from the first numbers
 -- to the last

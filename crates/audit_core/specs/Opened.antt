@@ -1,10 +1,8 @@
 -- The text of a lockfile at a path of the host (this project).
 use Rattle.std.specs.Prelude.{◌≡◌, ◌≢◌, ◌<◌, ℕ, codes, List, length, bytes_eq, nat_lt, if◌then◌else◌, Result, Ok, Err}
 use Rattle.std.specs.Str.{is_utf8}
-use Rattle.tame_names.specs.Counts.{CountRose}
 use Rattle.tame_names.specs.Standing.{Host, Standing, Nothing, File, Folder, Other}
 use Rattle.audit_lock.specs.Locked.{locked}
-use Rattle.audit_core.specs.declared.auditing.AuditError.{AuditError}
 use Rattle.audit_core.specs.declared.auditing.AuditError.TheVariants as audit_error
 use Rattle.audit_core.specs.declared.opening.FileAuditError.{FileAuditError}
 use Rattle.audit_core.specs.declared.opening.FileAuditError.TheVariants as fault

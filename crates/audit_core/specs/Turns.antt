@@ -7,7 +7,7 @@ use Rattle.tame_cache.specs.Disk.{Step, reads}
 use Rattle.tame_cache.specs.Gate.{IsStored}
 use Rattle.tame_cache.specs.Kept.{Disk, IsKept, Keeps, cache_file, cache_file_of}
 use Rattle.tame_sparse.specs.ResponseResults.{IsToStore, entry_of}
-use Rattle.tame_sparse.specs.Exchanges.{crates_io_uri}
+use Rattle.tame_sparse.specs.Exchanges.{crates_io_index, crates_io_uri}
 use Rattle.tame_sparse.specs.Honest.{AreHonest, IsHonest}
 use Rattle.tame_sparse.specs.Named.{NamesKept}
 use Rattle.tame_sparse.specs.declared.network.Exchange.{Exchange}
@@ -60,8 +60,9 @@ AreCaused (h ∷ hs) = IsCaused h × AreCaused hs
 -- leaves no other; after any other answer it is as it was
 pub record LeavesFile (came : Option WireAnswer) (asked after : ℕ)
     (old new : List Step) : Type 0 where
-  pub stored : IfSome came (λ a. IsToStore a → CountStayed asked after → IsStored (entry_of a) new)
-  pub unstored : ¬ (IsSomeAnd came IsToStore) → new ≡ old
+  pub stored : IfSome came (λ a. IsToStore crates_io_index a → CountStayed asked after
+      → IsStored (entry_of crates_io_index a) new)
+  pub unstored : ¬ (IsSomeAnd came (IsToStore crates_io_index)) → new ≡ old
 
 -- ---- where it is asked
 
@@ -80,14 +81,16 @@ pub record IsExchanged (told : Type 0) (asked after : ℕ) (old new : Disk) (e :
   pub leaves : told → LeavesFile e.answer asked after (old (index_file e.path))
       (new (index_file e.path))
   pub others : told → (q : List ℕ) → q ≢ index_file e.path → new q ≡ old q
-  pub keeps : told → (m : ServerMap) → IsHonest m e → IsKept m [] old → Keeps m [] old new
+  pub keeps : told → (m : ServerMap) → IsHonest m e → IsKept m crates_io_index [] old
+      → Keeps m crates_io_index [] old new
 
 pub record IsTurn (told : Type 0) (old new : Disk) (e : Exchange) (h : AnsweredTurn) : Type 0 where
   pub place : IsIndexPath e.path
   pub url : e.url ≡ crates_io_uri e.path
   pub path : e.path ≡ h.turn.path
   pub named : told
-      → NamesKept (reads (old (index_file e.path))) h.turn.disk_before h.turn.disk_asked e.named
+      → NamesKept crates_io_index (reads (old (index_file e.path))) h.turn.disk_before
+      h.turn.disk_asked e.named
   pub exchanged : IsExchanged told h.turn.disk_asked h.turn.disk_after old new e h.answer
 
 abbrev pub TurnsInOrder : Type 0 → Disk → List Exchange → List AnsweredTurn → Disk → Type 0
@@ -121,4 +124,4 @@ AddsNamed names before now =
 abbrev pub StaysKept : List Exchange → List Exchange → Disk → Disk → Type 0
 StaysKept before now old new =
     (m : ServerMap) (added : List Exchange) → now ≡ before ++ added → AreHonest m added
-    → IsKept m [] old → Keeps m [] old new
+    → IsKept m crates_io_index [] old → Keeps m crates_io_index [] old new

@@ -1,5 +1,5 @@
 //! One turn for each path: a request, one exchange, and what is kept of the answer.
-ghost use Rattle.std.specs.Prelude.{◌≡◌, ◌≢◌, ◌∷◌, [], ◌++◌, ◌≤◌, ℕ, List, codes, map, Some, IsTrue, IfOk, IfSome, OnOk, OnErr, option_map};
+ghost use Rattle.std.specs.Prelude.{◌≡◌, ◌≢◌, ◌∷◌, [], ◌++◌, ◌≤◌, ℕ, List, map, Some, IsTrue, IfOk, IfSome, OnOk, OnErr, option_map};
 ghost use Rattle.std.specs.List.{list_all};
 ghost use Rattle.tame_names.specs.Counts.{CountRose};
 ghost use Rattle.tame_names.specs.KrateNames.{text_of};
@@ -11,7 +11,7 @@ ghost use Rattle.tame_cache.specs.Folders.{MakesOnly};
 ghost use Rattle.tame_cache.specs.Kept.{IsKept, Keeps, cache_file_of};
 ghost use Rattle.tame_sparse.specs.declared.network.Exchange.{Exchange};
 ghost use Rattle.audit_core.specs.Answers.{IsAnswer};
-ghost use Rattle.tame_sparse.specs.Exchanges.{crates_io_uri};
+ghost use Rattle.tame_sparse.specs.Exchanges.{crates_io_index, crates_io_uri};
 ghost use Rattle.audit_core.specs.Turns.{AddsTurns, AddsNamed, AddsPart, AreCaused, Chains, IsExchanged, IsFileOf, IsNoFileOf, StaysKept, LeavesFile, index_file};
 
 use crate::answers::{PathAnswer, answer_taken};
@@ -66,7 +66,8 @@ fn take_answer<D: CacheDisk>(
     name: KrateName<'_>,
     answer: &WireAnswer,
 ) -> Result<PathAnswer, NoMemory>
-    requires { index.now.cache.path ≡ [] }
+    requires root { index.now.cache.path ≡ [] }
+    requires url { index.now.cache.index ≡ crates_io_index }
     ensures answer { (answer.now.status ≡ 304 → D.tells) → (q : List ℕ)
         → cache_file_of [] (text_of name.entry) ≡ Some q
         → IfOk result (IsAnswer (reads (D.past disk.old q)) (Some answer.now)) }
@@ -80,7 +81,8 @@ fn take_answer<D: CacheDisk>(
     ensures kept { D.tells → (m : ServerMap)
         → ((p : List ℕ) → path (text_of name.entry) ≡ Some p → answer.now.status ≡ 200
         → IfSome answer.now.revision (λ r. Maps m p r answer.now.body))
-        → IsKept m [] (D.past disk.old) → Keeps m [] (D.past disk.old) (D.past disk.new) }
+        → IsKept m crates_io_index [] (D.past disk.old)
+        → Keeps m crates_io_index [] (D.past disk.old) (D.past disk.new) }
     ensures store { IfOk result (λ a. a ≡ PathAnswer.Settled Cause.Store
         → CountRose (D.faults disk.old) (D.faults disk.new)) }
     ensures not_wire { IfOk result (λ a. a ≢ PathAnswer.Settled Cause.Wire) }
@@ -102,6 +104,7 @@ fn exchange_answer<W: Wire, D: CacheDisk>(
     request: &Request,
 ) -> Result<PathAnswer, NoMemory>
     requires root { index.now.cache.path ≡ [] }
+    requires index { index.now.cache.index ≡ crates_io_index }
     requires place { path (text_of name) ≡ Some request.now.path }
     requires url { request.now.uri ≡ crates_io_uri request.now.path }
     ensures answered_turns { W.tells
@@ -119,6 +122,7 @@ fn exchange_answer<W: Wire, D: CacheDisk>(
         → CountRose (W.faults wire.old) (W.faults wire.new)) }
     ensures store { IfOk result (λ a. a ≡ PathAnswer.Settled Cause.Store
         → CountRose (D.faults disk.old) (D.faults disk.new)) }
+    ensures becomes { W.becomes wire.old wire.new }
     ensures later_wire { W.faults wire.old ≤ W.faults wire.new }
     ensures later_disk { D.faults disk.old ≤ D.faults disk.new }
     ensures others { D.tells → (q : List ℕ) → q ≢ index_file request.now.path
@@ -154,7 +158,7 @@ fn take_turn<W: Wire, D: CacheDisk>(
     name: &Text,
 ) -> Result<AnsweredTurn, NoMemory>
     requires root { index.now.cache.path ≡ [] }
-    requires url { index.now.url ≡ codes "sparse+https://index.crates.io/" }
+    requires url { index.now.cache.index ≡ crates_io_index }
     requires named { IsTrue (is_name name.now) }
     ensures path { IfOk result (λ h. path name.now ≡ Some h.turn.path) }
     ensures counts { IfOk result (λ h. Chains (W.faults wire.old) (D.faults disk.old) (h.turn ∷ [])
@@ -163,6 +167,7 @@ fn take_turn<W: Wire, D: CacheDisk>(
     ensures said { W.tells → IfOk result
         (λ h. AddsTurns D.tells (W.exchanges wire.old) (W.exchanges wire.new) (D.past disk.old)
         (h ∷ []) (D.past disk.new)) }
+    ensures becomes { W.becomes wire.old wire.new }
     ensures part { W.tells → OnErr result
         (AddsNamed (name.now ∷ []) (W.exchanges wire.old) (W.exchanges wire.new)) }
     ensures kept { W.tells → D.tells
@@ -206,7 +211,7 @@ pub fn ask<W: Wire, D: CacheDisk>(
     names: &[Text],
 ) -> Result<Items<AnsweredTurn>, NoMemory>
     requires root { index.now.cache.path ≡ [] }
-    requires url { index.now.url ≡ codes "sparse+https://index.crates.io/" }
+    requires url { index.now.cache.index ≡ crates_io_index }
     requires named { IsTrue (list_all is_name names.now) }
     ensures paths { IfOk result (λ hs. map (λ h. Some h.turn.path) hs ≡ map path names.now) }
     ensures counts { IfOk result (λ hs. Chains (W.faults wire.old) (D.faults disk.old)
@@ -215,6 +220,7 @@ pub fn ask<W: Wire, D: CacheDisk>(
     ensures said { W.tells → IfOk result
         (λ hs. AddsTurns D.tells (W.exchanges wire.old) (W.exchanges wire.new) (D.past disk.old) hs
         (D.past disk.new)) }
+    ensures becomes { W.becomes wire.old wire.new }
     ensures part { W.tells → OnErr result
         (AddsNamed names.now (W.exchanges wire.old) (W.exchanges wire.new)) }
     ensures kept { W.tells → D.tells

@@ -1,5 +1,6 @@
 //! Checks for yanked versions: by the index, by the cache alone, or none.
-ghost use Rattle.std.specs.Prelude.{◌≡◌, ◌≢◌, [], ℕ, List, codes, map, IfOk, OnErr};
+ghost use Rattle.std.specs.Prelude.{◌≡◌, ◌≢◌, [], ℕ, List, map, IfOk, OnErr};
+ghost use Rattle.tame_sparse.specs.Exchanges.{crates_io_index};
 ghost use Rattle.audit_core.specs.Audits.{AuditSays, KeepsOthers, MakesAskedFolders};
 ghost use Rattle.audit_core.specs.Checks.{asked_of, judged_of};
 ghost use Rattle.audit_core.specs.Checks as spec;
@@ -62,7 +63,7 @@ fn turns_of(alloc: Global, answered_turns: Items<AnsweredTurn>) -> Result<Items<
 /// The sparse index of crates.io, with its cache in the folder `.cache`.
 fn crates_io(alloc: Global) -> Result<SparseIndex, NoMemory>
     ensures root { IfOk result (λ index. index.cache.path ≡ []) }
-    ensures url { IfOk result (λ index. index.url ≡ codes "sparse+https://index.crates.io/") }
+    ensures url { IfOk result (λ index. index.cache.index ≡ crates_io_index) }
 {
     match SparseIndex::at(alloc, Text::of(alloc, "")?, CRATES_IO_HTTP_INDEX) {
         Ok(index) => Ok(index),
@@ -92,6 +93,7 @@ fn check_online<W: Wire, D: CacheDisk>(
           disk_faults = D.faults disk.new;
         })
         (asked_paths packages.now) (defaults packages.now) c.turns c.verdicts) }
+    ensures becomes { W.becomes wire.old wire.new }
     ensures part { W.tells → AddsPart (asked_paths packages.now) (W.exchanges wire.old)
         (W.exchanges wire.new) }
     ensures kept { W.tells → D.tells
@@ -176,6 +178,7 @@ pub fn check<W: Wire, D: CacheDisk>(
           disk_faults = D.faults disk.new;
         })
         (asked_of checks packages.now) (judged_of checks packages.now) c.turns c.verdicts) }
+    ensures becomes { W.becomes wire.old wire.new }
     ensures part { W.tells → AddsPart (asked_of checks packages.now) (W.exchanges wire.old)
         (W.exchanges wire.new) }
     ensures kept { W.tells → D.tells

@@ -1,23 +1,41 @@
 //! Laws of audits.
-ghost use Rattle.std.specs.Prelude.{◌≡◌, ◌↔◌, [], ℕ, List, Some};
+ghost use Rattle.std.specs.Prelude.{◌≡◌, ◌↔◌, ◌++◌, ⊤, [], ℕ, List, Some};
 ghost use Rattle.std.specs.List.{Any, Contains};
 ghost use Rattle.tame_names.specs.FirstPlaces.{AreEachOnce};
 ghost use Rattle.tame_entry.specs.ServerMaps.{ServerMap};
 ghost use Rattle.tame_cache.specs.Kept.{Disk, IsKept};
+ghost use Rattle.tame_sparse.specs.Exchanges.{crates_io_index};
+ghost use Rattle.tame_sparse.specs.Honest.{AreHonest};
 ghost use Rattle.tame_sparse.specs.declared.network.Exchange.{Exchange};
 ghost use Rattle.audit_lock.specs.declared.resolving.Package.{Package};
 ghost use Rattle.audit_core.specs.Alike.{AreAllAlike, IsSoundAudit};
-ghost use Rattle.audit_core.specs.Audits.{Moment};
+ghost use Rattle.audit_core.specs.Audits.{IsAuditOf, Moment};
+ghost use Rattle.audit_core.specs.Checks.{judged_of};
 ghost use Rattle.audit_core.specs.Histories.{AuditHistory};
 ghost use Rattle.audit_core.specs.Paths.{asked_paths, default_path, default_paths};
+ghost use Rattle.audit_core.specs.Verdicts.{AreVerdicts, IsVerdictByHeldAt};
 ghost use Rattle.audit_core.specs.declared.auditing.Audited.{Audited};
 ghost use Rattle.audit_core.specs.declared.auditors.Auditor.{Auditor};
 ghost use Rattle.audit_core.specs.declared.checking.Checks.TheVariants as Checks;
 
-/// In every history of audits and crashes that begins without files, and whose exchanges are
-/// honest for a map of what a server held, the disk is kept for that map after each step.
+/// In every history of audits and crashes that begins without files, or with nothing pending and
+/// files that are all refused, and whose exchanges are honest for a map of what a server held, the
+/// disk is kept for that map after each step.
 pub fn audit_histories_keep()
-    ensures { (m : ServerMap) (began now : Disk) → AuditHistory m began now → IsKept m [] now }
+    ensures { (m : ServerMap) (began now : Disk) → AuditHistory m began now
+        → IsKept m crates_io_index [] now }
+{}
+
+/// The headline for each audit in such a history: an online audit whose exchanges are honest for the
+/// same map judges each package as the table says over what the server held when asked.
+pub fn audits_in_histories_match_the_server()
+    ensures { (m : ServerMap) (began : Disk) (auditor : Auditor) (entry exit : Moment)
+        (added : List Exchange) (text : List ℕ) (audited : Audited)
+        → AuditHistory m began entry.files → auditor.checks ≡ Checks.Online
+        → IsAuditOf auditor ⊤ ⊤ entry exit text audited
+        → exit.exchanges ≡ entry.exchanges ++ added → AreHonest m added
+        → AreVerdicts (IsVerdictByHeldAt added audited.turns)
+        (judged_of auditor.checks audited.lockfile) audited.verdicts }
 {}
 
 /// Whether a body is sent or only confirmed changes nothing: two online audits of one text by one

@@ -29,6 +29,9 @@ pub use asking::Turn;
 pub use auditing::{AuditError, Audited};
 pub use auditors::Auditor;
 pub use checking::Checks;
-pub use laws::{asked_paths_are_the_distinct_paths, audit_histories_keep, cached_audits_agree};
+pub use laws::{
+    asked_paths_are_the_distinct_paths, audit_histories_keep, audits_in_histories_match_the_server,
+    cached_audits_agree,
+};
 pub use opening::{FileAuditError, LOCKFILE_LIMIT};
 pub use verdicts::{Cause, Judged, Verdict};

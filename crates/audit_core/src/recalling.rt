@@ -6,6 +6,7 @@ ghost use Rattle.tame_names.specs.KrateNames.{text_of};
 ghost use Rattle.tame_names.specs.Names.{is_name, path};
 ghost use Rattle.tame_cache.specs.Disk.{reads};
 ghost use Rattle.tame_cache.specs.Kept.{cache_file_of};
+ghost use Rattle.tame_sparse.specs.Exchanges.{crates_io_index};
 ghost use Rattle.audit_core.specs.Answers.{file_answer};
 ghost use Rattle.audit_core.specs.Recalled.{AreRecalled, AreUnasked};
 ghost use Rattle.audit_core.specs.Turns.{AreCaused, Chains};
@@ -26,7 +27,8 @@ fn recall<D: CacheDisk>(
     disk: &mut D,
     name: KrateName<'_>,
 ) -> Result<PathAnswer, NoMemory>
-    requires { index.now.cache.path ≡ [] }
+    requires root { index.now.cache.path ≡ [] }
+    requires url { index.now.cache.index ≡ crates_io_index }
     ensures answer { D.tells → (q : List ℕ) → cache_file_of [] (text_of name.entry) ≡ Some q
         → IfOk result (λ a. (a ≡ file_answer (reads (D.past disk.old q)))
         ⊎ (a ≡ PathAnswer.Settled Cause.Store)) }
@@ -51,6 +53,7 @@ fn recall_turn<W: Wire, D: CacheDisk>(
     name: &Text,
 ) -> Result<AnsweredTurn, NoMemory>
     requires root { index.now.cache.path ≡ [] }
+    requires url { index.now.cache.index ≡ crates_io_index }
     requires named { IsTrue (is_name name.now) }
     ensures path { IfOk result (λ h. path name.now ≡ Some h.turn.path) }
     ensures counts { IfOk result (λ h. Chains (W.faults wire.now) (D.faults disk.old)
@@ -89,6 +92,7 @@ pub fn recall_all<W: Wire, D: CacheDisk>(
     names: &[Text],
 ) -> Result<Items<AnsweredTurn>, NoMemory>
     requires root { index.now.cache.path ≡ [] }
+    requires url { index.now.cache.index ≡ crates_io_index }
     requires named { IsTrue (list_all is_name names.now) }
     ensures paths { IfOk result (λ hs. map (λ h. Some h.turn.path) hs ≡ map path names.now) }
     ensures counts { IfOk result (λ hs. Chains (W.faults wire.now) (D.faults disk.old)

@@ -1,7 +1,8 @@
 //! Calls on the host. One that a signal interrupts is made again.
+use crate::locking::LockFiles;
 use std::alloc::Global;
 use std::env;
-use std::fs::{self, Metadata, OpenFile, OpenOptions, ReadDir};
+use std::fs::{self, File, Metadata, OpenFile, OpenOptions, ReadDir};
 use std::io::{self, ErrorKind, Read, Seek, SeekFrom, Write};
 use std::path::PathBuf;
 use std::rt::{Env, Files};
@@ -40,6 +41,22 @@ pub fn make_folder<R: Files>(rt: &R, place: &str) -> io::Result<()> {
 
 pub fn open<R: Files>(rt: &R, how: &OpenOptions, place: &str) -> io::Result<R::File> {
     again!(how.open(rt, place))
+}
+
+/// A file, opened to be locked.
+pub fn open_lock<R: LockFiles>(rt: &R, how: &OpenOptions, place: &str) -> io::Result<File> {
+    again!(rt.open_lock(how, place))
+}
+
+/// Takes the lock of the file that was opened at a place.
+pub fn take_lock<R: LockFiles>(
+    rt: &R,
+    place: &str,
+    file: &File,
+    exclusive: bool,
+    block: bool,
+) -> io::Result<()> {
+    again!(rt.take_lock(place, file, exclusive, block))
 }
 
 /// The folder at a place, where a link there leads, opened to be listed.

@@ -1,5 +1,5 @@
 //! A folder in place of a server.
-ghost use Rattle.std.specs.Prelude.{◌≡◌, []};
+ghost use Rattle.std.specs.Prelude.{◌≡◌, [], ⊤};
 
 use crate::below::read_below;
 use crate::reading::made;
@@ -15,8 +15,9 @@ pub const MIRROR_LIMIT: u64 = 67108864;
 
 /// Answers a path by the file there in a folder: 404 where it is absent, 304 where its entity
 /// tag is the named one, else 200. The tag is the text of the file with `.etag` added, without
-/// a newline at its end; where it isn't the same before and after the file is read, the exchange
-/// fails. Below the folder no link is followed, and nothing but plain files is opened. It tells
+/// a newline at its end; a text that no request can name as it is, as an empty one, is no tag. Where
+/// the tag isn't the same before and after the file is read, the exchange fails. Below the folder no
+/// link is followed, and nothing but plain files is opened. It tells
 /// nothing of its exchanges.
 #[derive(Drop)]
 pub struct MirrorWire<'a, R: rt::Files + AllocGlobal> {
@@ -39,6 +40,17 @@ impl<'a, R: rt::Files + AllocGlobal> MirrorWire<'a, R> {
     }
 }
 
+/// Whether a request can name a tag as it is: it has a byte, only those from 32 to 126, and no blank
+/// at its beginning or end.
+fn is_nameable(text: &str) -> bool {
+    for byte in text.as_bytes() {
+        if !matches!(*byte, 32..=126) {
+            return false;
+        }
+    }
+    !text.is_empty() && !text.starts_with(' ') && !text.ends_with(' ')
+}
+
 /// The entity tag of the file at a path.
 fn read_etag<R: rt::Files + AllocGlobal>(
     rt: &R,
@@ -55,8 +67,8 @@ fn read_etag<R: rt::Files + AllocGlobal>(
         line => line,
     };
     match std::str::from_utf8(line) {
-        Ok(text) => Ok(Some(made(Text::of(alloc, text))?)),
-        Err(_) => Ok(None),
+        Ok(text) if is_nameable(text) => Ok(Some(made(Text::of(alloc, text))?)),
+        _ => Ok(None),
     }
 }
 
@@ -104,6 +116,12 @@ impl<'a, R: rt::Files + AllocGlobal> Wire for MirrorWire<'a, R> {
     ghost exchanges = { λ _. [] };
 
     ghost faults = { λ w. w.faults };
+
+    ghost becomes = { λ _ _. ⊤ };
+
+    ghost becomes_itself = { λ _. tt };
+
+    ghost becomes_then = { λ _ _ _ _ _. tt };
 
     fn wire_faults(&self) -> u64 {
         self.faults

@@ -1,18 +1,23 @@
 //! The host, over std.
-ghost use Rattle.std.specs.Prelude.{◌≡◌, ◌≢◌, ◌≤◌, []};
+ghost use Rattle.std.specs.Prelude.{◌≡◌, ◌≢◌, ◌≤◌, [], false};
 ghost use Rattle.audit_edges.specs.Untold.{untold};
 ghost use Rattle.tame_names.specs.Counts.{CountRose};
 
 use crate::listings::{kind_of, list_folder};
+use crate::locking::{LockFiles, open_to_lock, take_opened};
+use crate::making::{make_file, make_folders};
 use crate::reading::{read_file, read_within};
 use crate::surroundings::{current_folder, variable};
 use std::alloc::Global;
 use std::io::{ErrorKind, Input};
 use std::rt::{self, Env};
-use tame_names::{EnvValue, FileFault, Files, Items, Listed, PathKind, ReadAnswer, Text};
+use tame_names::{
+    EnvValue, FileFault, Files, Items, Listed, LockOpenFault, LockTakeFault, OpenedLock, PathKind,
+    ReadAnswer, Text,
+};
 
-/// The host's files, its standard input, its environment and its current folder. They tell nothing
-/// of their contents.
+/// The host's files and their locks, its standard input, its environment and its current folder.
+/// They tell nothing of their contents.
 #[derive(Drop)]
 pub struct StdFiles<'a, R: rt::Files + AllocGlobal> {
     rt: &'a R,
@@ -35,17 +40,60 @@ impl<'a, R: rt::Files + AllocGlobal> StdFiles<'a, R> {
         if kind == ErrorKind::OutOfMemory {
             return FileFault::NoMemory;
         }
-        self.faults = self.faults.saturating_add(1);
+        self.count();
         FileFault::Failed
+    }
+
+    /// Counts a call that failed.
+    fn count(&mut self)
+        ensures later { self.old.faults ≤ self.new.faults }
+        ensures rose { CountRose self.old.faults self.new.faults }
+    {
+        self.faults = self.faults.saturating_add(1);
+    }
+
+    /// The fault of an opening that gave an error of this kind. It is counted unless it says that
+    /// nothing is there, or that it is denied.
+    fn open_fault(&mut self, kind: ErrorKind) -> LockOpenFault
+        ensures later { self.old.faults ≤ self.new.faults }
+        ensures rose { result ≡ LockOpenFault.Failed → CountRose self.old.faults self.new.faults }
+    {
+        match kind {
+            ErrorKind::NotFound => LockOpenFault::NotFound,
+            ErrorKind::PermissionDenied | ErrorKind::ReadOnlyFilesystem => LockOpenFault::Denied,
+            _ => {
+                self.count();
+                LockOpenFault::Failed
+            }
+        }
+    }
+
+    /// The fault of a taking that gave an error of this kind. It is counted unless it says that
+    /// another one holds the lock, where it didn't wait, or that there are no locks.
+    fn take_fault(&mut self, kind: ErrorKind, block: bool) -> LockTakeFault
+        ensures later { self.old.faults ≤ self.new.faults }
+        ensures rose { result ≡ LockTakeFault.Failed → CountRose self.old.faults self.new.faults }
+        ensures contested { result ≡ LockTakeFault.Contested → block ≡ false }
+    {
+        match kind {
+            ErrorKind::WouldBlock if !block => LockTakeFault::Contested,
+            ErrorKind::Unsupported => LockTakeFault::NotSupported,
+            _ => {
+                self.count();
+                LockTakeFault::Failed
+            }
+        }
     }
 }
 
-impl<'a, R: rt::Files + AllocGlobal + Env + Input> Files for StdFiles<'a, R> {
+impl<'a, R: rt::Files + LockFiles + AllocGlobal + Env + Input> Files for StdFiles<'a, R> {
     ghost tells = { ⊥ };
 
     ghost host = { λ _. untold };
 
     ghost failed = { λ _. [] };
+
+    ghost steps = { λ _. [] };
 
     ghost faults = { λ s. s.faults };
 
@@ -92,6 +140,40 @@ impl<'a, R: rt::Files + AllocGlobal + Env + Input> Files for StdFiles<'a, R> {
         match current_folder(self.rt) {
             Ok(path) => Ok(path),
             Err(error) => Err(self.fault(error.kind())),
+        }
+    }
+
+    fn make_dirs(&mut self, path: &str) -> Result<(), FileFault> {
+        match make_folders(self.rt, path) {
+            Ok(()) => Ok(()),
+            Err(error) => Err(self.fault(error.kind())),
+        }
+    }
+
+    fn create(&mut self, path: &str, bytes: &[u8]) -> Result<(), FileFault> {
+        match make_file(self.rt, path, bytes) {
+            Ok(()) => Ok(()),
+            Err(error) => Err(self.fault(error.kind())),
+        }
+    }
+
+    fn open_lock(&mut self, path: &str, exclusive: bool) -> Result<OpenedLock, LockOpenFault> {
+        match open_to_lock(self.rt, path, exclusive) {
+            Ok(file) => Ok(OpenedLock { file: Some(file) }),
+            Err(error) => Err(self.open_fault(error.kind())),
+        }
+    }
+
+    fn take_lock(
+        &mut self,
+        path: &str,
+        opened: &OpenedLock,
+        exclusive: bool,
+        block: bool,
+    ) -> Result<(), LockTakeFault> {
+        match take_opened(self.rt, path, opened.file.as_ref(), exclusive, block) {
+            Ok(()) => Ok(()),
+            Err(error) => Err(self.take_fault(error.kind(), block)),
         }
     }
 }

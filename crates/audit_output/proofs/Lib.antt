@@ -1,4 +1,3 @@
 pub mod Each
 pub mod Placing
-pub mod Puts
 pub mod Reaching

@@ -3,7 +3,7 @@ use Rattle.std.proofs.Common.{◌≡◌, ℕ, List, [], ◌++◌, Result, sym, a
 use Rattle.std.specs.Prelude.{IsErr}
 use Rattle.tame_names.specs.Output.{AddsPrefix}
 use Rattle.audit_report.specs.Outputs.{IsPut}
-use Rattle.audit_output.proofs.Puts.{if_err, part_first, part_then, put_none, put_then}
+use Rattle.audit_report.proofs.Puts.{if_err, part_first, part_then, put_none, put_then}
 
 -- what was put so far, and what is left, make the whole text
 pub record IsReached (before whole now left : List ℕ) : Type 0 where

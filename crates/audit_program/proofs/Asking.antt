@@ -3,6 +3,8 @@ use Rattle.std.proofs.Common.{◌≡◌, ◌≤◌, ◌⊎◌, inl, inr, ℕ, Li
 use Rattle.std.specs.Prelude.{IfSome, pos}
 use Rattle.tame_names.specs.Standing.{Host}
 use Rattle.tame_names.specs.declared.host.FailedCall.{FailedCall}
+use Rattle.audit_lock.specs.declared.lockfiles.LockfileFault.{LockfileFault}
+use Rattle.audit_lock.specs.declared.resolving.Package.{Package}
 use Rattle.audit_settings.specs.declared.commands.AuditCommand.{AuditCommand}
 use Rattle.audit_settings.specs.declared.configs.AuditConfig.{AuditConfig}
 use Rattle.audit_asked.specs.Advisories.{advisories_asked}
@@ -36,6 +38,11 @@ texts_config host config place given is =
     let text = part (input_or_text host place) _ given advisories.2 in
     let last = text.2 in
     cc (last)
+
+-- a text is a lockfile, or there is a reason why it is none
+pub lockfile_or_fault : {A : Type 0} (r : Result (List Package) LockfileFault) → ((packages : List Package) → r ≡ Ok packages → A) → ((reason : LockfileFault) → r ≡ Err reason → A) → A
+lockfile_or_fault (Ok packages) good bad = good packages refl
+lockfile_or_fault (Err reason) good bad = bad reason refl
 
 pub asked_config : (command : AuditCommand) (host : Host) (given : Asked) (config : AuditConfig) → asked command host (pos 0) ≡ Ok given → settled command host ≡ Ok config → given.config ≡ config
 asked_config command host given config is settles =

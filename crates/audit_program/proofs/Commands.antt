@@ -77,3 +77,8 @@ accepted_by words host task given packages mine accepts =
     let same : accepts.task ≡ task = cc (mine, other) in
     let P : Task → Type 0 = λ t. asked t.command host (pos 0) ≡ Ok given in
     subst P same accepts.gives
+
+-- nothing is no value
+pub not_both : {A : Type 0} (o : Option A) (x : A) → o ≡ None → o ≡ Some x → ⊥
+not_both None x none is = cc (is)
+not_both (Some y) x none is = cc (none)

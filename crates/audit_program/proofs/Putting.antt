@@ -6,7 +6,7 @@ use Rattle.tame_names.specs.Output.{AddsPrefix}
 use Rattle.audit_asked.specs.declared.faults.RunFault.{RunFault}
 use Rattle.audit_asked.specs.declared.faults.RunFault.TheVariants as fault
 use Rattle.audit_output.specs.Outputs.{IsPrintFault}
-use Rattle.audit_output.proofs.Puts.{part_first, part_none, part_then}
+use Rattle.audit_report.proofs.Puts.{part_first, part_none, part_then}
 use Rattle.audit_report.specs.Outputs.{IsPut}
 use Rattle.audit_program.specs.Finishes.{end_of}
 use Rattle.audit_program.specs.Outputs.{IsPutBy, IsWhole}

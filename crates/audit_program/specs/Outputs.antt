@@ -6,7 +6,7 @@ use Rattle.audit_advisory.specs.declared.advisories.Advisory.{Advisory}
 use Rattle.audit_words.specs.declared.commands.Command.{Command}
 use Rattle.audit_words.specs.declared.commands.Command.TheVariants as command
 use Rattle.audit_words.specs.declared.commands.WordsFault.{WordsFault}
-use Rattle.audit_words.specs.declared.texts.TheConstants.{HELP_TEXT, VERSION_TEXT}
+use Rattle.audit_words.specs.declared.texts.TheConstants.{HELP_TEXT}
 use Rattle.audit_asked.specs.Places.{place_of}
 use Rattle.audit_asked.specs.declared.faults.RunFault.{RunFault}
 use Rattle.audit_asked.specs.declared.faults.RunFault.TheVariants as fault
@@ -23,7 +23,7 @@ use Rattle.audit_program.specs.declared.tasks.Remedy.TheVariants.{Report, Fix}
 -- audit
 abbrev pub plain_text : Result Command WordsFault → List ℕ
 plain_text (Ok command.Help) = HELP_TEXT.now ++ codes "\n"
-plain_text (Ok command.Version) = VERSION_TEXT.now ++ codes "\n"
+plain_text (Ok command.Version) = codes "cargo-audit 0.22.2\n"
 plain_text _ = []
 
 -- the words are those for help or of the version, or they break a rule

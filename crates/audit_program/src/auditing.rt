@@ -59,6 +59,8 @@ pub fn audit<W: Wire, D: CacheDisk>(
     ensures unasked { auditor.now.checks ≢ Checks.Online → wire.new ≡ wire.old }
     ensures unchanged { auditor.now.checks ≢ Checks.Online → D.tells → (q : List ℕ)
         → D.past disk.new q ≡ D.past disk.old q }
+    ensures unmade { auditor.now.checks ≢ Checks.Online → D.tells
+        → D.folders disk.new ≡ D.folders disk.old }
     ensures off { auditor.now.checks ≡ Checks.Off → disk.new ≡ disk.old }
 {
     match auditor.audit_text(alloc, text, lock, wire, disk) {

@@ -144,6 +144,8 @@ fn run_given<F: Files, P: Decoder, W: Wire, D: CacheDisk, O: Sink, E: Sink>(
     ensures unasked { checks_of given.config ≢ Checks.Online → wire.new ≡ wire.old }
     ensures unchanged { checks_of given.config ≢ Checks.Online → D.tells
         → (q : List ℕ) → D.past disk.new q ≡ D.past disk.old q }
+    ensures unmade { checks_of given.config ≢ Checks.Online → D.tells
+        → D.folders disk.new ≡ D.folders disk.old }
     ensures off { checks_of given.config ≡ Checks.Off → disk.new ≡ disk.old }
 {
     let AskedForBinaries {
@@ -298,6 +300,8 @@ pub fn run_binaries<F: Files, P: Decoder, W: Wire, D: CacheDisk, O: Sink, E: Sin
     ensures files_same { F.tells → F.host files.new ≡ F.host files.old }
     ensures early { IfNone result.binaries (result.fault ≢ Some RunFault.NoMemory
         → (wire.new ≡ wire.old) × (disk.new ≡ disk.old)) }
+    ensures undecoded { IfNone result.binaries (result.fault ≢ Some RunFault.NoMemory
+        → decoder.new ≡ decoder.old) }
     ensures kept { W.tells → D.tells → StaysKept (W.exchanges wire.old) (W.exchanges wire.new)
         (D.past disk.old) (D.past disk.new) }
     ensures unasked { F.tells → (config : AuditConfig)
@@ -307,6 +311,9 @@ pub fn run_binaries<F: Files, P: Decoder, W: Wire, D: CacheDisk, O: Sink, E: Sin
         → settled command.now (F.host files.old) ≡ Ok config
         → checks_of config ≢ Checks.Online
         → (q : List ℕ) → D.past disk.new q ≡ D.past disk.old q }
+    ensures unmade { F.tells → D.tells → (config : AuditConfig)
+        → settled command.now (F.host files.old) ≡ Ok config
+        → checks_of config ≢ Checks.Online → D.folders disk.new ≡ D.folders disk.old }
     ensures off { F.tells → (config : AuditConfig)
         → settled command.now (F.host files.old) ≡ Ok config
         → checks_of config ≡ Checks.Off → disk.new ≡ disk.old }

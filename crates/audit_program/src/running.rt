@@ -249,12 +249,20 @@ pub fn run<F: Files, P: Decoder, R: Runner, W: Wire, D: CacheDisk, O: Sink, E: S
     ensures unstarted { AsksForBinaries (command_of (map string_bytes words.now))
         → runner.new ≡ runner.old }
 
-    // where the run ends before the audit, but for want of memory, nothing is asked of the wire and
-    // the cache; otherwise, however it ends, a part of the paths from the front, no file changes
-    // that is that of no path, and no folders are made but those above such files
+    // where the run ends before the audit, but for want of memory, nothing is decoded, and nothing is
+    // asked of the wire and the cache; nor is it, however the run ends, where what the host has gives
+    // no lockfile; otherwise a part of the paths from the front, no file changes that is that of no
+    // path, and no folders are made but those above such files
     ensures early { IfNone result.audited (IfNone result.binaries
         (result.fault ≢ Some RunFault.NoMemory
         → (wire.new ≡ wire.old) × (disk.new ≡ disk.old))) }
+    ensures early_undecoded { IfNone result.audited (IfNone result.binaries
+        (result.fault ≢ Some RunFault.NoMemory → decoder.new ≡ decoder.old)) }
+    ensures unaccepted { F.tells → (task : Task)
+        → task_of (command_of (map string_bytes words.now)) ≡ Some task
+        → ((given : Asked) (packages : List Package)
+        → Accepts (map string_bytes words.now) (F.host files.old) given packages → ⊥)
+        → (wire.new ≡ wire.old) × (disk.new ≡ disk.old) }
     ensures part { F.tells → W.tells → (given : Asked) (packages : List Package)
         → Accepts (map string_bytes words.now) (F.host files.old) given packages
         → AddsPart (asked_of (checks_of given.config) packages)
@@ -305,8 +313,8 @@ pub fn run<F: Files, P: Decoder, R: Runner, W: Wire, D: CacheDisk, O: Sink, E: S
           file_faults = F.faults files.new;
           decode_faults = P.faults decoder.new;
         })) }
-    // the wire isn't called but for online checks, and then alone a file of the cache may change;
-    // where checks are off the disk isn't called
+    // the wire isn't called but for online checks, and then alone a file of the cache may change and
+    // folders be made; where checks are off the disk isn't called
     ensures unasked { F.tells → (config : AuditConfig)
         → Settles (map string_bytes words.now) (F.host files.old) config
         → checks_of config ≢ Checks.Online → wire.new ≡ wire.old }
@@ -314,6 +322,9 @@ pub fn run<F: Files, P: Decoder, R: Runner, W: Wire, D: CacheDisk, O: Sink, E: S
         → Settles (map string_bytes words.now) (F.host files.old) config
         → checks_of config ≢ Checks.Online
         → (q : List ℕ) → D.past disk.new q ≡ D.past disk.old q }
+    ensures unmade { F.tells → D.tells → (config : AuditConfig)
+        → Settles (map string_bytes words.now) (F.host files.old) config
+        → checks_of config ≢ Checks.Online → D.folders disk.new ≡ D.folders disk.old }
     ensures off { F.tells → (config : AuditConfig)
         → Settles (map string_bytes words.now) (F.host files.old) config
         → checks_of config ≡ Checks.Off → disk.new ≡ disk.old }

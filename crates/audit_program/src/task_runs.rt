@@ -3,6 +3,7 @@ ghost use Rattle.std.specs.Prelude.{◌≡◌, ◌≢◌, ◌⊎◌, ◌≤◌, 
 ghost use Rattle.tame_names.specs.Counts.{CountRose, CountRoseBy};
 ghost use Rattle.tame_names.specs.Standing.{IsInput, StaysButInput};
 ghost use Rattle.audit_lock.specs.Locked.{locked};
+ghost use Rattle.audit_lock.specs.declared.lockfiles.LockfileFault.{LockfileFault};
 ghost use Rattle.audit_lock.specs.declared.resolving.Package.{Package};
 ghost use Rattle.audit_settings.specs.declared.configs.AuditConfig.{AuditConfig};
 ghost use Rattle.audit_asked.specs.Asked.{IsAskedCall, asked, generates};
@@ -99,6 +100,8 @@ fn run_given<R: Runner, W: Wire, D: CacheDisk, O: Sink, E: Sink>(
     ensures starts_later { R.faults runner.old ≤ R.faults runner.new }
     ensures early { IfNone result.audited (result.fault ≢ Some RunFault.NoMemory
         → (wire.new ≡ wire.old) × (disk.new ≡ disk.old)) }
+    ensures refused { (f : LockfileFault) → locked given.text ≡ Err f
+        → (wire.new ≡ wire.old) × (disk.new ≡ disk.old) }
     ensures kept { W.tells → D.tells → StaysKept (W.exchanges wire.old) (W.exchanges wire.new)
         (D.past disk.old) (D.past disk.new) }
     ensures part { W.tells → (packages : List Package) → locked given.text ≡ Ok packages
@@ -113,6 +116,8 @@ fn run_given<R: Runner, W: Wire, D: CacheDisk, O: Sink, E: Sink>(
     ensures unasked { checks_of given.config ≢ Checks.Online → wire.new ≡ wire.old }
     ensures unchanged { checks_of given.config ≢ Checks.Online → D.tells
         → (q : List ℕ) → D.past disk.new q ≡ D.past disk.old q }
+    ensures unmade { checks_of given.config ≢ Checks.Online → D.tells
+        → D.folders disk.new ≡ D.folders disk.old }
     ensures off { checks_of given.config ≡ Checks.Off → disk.new ≡ disk.old }
 {
     let Asked {
@@ -223,6 +228,12 @@ pub fn run_task<F: Files, R: Runner, W: Wire, D: CacheDisk, O: Sink, E: Sink>(
         (F.host files.old) (F.host files.new) }
     ensures early { IfNone result.audited (result.fault ≢ Some RunFault.NoMemory
         → (wire.new ≡ wire.old) × (disk.new ≡ disk.old)) }
+    // where what the host has gives no lockfile, nothing is asked of the wire and the cache, however
+    // the run ends
+    ensures unaccepted { F.tells → ((given : Asked) (packages : List Package)
+        → asked task.now.command (F.host files.old) (pos 0) ≡ Ok given
+        → locked given.text ≡ Ok packages → ⊥)
+        → (wire.new ≡ wire.old) × (disk.new ≡ disk.old) }
     ensures kept { W.tells → D.tells → StaysKept (W.exchanges wire.old) (W.exchanges wire.new)
         (D.past disk.old) (D.past disk.new) }
     ensures part { F.tells → W.tells → (given : Asked) (packages : List Package)
@@ -247,6 +258,9 @@ pub fn run_task<F: Files, R: Runner, W: Wire, D: CacheDisk, O: Sink, E: Sink>(
         → settled task.now.command (F.host files.old) ≡ Ok config
         → checks_of config ≢ Checks.Online
         → (q : List ℕ) → D.past disk.new q ≡ D.past disk.old q }
+    ensures unmade { F.tells → D.tells → (config : AuditConfig)
+        → settled task.now.command (F.host files.old) ≡ Ok config
+        → checks_of config ≢ Checks.Online → D.folders disk.new ≡ D.folders disk.old }
     ensures off { F.tells → (config : AuditConfig)
         → settled task.now.command (F.host files.old) ≡ Ok config
         → checks_of config ≡ Checks.Off → disk.new ≡ disk.old }

@@ -5,6 +5,8 @@ pub mod Kept
 pub mod Newline
 pub mod Once
 pub mod Placed
+pub mod Pouring
+pub mod Puts
 pub mod Reading
 pub mod SarifDepths
 pub mod Showing

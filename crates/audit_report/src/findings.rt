@@ -1,8 +1,7 @@
-//! The blocks of a report, with their trees.
+//! The blocks of a report, with their trees, made one at a time.
 ghost use Rattle.std.specs.Prelude.{◌≡◌, ◌<◌, ◌++◌, IfSome, OnOk, length, option_copied};
-ghost use Rattle.std.specs.List.{flat_map};
 ghost use Rattle.audit_lock.specs.Parents.{tree_of};
-ghost use Rattle.audit_report.specs.Blocks.{blocks_of, tree_at, vulnerability_at, vulnerability_block, warning_at, warning_block};
+ghost use Rattle.audit_report.specs.Blocks.{tree_at, vulnerability_at, vulnerability_block, warning_at, warning_block};
 ghost use Rattle.audit_report.specs.Shown.{Shows, is_due, shown_with, tree_lines, tree_text, tree_title};
 
 use crate::blocks::{vulnerability_lines, warning_lines};
@@ -10,7 +9,7 @@ use crate::pages::Page;
 use crate::placing::{advisory_at, listed_at, package_at};
 use crate::shown_trees::{ShownTree, Trees, add_due, is_due};
 use crate::symbols::SymbolSet;
-use audit_advisory::{Advisory, Report, Vulnerability, Warning};
+use audit_advisory::{Advisory, Vulnerability, Warning};
 use audit_lock::{Lockfile, Package, Tree};
 use std::alloc::Global;
 use tame_names::NoMemory;
@@ -183,7 +182,7 @@ fn push_warning_block(
 }
 
 /// Appends the block of a vulnerability.
-fn push_vulnerability_at(
+pub fn push_vulnerability_at(
     alloc: Global,
     sheet: &mut Sheet,
     findings: &Findings<'_>,
@@ -202,7 +201,7 @@ fn push_vulnerability_at(
 }
 
 /// Appends the block of a warning.
-fn push_warning_at(
+pub fn push_warning_at(
     alloc: Global,
     sheet: &mut Sheet,
     findings: &Findings<'_>,
@@ -218,65 +217,4 @@ fn push_warning_at(
     let locked = package_at(findings.lockfile.packages(), warning.package);
     let advisory = advisory_at(findings.advisories, warning.advisory);
     push_warning_block(alloc, sheet, findings, warning, locked, advisory)
-}
-
-/// Appends the blocks of vulnerabilities.
-fn push_vulnerabilities(
-    alloc: Global,
-    sheet: &mut Sheet,
-    findings: &Findings<'_>,
-    found: &[Vulnerability],
-) -> Result<(), NoMemory>
-    requires made { findings.now.tree.now ≡ tree_of findings.now.lockfile.now }
-    ensures { OnOk result (Shows findings.now.wanted
-        (flat_map (vulnerability_at findings.now.symbols.now findings.now.advisories.now
-        findings.now.lockfile.now) found.now)
-        sheet.old.page.bytes.items (findings.now.known.now ++ sheet.old.added)
-        sheet.new.page.bytes.items (findings.now.known.now ++ sheet.new.added)) }
-{
-    for hit in found {
-        push_vulnerability_at(alloc, sheet, findings, *hit)?;
-    }
-    Ok(())
-}
-
-/// Appends the blocks of warnings.
-fn push_warnings(
-    alloc: Global,
-    sheet: &mut Sheet,
-    findings: &Findings<'_>,
-    warnings: &[Warning],
-) -> Result<(), NoMemory>
-    requires made { findings.now.tree.now ≡ tree_of findings.now.lockfile.now }
-    ensures { OnOk result (Shows findings.now.wanted
-        (flat_map (warning_at findings.now.symbols.now findings.now.advisories.now
-        findings.now.lockfile.now) warnings.now)
-        sheet.old.page.bytes.items (findings.now.known.now ++ sheet.old.added)
-        sheet.new.page.bytes.items (findings.now.known.now ++ sheet.new.added)) }
-{
-    for warning in warnings {
-        push_warning_at(alloc, sheet, findings, *warning)?;
-    }
-    Ok(())
-}
-
-/// Appends the blocks of a report: first its vulnerabilities, then its warnings.
-pub fn push_report(
-    alloc: Global,
-    sheet: &mut Sheet,
-    findings: &Findings<'_>,
-    report: &Report,
-) -> Result<(), NoMemory>
-    requires made { findings.now.tree.now ≡ tree_of findings.now.lockfile.now }
-    ensures { OnOk result (Shows findings.now.wanted
-        (blocks_of findings.now.symbols.now findings.now.advisories.now
-        findings.now.lockfile.now report.now)
-        sheet.old.page.bytes.items (findings.now.known.now ++ sheet.old.added)
-        sheet.new.page.bytes.items (findings.now.known.now ++ sheet.new.added)) }
-{
-    let found = report.vulnerabilities.as_slice();
-    push_vulnerabilities(alloc, sheet, findings, found)?;
-    let warnings = report.warnings.as_slice();
-    push_warnings(alloc, sheet, findings, warnings)?;
-    Ok(())
 }

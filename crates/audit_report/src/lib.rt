@@ -15,18 +15,19 @@
 mod affected;
 mod attributes;
 mod binaries;
+mod block_puts;
 mod blocks;
 mod documents;
 mod findings;
 mod laws;
 mod listed;
-mod made_texts;
 mod members;
 mod objects;
 mod pages;
 mod placing;
 mod presenters;
 mod putting;
+mod sarif_lines;
 mod sarif_logs;
 mod sarif_objects;
 mod sarif_results;
@@ -44,7 +45,6 @@ mod symbols;
 mod words;
 
 pub use binaries::Found;
-pub use documents::{report_line, report_text};
 pub use laws::{each_tree_stands_once, kept_paths_are_symbols_with_gaps};
 pub use presenters::Presenter;
 pub use putting::PrintError;

@@ -22,19 +22,19 @@ impl Page {
         }
     }
 
-    /// A page of these bytes, without a copy.
-    pub fn of(bytes: Vec<u8>) -> Page
-        ensures { result.bytes.items ≡ bytes.items }
-    {
-        Page { bytes, faults: 0 }
-    }
-
     /// Appends a text.
     pub fn push(&mut self, text: &str) -> Result<(), NoMemory>
         ensures { OnOk result (self.new.bytes.items ≡ self.old.bytes.items ++ text.now) }
     {
         self.bytes.extend_from_slice(text.as_bytes())?;
         Ok(())
+    }
+
+    /// Empties the page.
+    pub fn clear(&mut self)
+        ensures { self.new.bytes.items ≡ [] }
+    {
+        self.bytes.clear();
     }
 
     /// The text so far.

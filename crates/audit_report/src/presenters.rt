@@ -1,7 +1,6 @@
 //! Prints reports, and each tree once in its life.
-ghost use Rattle.std.specs.Prelude.{◌≡◌, ◌≢◌, ◌<◌, ◌≤◌, ◌++◌, ◌↔◌, ◌⊎◌, [], None, Some, length, option_map, string_bytes, All, IfOk, IfErr, IsErrOf, IsFalse, OnOk, OnErr};
+ghost use Rattle.std.specs.Prelude.{◌≡◌, ◌≢◌, ◌<◌, ◌≤◌, ◌++◌, ◌↔◌, ◌⊎◌, [], None, Some, length, option_map, All, IfOk, IfErr, IsErrOf, IsFalse, OnOk, OnErr};
 ghost use Rattle.tame_names.specs.Counts.{CountRose};
-ghost use Rattle.audit_lock.specs.Parents.{tree_of};
 ghost use Rattle.audit_advisory.specs.Reports.{IsPlaced};
 ghost use Rattle.audit_advisory.specs.Exits.{report_fails, self_fails};
 ghost use Rattle.audit_report.specs.Blocks.{blocks_of};
@@ -12,15 +11,17 @@ ghost use Rattle.audit_report.specs.Printed.{printed, terminal_form};
 ghost use Rattle.audit_report.specs.Sarif.{sarif_log, uri_of};
 ghost use Rattle.audit_report.specs.SarifObjects.{LogReadsBack};
 ghost use Rattle.audit_report.specs.SelfReports.{self_summary, self_text};
-ghost use Rattle.audit_report.specs.Shown.{Shows};
+ghost use Rattle.audit_report.specs.Shown.{blocks_text, shown_after};
 ghost use Rattle.audit_report.specs.StatusLines.{binary_line_in, scanning_line_in};
 
 use crate::binaries::Found;
-use crate::findings::{Findings, Sheet, push_report};
-use crate::made_texts::{Made, made_json, made_sarif};
+use crate::block_puts::put_report;
+use crate::documents::report_line;
+use crate::findings::{Findings, Sheet};
 use crate::pages::Page;
 use crate::placing::{are_placed, is_placed};
 use crate::putting::{PrintError, put_text, put_texts};
+use crate::sarif_lines::report_sarif_line;
 use crate::self_reports::{self_summary, self_text};
 use crate::shown_trees::Trees;
 use crate::status_lines::{binary_line_in, scanning_line_in};
@@ -53,23 +54,6 @@ fn config_copied(alloc: Global, config: &OutputConfig) -> Result<OutputConfig, N
         quiet: config.quiet,
         show_tree: config.show_tree,
     })
-}
-
-/// The blocks of a report, and the trees that they show.
-fn sheet_of(alloc: Global, findings: &Findings<'_>, report: &Report) -> Result<Sheet, NoMemory>
-    requires made { findings.now.tree.now ≡ tree_of findings.now.lockfile.now }
-    ensures { IfOk result (λ sheet. Shows findings.now.wanted
-        (blocks_of findings.now.symbols.now findings.now.advisories.now
-        findings.now.lockfile.now report.now)
-        [] findings.now.known.now
-        sheet.page.bytes.items (findings.now.known.now ++ sheet.added)) }
-{
-    let mut sheet = Sheet {
-        page: Page::new(alloc),
-        added: Trees::new(alloc),
-    };
-    push_report(alloc, &mut sheet, findings, report)?;
-    Ok(sheet)
 }
 
 impl Presenter {
@@ -143,24 +127,30 @@ impl Presenter {
         put_text(err, line.as_bytes())
     }
 
-    /// The terminal form of a report.
-    fn made_terminal(
+    /// Puts the blocks of a report. The sheet has to be empty; the trees that are shown are added to
+    /// it.
+    fn put_blocks<O: Sink>(
         &self,
         alloc: Global,
+        out: &mut O,
+        sheet: &mut Sheet,
         report: &Report,
         database: &Database,
         lockfile: &Lockfile,
-        path: Option<&str>,
-    ) -> Result<Made, NoMemory>
-        ensures out { IfOk result (λ made. made.out.bytes.items
-            ≡ (terminal_form self.now (option_map (λ p. p.now) path.entry)
-            database.now lockfile.now report.now).out) }
-        ensures err { IfOk result (λ made. string_bytes made.err
-            ≡ (terminal_form self.now (option_map (λ p. p.now) path.entry)
-            database.now lockfile.now report.now).err) }
-        ensures trees { IfOk result (λ made. self.now.trees ++ made.added
-            ≡ (terminal_form self.now (option_map (λ p. p.now) path.entry)
-            database.now lockfile.now report.now).trees) }
+    ) -> Result<(), PrintError>
+        requires empty { sheet.old.page.bytes.items ≡ [] }
+        requires none { sheet.old.added ≡ [] }
+        ensures put { O.tells → IsPut (O.holds out.old)
+            (blocks_text self.now.config.show_tree self.now.trees
+            (blocks_of self.now.symbols database.now lockfile.now report.now))
+            (O.holds out.new) result }
+        ensures trees { OnOk result (self.now.trees ++ sheet.new.added
+            ≡ shown_after self.now.config.show_tree self.now.trees
+            (blocks_of self.now.symbols database.now lockfile.now report.now)) }
+        ensures later { O.faults out.old ≤ O.faults out.new }
+        ensures failed { IsErrOf result PrintError.Io
+            → CountRose (O.faults out.old) (O.faults out.new) }
+        ensures placed { IfErr result (λ e. e ≢ PrintError.Tree) }
     {
         let tree = Tree::of(alloc, lockfile)?;
         let findings = Findings {
@@ -171,79 +161,30 @@ impl Presenter {
             wanted: self.config.show_tree,
             known: self.trees.as_slice(),
         };
-        let sheet = sheet_of(alloc, &findings, report)?;
-        let err = summary(alloc, self.config.deny.as_slice(), path, report)?;
-        Ok(Made {
-            out: sheet.page,
-            err,
-            added: sheet.added,
-        })
+        put_report(alloc, out, sheet, &findings, report)
     }
 
-    /// The texts of a report in the presenter's form.
-    fn made(
-        &self,
-        alloc: Global,
-        report: &Report,
-        database: &Database,
-        lockfile: &Lockfile,
-        path: Option<&str>,
-    ) -> Result<Made, NoMemory>
-        ensures out { IfOk result (λ made. made.out.bytes.items
-            ≡ (printed self.now (option_map (λ p. p.now) path.entry)
-            database.now lockfile.now report.now).out) }
-        ensures err { IfOk result (λ made. string_bytes made.err
-            ≡ (printed self.now (option_map (λ p. p.now) path.entry)
-            database.now lockfile.now report.now).err) }
-        ensures trees { IfOk result (λ made. self.now.trees ++ made.added
-            ≡ (printed self.now (option_map (λ p. p.now) path.entry)
-            database.now lockfile.now report.now).trees) }
-        ensures reads_back { self.now.config.format ≡ OutputFormat.Json
-            → OnOk result (ReadsBack database.now lockfile.now report.now) }
-        ensures sarif_reads_back { self.now.config.format ≡ OutputFormat.Sarif
-            → OnOk result (LogReadsBack
-            (sarif_log (uri_of (option_map (λ p. p.now) path.entry))
-            database.now lockfile.now report.now)) }
-    {
-        match self.config.format {
-            OutputFormat::Terminal => self.made_terminal(alloc, report, database, lockfile, path),
-            OutputFormat::Json => made_json(alloc, database, lockfile, report),
-            OutputFormat::Sarif => made_sarif(alloc, database, lockfile, report, path),
-        }
-    }
-
-    /// Puts texts, whose trees count as shown once both are put.
-    fn put_made<O: Sink, E: Sink>(
+    /// Puts the lines that sum a report up, whose trees count as shown once they are put.
+    fn put_summary<E: Sink>(
         &mut self,
-        out: &mut O,
         err: &mut E,
-        made: &mut Made,
+        added: &mut Trees,
+        summary: &str,
     ) -> Result<(), PrintError>
-        ensures out { O.tells
-            → IsPut (O.holds out.old) made.old.out.bytes.items (O.holds out.new) result }
-        ensures err { E.tells
-            → IsPut (E.holds err.old) (string_bytes made.old.err) (E.holds err.new) result }
-        ensures out_nothing { made.old.out.bytes.items ≡ [] → out.new ≡ out.old }
-        ensures err_nothing { string_bytes made.old.err ≡ [] → err.new ≡ err.old }
-        ensures in_order { O.tells
-            → (O.holds out.new ≡ O.holds out.old ++ made.old.out.bytes.items)
-            ⊎ (err.new ≡ err.old) }
-        ensures out_later { O.faults out.old ≤ O.faults out.new }
-        ensures err_later { E.faults err.old ≤ E.faults err.new }
+        ensures put { E.tells
+            → IsPut (E.holds err.old) summary.now (E.holds err.new) result }
+        ensures later { E.faults err.old ≤ E.faults err.new }
         ensures failed { IsErrOf result PrintError.Io
-            → CountRose (O.faults out.old) (O.faults out.new)
-            ⊎ CountRose (E.faults err.old) (E.faults err.new) }
+            → CountRose (E.faults err.old) (E.faults err.new) }
         ensures placed { IfErr result (λ e. e ≢ PrintError.Tree) }
-        ensures unput { IfErr result (λ e. e ≢ PrintError.Io
-            → (out.new ≡ out.old) × (err.new ≡ err.old)) }
         ensures config { self.new.config ≡ self.old.config }
         ensures symbols { self.new.symbols ≡ self.old.symbols }
-        ensures trees { OnOk result (self.new.trees ≡ self.old.trees ++ made.old.added) }
+        ensures trees { OnOk result (self.new.trees ≡ self.old.trees ++ added.old) }
         ensures same { OnErr result (self.new ≡ self.old) }
     {
         let known = self.trees.count();
-        self.trees.extend(&mut made.added)?;
-        match put_texts(out, err, made.out.as_bytes(), made.err.as_bytes()) {
+        self.trees.extend(added)?;
+        match put_text(err, summary.as_bytes()) {
             Ok(()) => Ok(()),
             Err(error) => {
                 self.trees.keep(known);
@@ -252,10 +193,55 @@ impl Presenter {
         }
     }
 
+    /// Prints a report in the terminal form: its blocks one after the other on `out`, and then on
+    /// `err` the lines that sum it up.
+    fn print_terminal<O: Sink, E: Sink>(
+        &mut self,
+        alloc: Global,
+        out: &mut O,
+        err: &mut E,
+        report: &Report,
+        database: &Database,
+        lockfile: &Lockfile,
+        path: Option<&str>,
+    ) -> Result<(), PrintError>
+        ensures out { O.tells → IsPut (O.holds out.old)
+            (terminal_form self.old (option_map (λ p. p.now) path.entry)
+            database.now lockfile.now report.now).out (O.holds out.new) result }
+        ensures err { E.tells → IsPut (E.holds err.old)
+            (terminal_form self.old (option_map (λ p. p.now) path.entry)
+            database.now lockfile.now report.now).err (E.holds err.new) result }
+        ensures in_order { O.tells → (O.holds out.new ≡ O.holds out.old
+            ++ (terminal_form self.old (option_map (λ p. p.now) path.entry)
+            database.now lockfile.now report.now).out)
+            ⊎ (err.new ≡ err.old) }
+        ensures out_later { O.faults out.old ≤ O.faults out.new }
+        ensures err_later { E.faults err.old ≤ E.faults err.new }
+        ensures failed { IsErrOf result PrintError.Io
+            → CountRose (O.faults out.old) (O.faults out.new)
+            ⊎ CountRose (E.faults err.old) (E.faults err.new) }
+        ensures placed { IfErr result (λ e. e ≢ PrintError.Tree) }
+        ensures config { self.new.config ≡ self.old.config }
+        ensures symbols { self.new.symbols ≡ self.old.symbols }
+        ensures trees { OnOk result (self.new.trees
+            ≡ (terminal_form self.old (option_map (λ p. p.now) path.entry)
+            database.now lockfile.now report.now).trees) }
+        ensures same { OnErr result (self.new ≡ self.old) }
+    {
+        let summary = summary(alloc, self.config.deny.as_slice(), path, report)?;
+        let mut sheet = Sheet {
+            page: Page::new(alloc),
+            added: Trees::new(alloc),
+        };
+        self.put_blocks(alloc, out, &mut sheet, report, database, lockfile)?;
+        self.put_summary(err, &mut sheet.added, summary.as_str())
+    }
+
     /// Prints a report in the presenter's form: on `out` its text, on `err` the lines that sum it
-    /// up; `path` is that of a binary, if there is one. `Tree` comes before anything is put. After
-    /// any refusal the trees count as shown that did before. As JSON and as SARIF it is one line
-    /// on `out` alone, and the trees stay as they were; results are located at `path`, or at
+    /// up; `path` is that of a binary, if there is one. `Tree` comes before anything is put. The
+    /// terminal form is put block by block, so that any other refusal may leave a part of it, and
+    /// after any refusal the trees count as shown that did before. As JSON and as SARIF it is one
+    /// line on `out` alone, and the trees stay as they were; results are located at `path`, or at
     /// `Cargo.lock`.
     pub fn print_report<O: Sink, E: Sink>(
         &mut self,
@@ -289,8 +275,8 @@ impl Presenter {
         ensures failed { IsErrOf result PrintError.Io
             → CountRose (O.faults out.old) (O.faults out.new)
             ⊎ CountRose (E.faults err.old) (E.faults err.new) }
-        ensures unput { IfErr result (λ e. e ≢ PrintError.Io
-            → (out.new ≡ out.old) × (err.new ≡ err.old)) }
+        ensures unput { IsErrOf result PrintError.Tree
+            → (out.new ≡ out.old) × (err.new ≡ err.old) }
         ensures config { self.new.config ≡ self.old.config }
         ensures symbols { self.new.symbols ≡ self.old.symbols }
         ensures trees { OnOk result (self.new.trees
@@ -310,8 +296,20 @@ impl Presenter {
         if !is_placed(advisories, lockfile.packages().len(), report) {
             return Err(PrintError::Tree);
         }
-        let mut made = self.made(alloc, report, database, lockfile, path)?;
-        self.put_made(out, err, &mut made)
+        match self.config.format {
+            OutputFormat::Terminal => {
+                self.print_terminal(alloc, out, err, report, database, lockfile, path)
+            }
+            OutputFormat::Json => {
+                let packages = lockfile.packages();
+                let line = report_line(alloc, report, database.advisories(), packages)?;
+                put_texts(out, err, line.as_slice(), &[])
+            }
+            OutputFormat::Sarif => {
+                let line = report_sarif_line(alloc, database, lockfile, report, path)?;
+                put_texts(out, err, line.as_slice(), &[])
+            }
+        }
     }
 
     /// Prints what advisories on the auditor itself say, by their places, where there is one: a

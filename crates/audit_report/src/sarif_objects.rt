@@ -15,6 +15,7 @@ use crate::members::{
 };
 use crate::sarif_logs::{Rule, Run, SarifLog, SarifResult};
 use crate::sarif_rule_objects::{write_level, write_rule};
+use audit_advisory::VERSION;
 use json::Writer;
 use std::alloc::{AllocError, Global};
 use tame_names::Text;
@@ -140,8 +141,8 @@ fn write_driver(out: &mut Writer, run: &Run) -> Result<(), AllocError>
 {
     open_object(out)?;
     write_str(out, "name", "cargo-audit")?;
-    write_str(out, "version", "0.22.2")?;
-    write_str(out, "semanticVersion", "0.22.2")?;
+    write_str(out, "version", VERSION)?;
+    write_str(out, "semanticVersion", VERSION)?;
     write_name(out, "rules")?;
     write_rule_list(out, run)?;
     close_object(out)?;

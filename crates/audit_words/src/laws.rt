@@ -1,5 +1,6 @@
 //! What holds of the meaning of words.
-ghost use Rattle.std.specs.Prelude.{◌≡◌, ◌≢◌, ◌<◌, ◌+◌, ◌-◌, ◌*◌, ◌^◌, ℕ, codes, List, [], ◌∷◌, ◌++◌, true, false, Some, None, Ok, Err, length};
+ghost use Rattle.std.specs.Prelude.{◌≡◌, ◌≢◌, ◌<◌, ◌+◌, ◌-◌, ◌*◌, ◌^◌, ℕ, codes, List, [], ◌∷◌, ◌++◌, true, false, Some, None, Ok, Err, length, take};
+ghost use Rattle.audit_advisory.specs.declared.outputs.TheConstants.{VERSION};
 ghost use Rattle.std.specs.Fmt.{decimal};
 ghost use Rattle.audit_words.specs.Laws.{CanJoin, IsLettered, IsNamed, drafted, given, is_setting, quieted, set_by, was_quiet};
 ghost use Rattle.audit_words.specs.Reading.{and_then, command_of, ended, finish, is_option, read_word, start, unless_ended};
@@ -9,6 +10,14 @@ ghost use Rattle.audit_words.specs.declared.drafts.Draft.{Draft};
 ghost use Rattle.audit_words.specs.declared.drafts.Stop.{Stop};
 ghost use Rattle.audit_words.specs.declared.options.Meaning.{Meaning};
 ghost use Rattle.audit_words.specs.declared.options.Phase.TheVariants.{Audit};
+ghost use Rattle.audit_words.specs.declared.texts.TheConstants.{HELP_TEXT, VERSION_TEXT};
+
+/// The text of the version names the program and its version, and the help begins with that line.
+pub fn texts_name_the_version()
+    ensures version { VERSION.now ≡ codes "0.22.2" }
+    ensures text { VERSION_TEXT.now ≡ codes "cargo-audit 0.22.2" }
+    ensures help { take 19 HELP_TEXT.now ≡ codes "cargo-audit 0.22.2\n" }
+{}
 
 /// The reading of words ends at the first one that ends it, behind words that make a draft: its
 /// place is how many stand in front of it. Where no word ends it, the draft that all of them make

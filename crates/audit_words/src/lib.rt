@@ -19,11 +19,12 @@ mod texts;
 mod values;
 mod words;
 
+pub use audit_advisory::VERSION;
 pub use commands::{BinCommand, Command, FixCommand, WordsFault};
 pub use laws::{
     either_order, numbers_are_decimal, quiet_is_accepted, reading_ends_at_its_word,
-    same_drafts_same_command, spellings_agree,
+    same_drafts_same_command, spellings_agree, texts_name_the_version,
 };
 pub use rows::{accepted, refused};
-pub use texts::{HELP_TEXT, VERSION, VERSION_TEXT};
+pub use texts::{HELP_TEXT, VERSION_TEXT};
 pub use words::read_words;

@@ -1,8 +1,5 @@
 //! The texts that answer `--help` and `--version`.
 
-/// The version that is ported.
-pub const VERSION: &str = "0.22.2";
-
 /// What `--version` prints, without a newline.
 pub const VERSION_TEXT: &str = "cargo-audit 0.22.2";
 

@@ -1,12 +1,12 @@
 //! Rows that the definitions compute: each clause is an equation whose left side is a definition
 //! at written values.
-ghost use Rattle.std.specs.Prelude.{◌≡◌, [], ◌∷◌, ◌++◌, codes, true, false, Some, None, Ok, Err};
+ghost use Rattle.std.specs.Prelude.{◌≡◌, [], ◌∷◌, ◌++◌, codes, length, true, false, Some, None, Ok, Err};
 ghost use Rattle.tame_names.specs.Names.{HasCharacter, HasLength, IsReserved, path, prefix, refusal_of, strict_refusal};
 ghost use Rattle.tame_names.specs.Paths.{join};
 ghost use Rattle.tame_names.specs.Pieces.{pieces};
 ghost use Rattle.tame_names.specs.declared.errors.ReservedNameKind.TheVariants.{Standard};
 ghost use Rattle.tame_records.specs.Lines.{lines};
-ghost use Rattle.tame_names.specs.declared.errors.CacheError.TheVariants.{InvalidCacheEntry, OutdatedCacheVersion, UnknownCacheVersion, UnknownIndexVersion};
+ghost use Rattle.tame_names.specs.declared.errors.CacheError.TheVariants.{InvalidCacheEntry, OtherIndex, OutdatedCacheVersion, UnknownCacheVersion, UnknownIndexVersion};
 ghost use Rattle.tame_names.specs.declared.errors.InvalidJsonLines.TheVariants.{Empty, NotJson};
 ghost use Rattle.tame_entry.specs.Config.{download_url, version_url};
 ghost use Rattle.tame_entry.specs.Entry.{entry, pairs, read_entry};
@@ -51,14 +51,23 @@ pub fn lines_and_paths()
 
 /// Entries of the cache as bytes, and lines looked at without JSON.
 pub fn entries()
-    ensures bytes { entry (Http (Etag (codes "x")))
+    ensures bytes { entry (codes "sparse+https://index.crates.io/") (Http (Etag (codes "x")))
         (pairs (codes "{\"name\":\"a\",\"vers\":\"0.1.0\",\"yanked\":false}"))
-        ≡ 3 ∷ 2 ∷ 0 ∷ 0 ∷ 0 ∷ codes "etag: x" ++ 0 ∷ codes "0.1.0" ++ 0
+        ≡ 4 ∷ 2 ∷ 0 ∷ 0 ∷ 0 ∷ codes "sparse+https://index.crates.io/" ++ 0 ∷ codes "etag: x" ++ 0
+        ∷ codes "0.1.0" ++ 0
         ∷ codes "{\"name\":\"a\",\"vers\":\"0.1.0\",\"yanked\":false}" ++ 0 ∷ [] }
-    ensures nothing { read_entry [] ≡ Err InvalidCacheEntry }
-    ensures old { read_entry (2 ∷ []) ≡ Err OutdatedCacheVersion }
-    ensures new { read_entry (4 ∷ []) ≡ Err UnknownCacheVersion }
-    ensures number { read_entry (3 ∷ 3 ∷ 0 ∷ 0 ∷ 0 ∷ []) ≡ Err UnknownIndexVersion }
+    ensures count { length (entry (codes "sparse+https://index.crates.io/")
+        (Http (Etag (codes "x")))
+        (pairs (codes "{\"name\":\"a\",\"vers\":\"0.1.0\",\"yanked\":false}"))) ≡ 94 }
+    ensures nothing { read_entry (codes "u") [] ≡ Err InvalidCacheEntry }
+    ensures old { read_entry (codes "u") (3 ∷ []) ≡ Err OutdatedCacheVersion }
+    ensures new { read_entry (codes "u") (5 ∷ []) ≡ Err UnknownCacheVersion }
+    ensures number { read_entry (codes "u") (4 ∷ 3 ∷ 0 ∷ 0 ∷ 0 ∷ []) ≡ Err UnknownIndexVersion }
+    ensures other { read_entry (codes "sparse+https://h/")
+        (entry (codes "sparse+https://index.crates.io/") (Http (Etag (codes "x")))
+        (pairs (codes "{\"name\":\"a\",\"vers\":\"0.1.0\",\"yanked\":false}"))) ≡ Err OtherIndex }
+    ensures revision { read_entry (codes "u") (4 ∷ 2 ∷ 0 ∷ 0 ∷ 0 ∷ codes "u" ++ 0
+        ∷ codes "foo: x" ++ 0 ∷ codes "v" ++ 0 ∷ codes "{}" ++ 0 ∷ []) ≡ Err InvalidCacheEntry }
     ensures version { raw_version (codes "{\"name\":\"a\",\"vers\":\"0.1.0\",\"yanked\":false}")
         ≡ codes "0.1.0" }
     ensures behind { line_flag
@@ -86,7 +95,7 @@ pub fn requests()
     ensures spaced { handed (Etag (codes " x ")) ≡ Ok (Some (Etag (codes "x"))) }
     ensures broken { handed (Etag (codes "a\nb")) ≡ Err (HttpFault InvalidHeaderValue) }
     ensures nothing { handed (Etag []) ≡ Ok None }
-    ensures absent { named_file None ≡ None }
+    ensures absent { named_file (codes "u") None ≡ None }
     ensures crate_file { crate_url (codes "sparse+https://index.crates.io/") (codes "a")
         ≡ Some (codes "https://index.crates.io/1/a") }
     ensures git { is_sparse_url (codes "https://github.com/rust-lang/crates.io-index") ≡ false }

@@ -1,4 +1,5 @@
 //! What the edge of the host answers, as the table shows it.
+use crate::changed::changed;
 use crate::edges::{first_word, number, wrong};
 use crate::host::Host;
 use crate::texts::shown;
@@ -7,12 +8,13 @@ use std::alloc::Global;
 use std::io;
 use tame_names::{EnvValue, FileFault, Files, Items, Listed, PathKind, ReadAnswer, Text};
 
-fn said(alloc: Global, word: &str) -> io::Result<String> {
+/// A word.
+pub fn said(alloc: Global, word: &str) -> io::Result<String> {
     Ok(String::from_str(alloc, word)?)
 }
 
 /// A fault, with the count of the edge.
-fn fault(alloc: Global, fault: FileFault, faults: u64) -> io::Result<String> {
+pub fn fault(alloc: Global, fault: FileFault, faults: u64) -> io::Result<String> {
     match fault {
         FileFault::NoMemory => said(alloc, "no memory"),
         FileFault::Failed => Ok(format!(in alloc; "fault {faults}")?),
@@ -126,7 +128,7 @@ pub fn asked<'a>(
             let answer = files.current_dir(alloc);
             path(alloc, answer, files.file_faults())
         }
-        _ => Err(wrong(word)),
+        _ => changed(files, alloc, line),
     }
 }
 

@@ -46,6 +46,9 @@ pub fn first_word(line: &str) -> (&str, &str) {
     line.split_once(' ').unwrap_or((line, ""))
 }
 
+/// The url of the index whose entries are written and read.
+const INDEX_URL: &str = "u";
+
 /// The entry of a crate, as another disk over the same folder reads it.
 fn entry(rt: &HostRuntime, name: &str) -> io::Result<String> {
     let alloc = rt.alloc();
@@ -53,9 +56,10 @@ fn entry(rt: &HostRuntime, name: &str) -> io::Result<String> {
         return Err(wrong(name));
     };
     let lock = FileLock::unlocked();
-    let cache = IndexCache::at_path(made(Text::of(alloc, ""))?);
+    let url = made(Text::of(alloc, INDEX_URL))?;
+    let cache = IndexCache::at_path(made(Text::of(alloc, ""))?, url);
     let mut disk = FileCacheDisk::new(rt, "cache");
-    let Ok(Some(IndexEntry::Cache(file))) = cache.cached_krate(alloc, krate, &lock, &mut disk)
+    let Ok(Some(IndexEntry::Cache(file, _url))) = cache.cached_krate(alloc, krate, &lock, &mut disk)
     else {
         return Ok(String::from_str(alloc, "none")?);
     };
@@ -140,7 +144,8 @@ impl<'a> Edges<'a> {
         ) else {
             return Err(wrong(rest));
         };
-        let kept = IndexCache::at_path(made(Text::of(alloc, ""))?).write_to_cache(
+        let url = made(Text::of(alloc, INDEX_URL))?;
+        let kept = IndexCache::at_path(made(Text::of(alloc, ""))?, url).write_to_cache(
             alloc,
             krate,
             CacheWrite::Remote(lines),

@@ -12,8 +12,8 @@ pub struct Plan {
     pub made: Cell<u64>,
     /// The number of the call that fails, from 1; 0 is none.
     pub fails_at: Cell<u64>,
-    /// That it is interrupted in place of failing.
-    pub is_interrupt: Cell<bool>,
+    /// The error that it gives; an interrupt isn't told.
+    pub kind: Cell<ErrorKind>,
     /// The number of the call before which the mirror becomes another one; 0 is none.
     pub turns_at: Cell<u64>,
     /// That each call is told.
@@ -25,7 +25,7 @@ impl Plan {
         Plan {
             made: Cell::new(0),
             fails_at: Cell::new(0),
-            is_interrupt: Cell::new(false),
+            kind: Cell::new(ErrorKind::PermissionDenied),
             turns_at: Cell::new(0),
             is_told: Cell::new(false),
         }
@@ -61,17 +61,13 @@ impl<'a> Host<'a> {
         let fails = number == self.plan.fails_at.get();
         if self.plan.is_told.get() {
             println!(self.rt; "    {name} {path}")?;
-        } else if fails && !self.plan.is_interrupt.get() {
+        } else if fails && self.plan.kind.get() != ErrorKind::Interrupted {
             print!(self.rt; "    {number} {name} {path}: ")?;
         }
         if !fails {
             return Ok(());
         }
-        Err(io::Error::from(if self.plan.is_interrupt.get() {
-            ErrorKind::Interrupted
-        } else {
-            ErrorKind::PermissionDenied
-        }))
+        Err(io::Error::from(self.plan.kind.get()))
     }
 
     /// A recorded file. That it is opened isn't counted.

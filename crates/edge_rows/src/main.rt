@@ -8,7 +8,10 @@
 //! on the cache, `store NAME TAG LINE` and `entry NAME` by the cache's own write and read;
 //! `ask PATH` and `ask PATH naming TAG` on the mirror; `text PATH LIMIT`, `list PATH` and
 //! `kind PATH` on the host's files, `input LIMIT` on its input, `env NAME` on its environment,
-//! `here` on its current folder; `put TEXT` and `put-closed TEXT` on an output. `fault N` is a
+//! `here` on its current folder; `dirs PATH` and `create PATH TEXT`, which make folders and a file;
+//! `lock exclusive PATH` and `lock shared PATH`, which open a file and take its lock, `try-lock` the
+//! same without waiting, `try-lock-beside HOLDER exclusive PATH` while another opening of the file
+//! holds its lock so, `try-lock-nothing PATH` of what isn't open; `put TEXT` and `put-closed TEXT` on an output. `fault N` is a
 //! fault, with the edge's count. After `real` the host is the system itself, for `list`, `kind`,
 //! `env` and `kind-here`, which tells what is at the path of the current folder.
 //!
@@ -17,13 +20,15 @@
 //! In a name that is listed `~` stands for the byte 255. Of the calls that read the entries of a
 //! folder, or the input, the first alone is recorded.
 //!
-//! Before a call: `calls` lists its calls on the system; `fails N` lets the Nth of them fail;
+//! Before a call: `calls` lists its calls on the system; `fails N` lets the Nth of them fail, and
+//! `fails-as KIND N` with another error than a denied permission, `read-only` or `unsupported`;
 //! `each-fails` and `each-interrupted` make the call as often as it has such calls, from the state
 //! that the case's lines led to, and let each of them fail, or be interrupted, in turn;
 //! `each-turned` puts the folder `next` into the mirror's place before each of them in turn.
 #![tactic(auto)]
 
 mod asked;
+mod changed;
 mod edges;
 mod host;
 mod script;

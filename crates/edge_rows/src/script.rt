@@ -1,5 +1,5 @@
 //! The commands of the table.
-use crate::edges::{Edges, first_word, standing};
+use crate::edges::{Edges, first_word, standing, wrong};
 use crate::host::Host;
 use crate::texts::meant;
 use std::fs;
@@ -117,14 +117,14 @@ impl<'a> Script<'a> {
     fn each_interrupted(&mut self, command: &str) -> io::Result<()> {
         let wanted = self.replayed(command, 0)?;
         let calls = self.host.plan.made.get();
-        self.host.plan.is_interrupt.set(true);
+        self.host.plan.kind.set(ErrorKind::Interrupted);
         for number in 1..calls.saturating_add(1) {
             let answer = self.replayed(command, number)?;
             if answer.as_str() != wanted.as_str() {
                 println!(self.host.rt; "    {number}: {answer}")?;
             }
         }
-        self.host.plan.is_interrupt.set(false);
+        self.host.plan.kind.set(ErrorKind::PermissionDenied);
         println!(self.host.rt; "    {calls} calls, each interrupted in turn: {wanted}")
     }
 
@@ -149,25 +149,37 @@ impl<'a> Script<'a> {
         println!(self.host.rt; "{answer}")
     }
 
+    /// Plays a command one of whose calls fails with another error.
+    fn one_fails_as(&mut self, rest: &str) -> io::Result<()> {
+        let (word, rest) = first_word(rest);
+        self.host.plan.kind.set(match word {
+            "read-only" => ErrorKind::ReadOnlyFilesystem,
+            "unsupported" => ErrorKind::Unsupported,
+            _ => return Err(wrong(word)),
+        });
+        self.one_fails(rest)?;
+        self.host.plan.kind.set(ErrorKind::PermissionDenied);
+        Ok(())
+    }
+
+    /// Plays a command where calls on the host fail in some way.
+    fn play_failing(&mut self, word: &str, rest: &str) -> io::Result<()> {
+        match word {
+            "each-fails" => self.each_fails(rest),
+            "each-interrupted" => self.each_interrupted(rest),
+            "each-turned" => self.each_turned(rest),
+            "fails-as" => self.one_fails_as(rest),
+            _ => self.one_fails(rest),
+        }
+    }
+
     fn play(&mut self, line: &str) -> io::Result<()> {
         let rt = self.host.rt;
         let (word, rest) = first_word(line);
         match word {
-            "each-fails" => {
+            "each-fails" | "each-interrupted" | "each-turned" | "fails" | "fails-as" => {
                 println!(rt; "{line}")?;
-                self.each_fails(rest)
-            }
-            "each-interrupted" => {
-                println!(rt; "{line}")?;
-                self.each_interrupted(rest)
-            }
-            "each-turned" => {
-                println!(rt; "{line}")?;
-                self.each_turned(rest)
-            }
-            "fails" => {
-                println!(rt; "{line}")?;
-                self.one_fails(rest)
+                self.play_failing(word, rest)
             }
             "show" => println!(rt; "{line}: {}", standing(rt, rest)?),
             "calls" => {

@@ -7,6 +7,9 @@ use tame_entry::{CacheWrite, HttpRevision, JsonLines, Revision};
 /// The digest that fixture lines have.
 pub const DIGEST: &str = "0000000000000000000000000000000000000000000000000000000000000000";
 
+/// The url of the index whose entries fixtures are.
+pub const INDEX_URL: &str = "sparse+https://index.crates.io/";
+
 /// The index line of a version.
 pub fn index_line(
     alloc: Global,
@@ -27,10 +30,10 @@ pub fn flagged_body(alloc: Global, yanked: bool) -> Result<String, AllocError> {
     Ok(body)
 }
 
-/// The cache entry of a body under a revision. `Unread` where the body's lines aren't objects.
+/// The cache entry of a body under a revision, in the index at `INDEX_URL`. `Unread` where the body's lines aren't objects.
 pub fn entry_of(alloc: Global, body: &[u8], revision: &Revision<'_>) -> Result<Vec<u8>, RowFault> {
     match JsonLines::validate(body) {
-        Ok(lines) => Ok(CacheWrite::Remote(lines).entry(alloc, revision)?),
+        Ok(lines) => Ok(CacheWrite::Remote(lines).entry(alloc, INDEX_URL, revision)?),
         Err(_) => Err(RowFault::Unread),
     }
 }

@@ -17,7 +17,7 @@ pub use hosts::{
     host_with, numbers, stop,
 };
 pub use index_lines::{
-    DIGEST, body_of, entry_of, flagged_body, flagged_entry, index_line, lockfile_of,
+    DIGEST, INDEX_URL, body_of, entry_of, flagged_body, flagged_entry, index_line, lockfile_of,
 };
 pub use revision_words::{RevisionWord, owned_text};
 pub use rows::Row;

@@ -1,5 +1,5 @@
 -- One call more in the record of a disk in memory.
-use Rattle.std.proofs.Common.{◌≡◌, ◌≢◌, inl, inr, ℕ, ◌+◌, ◌-◌, ◌≤◌, min, List, [], ◌∷◌, ◌++◌, length, take, drop, Some, None, Bool, true, false, refl, sym, ◌∙◌, ap, subst, arith, append_assoc, length-append, length-drop, drop-drop}
+use Rattle.std.proofs.Common.{◌≡◌, ◌≢◌, inl, inr, ℕ, ◌+◌, ◌-◌, ◌≤◌, min, List, [], ◌∷◌, ◌++◌, length, take, drop, Some, None, Bool, true, false, cond, refl, sym, ◌∙◌, ap, subst, arith, append_assoc, length-append, length-drop, drop-drop}
 use Rattle.std.specs.Prelude.{option_map, Result, Ok, Err, OnOk, OnErr}
 use Rattle.std.specs.String.{string_bytes}
 use Rattle.std.specs.Str.{bytes_eq}
@@ -101,3 +101,18 @@ told_same f path changed past change now same = rw same refl
 
 pub told_other : {X : Type 0} (f : List Step → X) (path changed : List ℕ) (past : List Step) (change : Change) (now : File) → bytes_eq changed path ≡ false → f (with_change path past changed change now) ≡ f past
 told_other f path changed past change now differs = rw differs refl
+
+-- what a read gives after a change, by the test of its path
+pub reads_with : (path changed : List ℕ) (past : List Step) (change : Change) (now : File) → reads (with_change path past changed change now) ≡ cond (bytes_eq changed path) now (reads past)
+reads_with path changed past change now = go (bytes_eq changed path) refl
+  where
+    go : (b : Bool) → bytes_eq changed path ≡ b → reads (with_change path past changed change now) ≡ cond b now (reads past)
+    go true same = reads_same path changed past change now same
+    go false differs = reads_other path changed past change now differs
+
+-- what was put last is taken off
+pub popped : {A : Type 0} (xs ys zs : List A) (x : A) (n : ℕ) → zs ≡ take (n - 1) xs → xs ≡ ys ++ x ∷ [] → length xs ≡ n → zs ≡ ys
+popped xs ys zs x n taken is count =
+    let whole : length xs ≡ length ys + 1 = ap length is ∙ length-append ys (x ∷ []) in
+    let left : length ys ≡ n - 1 = omega arith in
+    taken ∙ ap (take (n - 1)) is ∙ take_at ys (x ∷ []) (n - 1) left

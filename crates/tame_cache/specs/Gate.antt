@@ -1,13 +1,18 @@
 -- What the steps of a write keep of a cache file (this project).
-use Rattle.std.specs.Prelude.{◌≡◌, ◌≢◌, ℕ, ◌≤◌, List, ◌∷◌, length, Some, None, IsErr}
+use Rattle.std.specs.Prelude.{◌≡◌, ◌≢◌, ◌⊎◌, ℕ, ◌≤◌, List, ◌∷◌, length, Some, None, IsErr}
 use Rattle.tame_entry.specs.Entry.{read_entry}
 use Rattle.tame_cache.specs.Disk.{File, Step, content, first_of, reads, may_leave, IsAlone}
 use Rattle.tame_cache.specs.declared.disk.Peek.{Peek}
 
--- no readable entry: there is no file, or its bytes are refused
+-- no readable entry: there is no file, or its bytes are refused, whatever the index
 abbrev pub IsUnreadable : File → Type 0
 IsUnreadable None = Unit {0}
-IsUnreadable (Some bytes) = IsErr (read_entry bytes)
+IsUnreadable (Some bytes) = (index : List ℕ) → IsErr (read_entry index bytes)
+
+-- what a crash may leave of a file while an entry of these bytes is stored: one that it could leave
+-- before, an unreadable one, or the whole entry
+abbrev pub MayStore : List Step → List ℕ → File → Type 0
+MayStore past bytes file = may_leave past file ⊎ (IsUnreadable file ⊎ (file ≡ Some bytes))
 
 -- where a read finds no file, a crash leaves none, or one of at most one byte
 abbrev pub IsOrderly : List Step → Type 0
@@ -20,6 +25,10 @@ pub record IsSettled (seen : Peek) (past : List Step) : Type 0 where
 
 abbrev pub BeginsWithZero : File → Type 0
 BeginsWithZero file = (rest : List ℕ) × (file ≡ Some (0 ∷ rest))
+
+-- byte 0 stands first in each file that a crash may leave
+abbrev pub IsShut : List Step → Type 0
+IsShut past = (file : File) → may_leave past file → BeginsWithZero file
 
 -- the gate is closed: byte 0 stands first, and a crash leaves no other file
 pub record IsClosed (past : List Step) : Type 0 where

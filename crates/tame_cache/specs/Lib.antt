@@ -1,9 +1,11 @@
 pub mod CacheFiles
 pub mod Calls
+pub mod Changes
 pub mod Counting
 pub mod Disk
 pub mod Faults
 pub mod Folders
 pub mod Gate
 pub mod Kept
+pub mod LaidPieces
 pub mod MemoryDisk

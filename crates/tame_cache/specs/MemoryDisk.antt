@@ -6,7 +6,7 @@ use Rattle.tame_cache.specs.Disk.{File, IsAlone, Step, Wrote, WasCut, Synced, ma
 use Rattle.tame_cache.specs.Calls.{past_of}
 
 abbrev pub past_in : MemCacheDisk → List ℕ → List Step
-past_in disk path = past_of path [] disk.calls.items
+past_in disk path = past_of path [] disk.changes
 
 -- the paths above which folders were made
 abbrev pub folders_in : MemCacheDisk → List (List ℕ)
@@ -21,16 +21,16 @@ lost (Wrote at n now ∷ older) = lost older
 lost (WasCut len now ∷ older) = lost older
 lost (Synced now ∷ older) = now
 
--- a range of threes at a place; behind the end there is none
-abbrev pub with_threes : ℕ → ℕ → File → File
-with_threes at n None = if at == 0 then Some (replicate n 3) else None
-with_threes at n (Some bytes) =
-    if nat_le at (length bytes) then Some (with_piece bytes at (replicate n 3)) else Some bytes
+-- a range of fours at a place; behind the end there is none
+abbrev pub with_fours : ℕ → ℕ → File → File
+with_fours at n None = if at == 0 then Some (replicate n 4) else None
+with_fours at n (Some bytes) =
+    if nat_le at (length bytes) then Some (with_piece bytes at (replicate n 4)) else Some bytes
 
--- each byte that was written since the last sync is a three
+-- each byte that was written since the last sync is a four
 abbrev pub spoiled : List Step → File
 spoiled [] = None
-spoiled (Wrote at n now ∷ older) = with_threes at n (spoiled older)
+spoiled (Wrote at n now ∷ older) = with_fours at n (spoiled older)
 spoiled (WasCut len now ∷ older) = option_map (take len) (spoiled older)
 spoiled (Synced now ∷ older) = now
 
@@ -45,7 +45,7 @@ pending (Synced now ∷ older) = 0
 abbrev pub half : List Step → File
 half past = reads (drop (pending past - pending past / 2) past)
 
--- 0 as after the last sync, 1 as a read gives, 2 with threes, else the first half
+-- 0 as after the last sync, 1 as a read gives, 2 with fours, else the first half
 abbrev pub picked : ℕ → List Step → File
 picked pick past =
     if pick == 0 then lost past

@@ -1,6 +1,6 @@
 //! The changes of a disk in memory, in their order, and what a read gives after them.
 ghost use Rattle.std.specs.Prelude.{◌≡◌, ◌≤◌, ◌++◌, ℕ, List, [], length, take, IfOk, OnOk, OnErr, option_map, option_copied};
-ghost use Rattle.tame_cache.specs.Calls.{file_of, past_of, with_change};
+ghost use Rattle.tame_cache.specs.Calls.{file_of, past_of};
 ghost use Rattle.tame_cache.specs.Disk.{content, reads, with_piece};
 
 use std::alloc::{AllocError, Global};
@@ -34,11 +34,11 @@ pub fn current<'a>(calls: &'a [Call], path: &str) -> Option<&'a Vec<u8>>
     found
 }
 
-/// The bytes that a read of a path gives; none where there is no file.
-pub fn current_content<'a>(calls: &'a [Call], path: &str) -> &'a [u8]
-    ensures { result.now ≡ content (reads (past_of path.now [] calls.now)) }
+/// The bytes of a file; none where there is no file.
+pub fn content_of<'a>(file: Option<&'a Vec<u8>>) -> &'a [u8]
+    ensures { result.now ≡ content (file_of (option_copied file.entry)) }
 {
-    match current(calls, path) {
+    match file {
         None => &[],
         Some(bytes) => bytes.as_slice(),
     }
@@ -81,26 +81,4 @@ pub fn front_of(
         Some(bytes) if len < bytes.len() as u64 => Ok(Some(bytes[..len as usize].to_vec(alloc)?)),
         Some(bytes) => Ok(Some(bytes.to_vec(alloc)?)),
     }
-}
-
-/// Adds a change of the file of a path, which left this file.
-pub fn add_call(
-    alloc: Global,
-    calls: &mut Vec<Call>,
-    path: &str,
-    change: Change,
-    now: Option<Vec<u8>>,
-) -> Result<(), AllocError>
-    ensures noted { OnOk result ((q : List ℕ)
-        → past_of q [] calls.new.items
-        ≡ with_change q (past_of q [] calls.old.items) path.now change (file_of now)) }
-    ensures same { OnErr result (calls.new.items ≡ calls.old.items) }
-{
-    let path = String::from_str(alloc, path)?;
-    calls.push(Call {
-        path,
-        change,
-        file: now,
-    })?;
-    Ok(())
 }

@@ -4,7 +4,7 @@ ghost use Rattle.tame_cache.specs.Disk.{File, Step};
 ghost use Rattle.tame_cache.specs.Calls.{file_of, past_of, step_of};
 ghost use Rattle.tame_cache.specs.MemoryDisk as spec;
 
-use crate::calls::{Call, Change, add_call, copy_of, current, front_of, with_bytes};
+use crate::calls::{Call, Change, copy_of, current, front_of, with_bytes};
 use crate::memory_disk::MemCacheDisk;
 use std::alloc::{AllocError, Global};
 use tame_names::NoMemory;
@@ -35,26 +35,26 @@ fn lost<'a>(calls: &'a [Call], path: &str) -> Option<&'a Vec<u8>>
     found
 }
 
-/// A file with a range of threes.
-fn with_threes(
+/// A file with a range of fours.
+fn with_fours(
     alloc: Global,
     file: Option<Vec<u8>>,
     at: u64,
     len: u64,
 ) -> Result<Option<Vec<u8>>, AllocError>
-    ensures { IfOk result (λ next. file_of next ≡ spec.with_threes at len (file_of file)) }
+    ensures { IfOk result (λ next. file_of next ≡ spec.with_fours at len (file_of file)) }
 {
-    let threes = vec![in alloc; 3u8; len as usize]?;
+    let fours = vec![in alloc; 4u8; len as usize]?;
     match file {
-        None if at == 0 => Ok(Some(threes)),
+        None if at == 0 => Ok(Some(fours)),
         Some(bytes) if at <= bytes.len() as u64 => {
-            Ok(Some(with_bytes(alloc, &bytes, at as usize, &threes)?))
+            Ok(Some(with_bytes(alloc, &bytes, at as usize, &fours)?))
         }
         same => Ok(same),
     }
 }
 
-/// A file after one change more, where what is written is threes.
+/// A file after one change more, where what is written is fours.
 fn after_spoiled(
     alloc: Global,
     file: Option<Vec<u8>>,
@@ -65,12 +65,12 @@ fn after_spoiled(
 {
     match call.change {
         Change::Sync => copy_of(alloc, call.file.as_ref()),
-        Change::Write(at, len) => with_threes(alloc, file, at, len),
+        Change::Write(at, len) => with_fours(alloc, file, at, len),
         Change::Cut(len) => front_of(alloc, file.as_ref(), len),
     }
 }
 
-/// The file with threes in place of what was written since its last sync.
+/// The file with fours in place of what was written since its last sync.
 fn spoiled(alloc: Global, calls: &[Call], path: &str) -> Result<Option<Vec<u8>>, AllocError>
     ensures { IfOk result (λ file. file_of file ≡ spec.spoiled (past_of path.now [] calls.now)) }
 {
@@ -149,17 +149,17 @@ impl MemCacheDisk {
     ghost use Rattle.tame_cache.specs.MemoryDisk as spec;
 
     /// The disk after a crash, with nothing pending and no call that is to fail. Each file is, by
-    /// the pick, 0 as after its last sync, 1 as a read gives, 2 with threes in place of what was
+    /// the pick, 0 as after its last sync, 1 as a read gives, 2 with fours in place of what was
     /// written since its last sync, else with the first half of the changes since then.
     pub fn after_crash(self, alloc: Global, pick: u8) -> Result<MemCacheDisk, NoMemory>
         ensures crashed { IfOk result (λ disk. (q : List ℕ) → IsCrashed pick q self disk) }
         ensures fresh { IfOk result (λ disk. IsFresh disk) }
     {
         let mut next = MemCacheDisk::new(alloc, Vec::new(alloc));
-        for call in &self.calls {
+        for call in self.changes.as_slice() {
             let path = call.path.as_str();
-            let file = picked(alloc, &self.calls, path, pick)?;
-            add_call(alloc, &mut next.calls, path, Change::Sync, file)?;
+            let file = picked(alloc, self.changes.as_slice(), path, pick)?;
+            next.changes.add(alloc, path, Change::Sync, file)?;
         }
         Ok(next)
     }

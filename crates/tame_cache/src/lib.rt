@@ -14,6 +14,7 @@
 
 mod cache;
 mod calls;
+mod changes;
 mod counting;
 mod crashing;
 mod disk;
@@ -23,11 +24,14 @@ mod laying;
 mod memory_disk;
 mod settling;
 mod storing;
+mod writing;
 
 pub use cache::{CacheFault, IndexCache, Kept};
 pub use disk::{CacheDisk, DiskFault, DiskReadFault, Peek};
 pub use gating::{close, open_gate};
-pub use laws::{empty_is_kept, histories_keep, kept_for_more};
-pub use laying::lay;
+pub use laws::{
+    empty_is_kept, histories_keep, kept_for_more, refused_is_kept, shared_folders_stay_kept,
+};
+pub use laying::{lay, lay_lines, lay_piece};
 pub use memory_disk::MemCacheDisk;
 pub use settling::settle;

@@ -8,9 +8,8 @@ ghost use Rattle.tame_cache.specs.Disk.{Step, Synced, Wrote, MayCut, MaySync, Ma
 ghost use Rattle.tame_cache.specs.Folders.{MakesOnly};
 ghost use Rattle.tame_cache.specs.Calls.{file_of, past_of, with_change};
 
-use crate::calls::{
-    Call, Change, add_call, copy_of, current, current_content, front_of, with_bytes,
-};
+use crate::calls::{Change, content_of, copy_of, front_of, with_bytes};
+use crate::changes::Changes;
 use crate::counting::Counts;
 use crate::disk::{CacheDisk, DiskFault, DiskReadFault, Peek};
 use std::alloc::{AllocError, Global};
@@ -21,7 +20,7 @@ use tame_names::NoMemory;
 #[derive(Drop)]
 pub struct MemCacheDisk {
     alloc: Global,
-    pub(crate) calls: Vec<Call>,
+    pub(crate) changes: Changes,
     folders: Vec<String>,
     tears: bool,
     counts: Counts,
@@ -43,7 +42,7 @@ impl MemCacheDisk {
     {
         MemCacheDisk {
             alloc,
-            calls: Vec::new(alloc),
+            changes: Changes::new(alloc),
             folders: Vec::new(alloc),
             tears: false,
             counts: Counts {
@@ -77,9 +76,9 @@ impl MemCacheDisk {
         now: Option<Vec<u8>>,
     ) -> Result<(), DiskFault>
         ensures noted { OnOk result ((q : List ℕ)
-            → past_of q [] self.new.calls.items
-            ≡ with_change q (past_of q [] self.old.calls.items) path.now change (file_of now)) }
-        ensures same { OnErr result (self.new.calls.items ≡ self.old.calls.items) }
+            → past_of q [] self.new.changes
+            ≡ with_change q (past_of q [] self.old.changes) path.now change (file_of now)) }
+        ensures same { OnErr result (self.new.changes ≡ self.old.changes) }
         ensures folders { self.new.folders ≡ self.old.folders }
         ensures tears { self.new.tears ≡ self.old.tears }
         ensures counted { OnOk result (self.new.counts ≡ self.old.counts) }
@@ -89,7 +88,7 @@ impl MemCacheDisk {
         ensures failing { self.new.counts.failing ≡ self.old.counts.failing }
         ensures stop { self.new.counts.stop ≡ self.old.counts.stop }
     {
-        match add_call(self.alloc, &mut self.calls, path, change, now) {
+        match self.changes.add(self.alloc, path, change, now) {
             Ok(()) => Ok(()),
             Err(_) => Err(self.counts.starve()),
         }
@@ -106,7 +105,7 @@ impl MemCacheDisk {
         ensures tears { self.new.tears ≡ self.old.tears }
     {
         let now = bytes.to_vec(alloc)?;
-        Ok(add_call(alloc, &mut self.calls, path, Change::Sync, Some(now))?)
+        Ok(self.changes.add(alloc, path, Change::Sync, Some(now))?)
     }
 
     /// The n-th call from now and all later ones fail; 0 is as 1.
@@ -157,7 +156,7 @@ impl MemCacheDisk {
         ensures failing { self.new.counts.failing ≡ self.old.counts.failing }
         ensures stop { self.new.counts.stop ≡ self.old.counts.stop }
     {
-        let old = current_content(&self.calls, path);
+        let old = content_of(self.changes.current(path));
         if at > old.len() as u64 {
             return Err(self.counts.fail());
         }
@@ -176,7 +175,7 @@ impl MemCacheDisk {
         ensures tears { self.new.tears ≡ self.old.tears }
         ensures counts { self.new.counts ≡ self.old.counts }
     {
-        let old = current_content(&self.calls, path);
+        let old = content_of(self.changes.current(path));
         if at > old.len() as u64 {
             return;
         }
@@ -185,7 +184,7 @@ impl MemCacheDisk {
         match with_bytes(self.alloc, old, at as usize, front) {
             Ok(now) => {
                 let change = Change::Write(at, len);
-                let _noted = add_call(self.alloc, &mut self.calls, path, change, Some(now));
+                let _noted = self.changes.add(self.alloc, path, change, Some(now));
             }
             Err(_) => {}
         }
@@ -197,7 +196,7 @@ impl CacheDisk for MemCacheDisk {
 
     ghost tells = { ⊤ };
 
-    ghost past = { λ disk path. past_of path [] disk.calls.items };
+    ghost past = { λ disk path. past_of path [] disk.changes };
 
     ghost folders = { λ disk. map (λ path. string_bytes path) disk.folders.items };
 
@@ -221,7 +220,7 @@ impl CacheDisk for MemCacheDisk {
         ensures only { OnErr result (IsToFail self.old.counts) }
     {
         self.counts.begin()?;
-        Ok(match current(&self.calls, path) {
+        Ok(match self.changes.current(path) {
             None => Peek::Absent,
             Some(bytes) => match bytes.first() {
                 None => Peek::Empty,
@@ -245,7 +244,7 @@ impl CacheDisk for MemCacheDisk {
         if self.counts.begin().is_err() {
             return Err(DiskReadFault::Failed);
         }
-        match current(&self.calls, path) {
+        match self.changes.current(path) {
             None => Ok(None),
             Some(bytes) => match bytes.to_vec(alloc) {
                 Ok(bytes) => Ok(Some(bytes)),
@@ -317,7 +316,7 @@ impl CacheDisk for MemCacheDisk {
             ⊎ RanOutOfMemory self.old.counts self.new.counts) }
     {
         self.counts.begin()?;
-        match front_of(self.alloc, current(&self.calls, path), len) {
+        match front_of(self.alloc, self.changes.current(path), len) {
             Ok(now) => self.record_change(path, Change::Cut(len), now),
             Err(_) => Err(self.counts.starve()),
         }
@@ -337,7 +336,7 @@ impl CacheDisk for MemCacheDisk {
             ⊎ RanOutOfMemory self.old.counts self.new.counts) }
     {
         self.counts.begin()?;
-        match copy_of(self.alloc, current(&self.calls, path)) {
+        match copy_of(self.alloc, self.changes.current(path)) {
             Ok(now) => self.record_change(path, Change::Sync, now),
             Err(_) => Err(self.counts.starve()),
         }

@@ -1,21 +1,22 @@
 -- An entry is read as the revision and the lines that it was made of.
 use Rattle.std.proofs.Common.{◌≡◌, ℕ, zero, suc, ◌<◌, ◌≤◌, lit<, length-append, List, [], ◌∷◌, ◌++◌, Bool, true, false, not, cond, length, map, Option, Some, None, IsTrue, refl, sym, ap, ◌∙◌, subst, codes, arith, append_assoc}
-use Rattle.std.specs.Prelude.{◌==◌, ◌&&◌, nat_le, nat_lt, flat_map, unwrap_or, Result, Ok, Err}
+use Rattle.std.specs.Prelude.{◌==◌, ◌&&◌, nat_le, nat_lt, bytes_eq, flat_map, unwrap_or, Result, Ok, Err, IsErr}
 use Rattle.std.specs.Char.{is_ascii_hexdigit}
 use Rattle.std.specs.List.{list_all}
 use Rattle.std.specs.Str.{IsAscii, IsUtf8, is_utf8}
 use Rattle.std.proofs.lemmas.Bool.Decides.{nat_tests}
+use Rattle.std.proofs.lemmas.Slice.Eq.{bytes_eq-Decides}
 use Rattle.std.proofs.lemmas.Str.{IsUtf8-append, IsUtf8-from_ascii, IsUtf8-from_is_utf8, is_utf8-from_IsUtf8}
 use Rattle.tame_names.specs.Pieces.{onto_first, pieces}
 use Rattle.tame_names.specs.Utf8.{utf8_text}
 use Rattle.tame_names.specs.declared.errors.CacheError.{CacheError}
-use Rattle.tame_names.specs.declared.errors.CacheError.TheVariants.{InvalidCacheEntry}
+use Rattle.tame_names.specs.declared.errors.CacheError.TheVariants.{InvalidCacheEntry, OtherIndex, OutdatedCacheVersion, UnknownCacheVersion}
 use Rattle.tame_names.proofs.Utf8Lemmas.{utf8_text-utf8}
 use Rattle.tame_records.specs.Checksums.{first_bad_digit}
 use Rattle.tame_records.specs.Lines.{lines, trimmed}
 use Rattle.tame_entry.specs.Lines.{plain, valid}
 use Rattle.tame_entry.specs.Commits.{is_commit}
-use Rattle.tame_entry.specs.Entry.{Pair, ReadEntry, entry, has_no_zero, first_part, head, later_parts, lines_in, pair_bytes, pair_of, pairs, read_entry, read_parts, read_text, second_pieces, with_revision}
+use Rattle.tame_entry.specs.Entry.{Pair, ReadEntry, entry, has_no_zero, first_part, head, later_parts, lines_in, pair_bytes, pair_of, pairs, read_entry, read_number, read_parts, read_revision, read_text, second_pieces, with_revision}
 use Rattle.tame_entry.specs.Prefixes.{without_prefix}
 use Rattle.tame_entry.specs.Raw.{cut_at, raw_version}
 use Rattle.tame_entry.specs.Revision.{EntryRevision, Http, Commit, Unknown, IsFormed, IsRevision, date_or, entry_text, etag_or, is_honest_text, revision_of, unnamed_revision}
@@ -133,25 +134,70 @@ not_both t e r h = rw h refl
 four : (n : ℕ) → 4 ≤ n → nat_lt n 4 ≡ false
 four n h = grind (arith, nat_tests)
 
-pub head_read : (rest : List ℕ) → read_entry (head ++ rest) ≡ read_parts rest
-head_read rest = not_both (nat_lt (length (2 ∷ 0 ∷ 0 ∷ 0 ∷ rest)) 4) _ _ (four _ (omega arith))
+pub head_read : (index rest : List ℕ) → read_entry index (head ++ rest) ≡ read_parts index rest
+head_read index rest = not_both (nat_lt (length (2 ∷ 0 ∷ 0 ∷ 0 ∷ rest)) 4) _ _ (four _ (omega arith))
+
+-- what stands behind a url is read where the url is that of the index
+url_read : (index url rest : List ℕ) → NoZero url → read_parts index (url ++ 0 ∷ rest) ≡ cond (bytes_eq url index) (read_revision rest) (Err OtherIndex)
+url_read index url rest whole =
+    let bytes : List ℕ = url ++ 0 ∷ rest in
+    let cut : cut_at 0 bytes ≡ Some (url, rest) = cut_end url rest whole in
+    let first : first_part bytes ≡ url = ap (λ (o : Option (List ℕ × List ℕ)). (unwrap_or o (bytes, [])).0) cut in
+    let later : later_parts bytes ≡ rest = ap (λ (o : Option (List ℕ × List ℕ)). (unwrap_or o (bytes, [])).1) cut in
+    not_both _ _ _ (some_bytes url rest)
+    ∙ ap (λ (xs : List ℕ). cond (bytes_eq xs index) (read_revision (later_parts bytes)) (Err OtherIndex)) first
+    ∙ ap (λ (xs : List ℕ). cond (bytes_eq url index) (read_revision xs) (Err OtherIndex)) later
+
+same_url : (url : List ℕ) → bytes_eq url url ≡ true
+same_url url = (bytes_eq-Decides url url).1 refl
+
+either_url : (t : Bool) (same other : Result ReadEntry CacheError) → t ≡ true → cond t same other ≡ same
+either_url t same other h = rw h refl
+
+pub index_read : (index rest : List ℕ) → NoZero index → read_entry index (head ++ index ++ 0 ∷ rest) ≡ read_revision rest
+index_read index rest whole =
+    head_read index (index ++ 0 ∷ rest) ∙ url_read index index rest whole ∙ either_url (bytes_eq index index) _ _ (same_url index)
+
+not_same : (t : Bool) → (t ≡ true → ⊥) → t ≡ false
+not_same true h = absurd (h refl)
+not_same false h = refl
+
+-- what begins with another url is refused
+pub other_url : (index url rest : List ℕ) → NoZero url → (url ≡ index → ⊥) → read_entry index (head ++ (url ++ 0 ∷ rest)) ≡ Err OtherIndex
+other_url index url rest whole other =
+    head_read index (url ++ 0 ∷ rest) ∙ url_read index url rest whole
+    ∙ not_both (bytes_eq url index) _ _ (not_same (bytes_eq url index) (λ h. other ((bytes_eq-Decides url index).0 h)))
+
+-- and so is each file with another first byte
+pub other_version : (index : List ℕ) (first : ℕ) (rest : List ℕ) → (first ≡ 4 → ⊥) → IsErr (read_entry index (first ∷ rest))
+other_version index first rest other = go (nat_lt first 4) (nat_lt 4 first) refl refl
+  where
+    go : (below above : Bool) → nat_lt first 4 ≡ below → nat_lt 4 first ≡ above → IsErr (cond below (Err OutdatedCacheVersion) (cond above (Err UnknownCacheVersion) (read_number index rest)))
+    go true above b a = refl
+    go false true b a = refl
+    go false false b a = absurd (other (grind (arith, nat_tests)))
+
+-- and so is the entry of another index
+pub other_index : (index url : List ℕ) (r : EntryRevision) (ps : List Pair) → NoZero url → (url ≡ index → ⊥) → read_entry index (entry url r ps) ≡ Err OtherIndex
+other_index index url r ps whole other = other_url index url (entry_text r ++ 0 ∷ flat_map pair_bytes ps) whole other
 
 abbrev Made : EntryRevision → List (List ℕ) → ReadEntry
 Made r ls = record { revision = r; versions = flat_map pair_bytes (map pair_of ls) }
 
-pub entry_read : (r : EntryRevision) (l : List ℕ) (ls : List (List ℕ)) → IsRevision r → NoZero (entry_text r) → NoneZero (l ∷ ls) → read_entry (entry r (map pair_of (l ∷ ls))) ≡ Ok (Made r (l ∷ ls))
-entry_read r l ls formed text_whole whole =
+pub entry_read : (index : List ℕ) (r : EntryRevision) (l : List ℕ) (ls : List (List ℕ)) → NoZero index → IsRevision r → NoZero (entry_text r) → NoneZero (l ∷ ls)
+    → read_entry index (entry index r (map pair_of (l ∷ ls))) ≡ Ok (Made r (l ∷ ls))
+entry_read index r l ls url_whole formed text_whole whole =
     let text = entry_text r in
     let versions = flat_map pair_bytes (map pair_of (l ∷ ls)) in
     let cut : cut_at 0 (text ++ 0 ∷ versions) ≡ Some (text, versions) = cut_end text versions text_whole in
     let first : first_part (text ++ 0 ∷ versions) ≡ text = ap (λ (o : Option (List ℕ × List ℕ)). (unwrap_or o (text ++ 0 ∷ versions, [])).0) cut in
     let later : later_parts (text ++ 0 ∷ versions) ≡ versions = ap (λ (o : Option (List ℕ × List ℕ)). (unwrap_or o (text ++ 0 ∷ versions, [])).1) cut in
     let utf8 : utf8_text (first_part (text ++ 0 ∷ versions)) ≡ Some text = ap utf8_text first ∙ utf8_text-utf8 text (text_utf8 r formed) in
-    let parts : read_parts (text ++ 0 ∷ versions) ≡ Ok (Made r (l ∷ ls)) =
+    let parts : read_revision (text ++ 0 ∷ versions) ≡ Ok (Made r (l ∷ ls)) =
     not_both _ _ _ (some_bytes text versions)
     ∙ ap (λ o. read_text o (later_parts (text ++ 0 ∷ versions))) utf8 ∙ ap (read_text (Some text)) later
     ∙ not_both _ _ _ (two_pieces l ls whole) ∙ ap (λ o. with_revision o versions) (revision_back r formed) in
-    head_read (text ++ 0 ∷ versions) ∙ parts
+    index_read index (text ++ 0 ∷ versions) url_whole ∙ parts
 
 -- ---- plain bodies
 
@@ -186,12 +232,12 @@ plain_lines body h = lines_zero body (plain_parts (valid body) (has_no_zero body
 pub lines_back : (body : List ℕ) → plain body ≡ true → lines_in (flat_map pair_bytes (pairs body)) ≡ lines body
 lines_back body h = pieces_paired (lines body) (plain_lines body h)
 
-pub body_read : (r : EntryRevision) (body : List ℕ) → IsRevision r → NoZero (entry_text r) → plain body ≡ true
-    → read_entry (entry r (pairs body)) ≡ Ok (record { revision = r; versions = flat_map pair_bytes (pairs body) })
-body_read r body formed text_whole h =
+pub body_read : (index : List ℕ) (r : EntryRevision) (body : List ℕ) → NoZero index → IsRevision r → NoZero (entry_text r) → plain body ≡ true
+    → read_entry index (entry index r (pairs body)) ≡ Ok (record { revision = r; versions = flat_map pair_bytes (pairs body) })
+body_read index r body url_whole formed text_whole h =
     let some = some_line body (trimmed body) refl (plain_valid body h) in
     let whole : NoneZero (some.0 ∷ some.1) = subst NoneZero some.2 (plain_lines body h) in
-    ap (λ (ls : List (List ℕ)). read_entry (entry r (map pair_of ls))) some.2 ∙ entry_read r some.0 some.1 formed text_whole whole
+    ap (λ (ls : List (List ℕ)). read_entry index (entry index r (map pair_of ls))) some.2 ∙ entry_read index r some.0 some.1 url_whole formed text_whole whole
     ∙ ap (λ (ls : List (List ℕ)). Ok (Made r ls)) (sym some.2)
 
 -- ---- the revision that an entry is read under
@@ -205,19 +251,19 @@ read_case false r versions e h = sym (ap revision_or h)
     revision_or (Err f) = Unknown
 
 -- an entry that is readable has the revision that it was made under
-pub entry_revision : (r : EntryRevision) (ps : List Pair) (e : ReadEntry) → IsRevision r → NoZero (entry_text r) → read_entry (entry r ps) ≡ Ok e → e.revision ≡ r
-entry_revision r ps e formed text_whole h =
+pub entry_revision : (index : List ℕ) (r : EntryRevision) (ps : List Pair) (e : ReadEntry) → NoZero index → IsRevision r → NoZero (entry_text r) → read_entry index (entry index r ps) ≡ Ok e → e.revision ≡ r
+entry_revision index r ps e url_whole formed text_whole h =
     let text = entry_text r in
     let versions = flat_map pair_bytes ps in
     let cut : cut_at 0 (text ++ 0 ∷ versions) ≡ Some (text, versions) = cut_end text versions text_whole in
     let first : first_part (text ++ 0 ∷ versions) ≡ text = ap (λ (o : Option (List ℕ × List ℕ)). (unwrap_or o (text ++ 0 ∷ versions, [])).0) cut in
     let later : later_parts (text ++ 0 ∷ versions) ≡ versions = ap (λ (o : Option (List ℕ × List ℕ)). (unwrap_or o (text ++ 0 ∷ versions, [])).1) cut in
     let utf8 : utf8_text (first_part (text ++ 0 ∷ versions)) ≡ Some text = ap utf8_text first ∙ utf8_text-utf8 text (text_utf8 r formed) in
-    let parts : read_parts (text ++ 0 ∷ versions) ≡ cond (nat_lt (length (pieces 0 versions)) 2) (Err InvalidCacheEntry) (Ok (record { revision = r; versions = versions })) =
+    let parts : read_revision (text ++ 0 ∷ versions) ≡ cond (nat_lt (length (pieces 0 versions)) 2) (Err InvalidCacheEntry) (Ok (record { revision = r; versions = versions })) =
     not_both _ _ _ (some_bytes text versions)
     ∙ ap (λ o. read_text o (later_parts (text ++ 0 ∷ versions))) utf8 ∙ ap (read_text (Some text)) later
     ∙ ap (λ o. cond (nat_lt (length (pieces 0 versions)) 2) (Err InvalidCacheEntry) (with_revision o versions)) (revision_back r formed) in
-    read_case (nat_lt (length (pieces 0 versions)) 2) r versions e (sym parts ∙ sym (head_read (text ++ 0 ∷ versions)) ∙ h)
+    read_case (nat_lt (length (pieces 0 versions)) 2) r versions e (sym parts ∙ sym (index_read index (text ++ 0 ∷ versions) url_whole) ∙ h)
 
 -- honest text is UTF-8 without a zero byte
 honest_low : (b : ℕ) → (nat_le 32 b && nat_le b 126) ≡ true → nat_lt b 128 ≡ true

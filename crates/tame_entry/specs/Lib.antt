@@ -2,6 +2,7 @@ pub mod Bare
 pub mod Commits
 pub mod Config
 pub mod Entry
+pub mod EntryParts
 pub mod ServerMaps
 pub mod IndexEntries
 pub mod Joined
@@ -15,3 +16,4 @@ pub mod Revision
 pub mod RevisionNames
 pub mod VersionStatuses
 pub mod Scan
+pub mod Scannable

@@ -1,16 +1,18 @@
 //! Laws of entries, over their definitions.
-ghost use Rattle.std.specs.Prelude.{◌≡◌, ◌≢◌, ◌↔◌, ◌++◌, ℕ, codes, List, IsTrue, Ok, Some, None, flat_map, map, true, false};
+ghost use Rattle.std.specs.Prelude.{◌≡◌, ◌≢◌, ◌↔◌, ◌∷◌, ◌++◌, ◌&&◌, ℕ, codes, List, IsErr, IsTrue, Option, Ok, Err, Some, None, flat_map, map, true, false};
 ghost use Rattle.std.specs.List.{list_any};
+ghost use Rattle.std.specs.Result.{result_ok};
 ghost use Rattle.std.specs.Str.{IsUtf8, is_utf8, str_to_ascii_lowercase};
 ghost use Rattle.semver.specs.Parse.{Parts, version_parts};
 ghost use Rattle.tame_names.specs.Names.{is_name, prefix};
+ghost use Rattle.tame_names.specs.declared.errors.CacheError.TheVariants.{OtherIndex};
 ghost use Rattle.tame_names.specs.Pieces.{pieces};
 ghost use Rattle.tame_records.specs.Lines.{lines};
-ghost use Rattle.tame_records.specs.Written.{HasForm, line};
+ghost use Rattle.tame_records.specs.Written.{line};
 ghost use Rattle.tame_records.specs.declared.versions.IndexVersion.{IndexVersion};
-ghost use Rattle.tame_entry.specs.Bare.{is_bare, is_bare_or_absent};
+ghost use Rattle.tame_entry.specs.Bare.{is_bare};
 ghost use Rattle.tame_entry.specs.Config.{download_url, with_slash, filled, is_brace, slash};
-ghost use Rattle.tame_entry.specs.Entry.{ReadEntry, entry, has_no_zero, lines_in, pair_bytes, pairs, read_entry};
+ghost use Rattle.tame_entry.specs.Entry.{Pair, ReadEntry, entry, has_no_zero, head, lines_in, pair_bytes, pairs, read_entry};
 ghost use Rattle.tame_entry.specs.IndexEntries.{version_text};
 ghost use Rattle.tame_entry.specs.Joined.{AreParts, IsEntryOf};
 ghost use Rattle.tame_entry.specs.Krates.{items_of_file, krate_of_file, krate_of_lines};
@@ -19,14 +21,16 @@ ghost use Rattle.tame_entry.specs.Markers.{EndsNoMarker};
 ghost use Rattle.tame_entry.specs.Raw.{raw_version};
 ghost use Rattle.tame_entry.specs.Revision.{EntryRevision, IsFormed, IsRevision, entry_text, revision_of, unnamed_revision};
 ghost use Rattle.tame_entry.specs.RevisionNames.{IsUnsplit, revision_named};
-ghost use Rattle.tame_entry.specs.Scan.{line_flag};
+ghost use Rattle.tame_entry.specs.Scan.{line_flag, scanned};
+ghost use Rattle.tame_entry.specs.Scannable.{IsScannable, IsTextOf, is_clear_behind};
 
-/// The entry of a plain body under a revision without a zero byte is readable, with that revision
-/// and the lines of the body.
+/// The entry of a plain body under a revision without a zero byte is readable for its index, whose
+/// url has no zero byte, with that revision and the lines of the body.
 pub fn entries_read_back()
-    ensures read { (r : EntryRevision) (body : List ℕ) → IsRevision r
+    ensures read { (index : List ℕ) (r : EntryRevision) (body : List ℕ)
+        → IsTrue (has_no_zero index) → IsRevision r
         → IsTrue (has_no_zero (entry_text r)) → IsTrue (plain body)
-        → read_entry (entry r (pairs body)) ≡ Ok (record {
+        → read_entry index (entry index r (pairs body)) ≡ Ok (record {
           revision = r;
           versions = flat_map pair_bytes (pairs body);
         }) }
@@ -34,23 +38,42 @@ pub fn entries_read_back()
         → lines_in (flat_map pair_bytes (pairs body)) ≡ lines body }
 {}
 
+/// Nothing is believed that isn't of the index and of this version: the entry of another index is
+/// refused; so is a file in which another text stands first, as a revision's does where an entry was
+/// of the version before, whatever became of its first byte; and so is each file with another first
+/// byte.
+pub fn other_entries_are_refused()
+    ensures index { (index url : List ℕ) (r : EntryRevision) (ps : List Pair)
+        → IsTrue (has_no_zero url) → url ≢ index
+        → read_entry index (entry url r ps) ≡ Err OtherIndex }
+    ensures text { (index text rest : List ℕ) → IsTrue (has_no_zero text) → text ≢ index
+        → read_entry index (head ++ (text ++ 0 ∷ rest)) ≡ Err OtherIndex }
+    ensures version { (index : List ℕ) (first : ℕ) (rest : List ℕ) → first ≢ 4
+        → IsErr (read_entry index (first ∷ rest)) }
+{}
+
 /// What is read from the entry of a plain body is what is read from the body: its versions, or
 /// why it has none, and its lines, each under the version that stands in it.
 pub fn entries_read_as_bodies()
-    ensures versions { (r : EntryRevision) (body : List ℕ) → IsRevision r
+    ensures versions { (index : List ℕ) (r : EntryRevision) (body : List ℕ)
+        → IsTrue (has_no_zero index) → IsRevision r
         → IsTrue (has_no_zero (entry_text r)) → IsTrue (plain body)
-        → krate_of_file (read_entry (entry r (pairs body))) ≡ krate_of_lines (lines body) }
-    ensures items { (r : EntryRevision) (body : List ℕ) → IsRevision r
+        → krate_of_file (read_entry index (entry index r (pairs body)))
+        ≡ krate_of_lines (lines body) }
+    ensures items { (index : List ℕ) (r : EntryRevision) (body : List ℕ)
+        → IsTrue (has_no_zero index) → IsRevision r
         → IsTrue (has_no_zero (entry_text r)) → IsTrue (plain body)
-        → items_of_file (read_entry (entry r (pairs body)))
+        → items_of_file (read_entry index (entry index r (pairs body)))
         ≡ Ok (map (λ line. (Some (raw_version line), line)) (lines body)) }
     ensures raw { (line : List ℕ) → version_text (Some (raw_version line)) line
         ≡ version_text None line }
 {}
 
-/// A file is readable as an entry exactly where it is, joined, what an entry is made of.
+/// A file is readable as an entry of an index exactly where it is, joined, what an entry is made
+/// of.
 pub fn readable_entries_are_joined()
-    ensures entry { (file : List ℕ) (e : ReadEntry) → (read_entry file ≡ Ok e) ↔ IsEntryOf file e }
+    ensures entry { (index file : List ℕ) (e : ReadEntry)
+        → (read_entry index file ≡ Ok e) ↔ IsEntryOf index file e }
     ensures parts { (bytes : List ℕ) (parts : List (List ℕ)) → (pieces 0 bytes ≡ parts)
         ↔ AreParts parts bytes }
 {}
@@ -95,14 +118,17 @@ pub fn markers_are_replaced_in_place()
         ≡ before ++ codes "{" ++ filled name version behind }
 {}
 
-/// The scan of a written line finds the version and the flag that wrote it, where the texts in
-/// front of the version, and behind the flag, hold nothing at which it would stop.
+/// The scan of a written line finds the version that wrote it where neither its text nor the
+/// crate's name holds anything at which the scan would stop, as where the name is a name and the
+/// version is one of Semantic Versioning 2.0.0. The flag that it finds is yanked exactly where
+/// the version is and no text behind the flag has a `}`.
 pub fn written_lines_are_scanned()
     ensures names { (v : IndexVersion) (p : Parts) → IsUtf8 v.name → IsTrue (is_name v.name)
         → version_parts v.version ≡ Ok p → raw_version (line v) ≡ v.version }
     ensures version { (v : IndexVersion) → IsTrue (is_bare v.name) → IsTrue (is_bare v.version)
         → IsTrue (is_utf8 v.version) → raw_version (line v) ≡ v.version }
-    ensures flag { (v : IndexVersion) → HasForm v → IsTrue (is_bare_or_absent v.links)
-        → IsTrue (is_bare_or_absent v.rust_version) → IsTrue (is_bare_or_absent v.pubtime)
-        → line_flag (line v) ≡ Ok v.yanked }
+    ensures flag { (v : IndexVersion) → line_flag (line v) ≡ Ok (v.yanked && is_clear_behind v) }
+    ensures scan { (v : IndexVersion) (p : Parts) (text : Option (List ℕ)) → IsScannable v p
+        → IsTextOf v text → scanned (result_ok (version_parts (version_text text (line v))))
+        (line_flag (line v)) ≡ Ok (p, v.yanked) }
 {}

@@ -2,16 +2,18 @@
 //! sent and kept under, and the entries of the cache as bytes.
 //!
 //! Promises: an entry is written exactly as its definition says, and where no zero byte stands in
-//! its revision and its lines it is read back as these; a file that is no entry is refused, by
-//! the first rule that it breaks.
+//! the url of its index, its revision and its lines it is read back as these, for that index
+//! alone; a file that is no entry is refused, by the first rule that it breaks. The entry of lines
+//! is given in pieces of 4,096 bytes, for which no memory is taken.
 //! Stands on the texts, names and sinks of `tame_names`, on the records of `tame_records`, and on
 //! `serde_json`, `json`, `semver`, `hex` and `memchr`.
 //!
 //! ```ignore
 //! let lines = JsonLines::validate(body)?;
 //! let revision = Revision::Http(HttpRevision::Etag("x"));
-//! let file = CacheWrite::Remote(lines).entry(alloc, &revision)?;
-//! let krate = match ValidCacheEntry::read(file.as_slice()) {
+//! let index = "sparse+https://index.crates.io/";
+//! let file = CacheWrite::Remote(lines).entry(alloc, index, &revision)?;
+//! let krate = match ValidCacheEntry::read(file.as_slice(), index) {
 //!     Ok(entry) => entry.to_krate(alloc, None)?,
 //!     Err(fault) => return Err(fault.into()),
 //! };
@@ -20,6 +22,7 @@
 
 mod config;
 mod entries;
+mod entry_pieces;
 mod index_entries;
 mod iterating;
 mod json_lines;
@@ -35,15 +38,17 @@ mod writes;
 
 pub use config::{IndexConfig, version_url};
 pub use entries::{CURRENT_CACHE_VERSION, INDEX_V_MAX, ValidCacheEntry};
+pub use entry_pieces::{EntryPieces, PIECE_LEN};
 pub use index_entries::{IndexEntry, IndexEntryVersion, LockedMmap};
 pub use iterating::IndexEntryIter;
 pub use json_lines::JsonLines;
 pub use laws::{
     entries_read_as_bodies, entries_read_back, markers_are_replaced_in_place,
-    readable_entries_are_joined, revisions_are_read_by_name, written_lines_are_scanned,
+    other_entries_are_refused, readable_entries_are_joined, revisions_are_read_by_name,
+    written_lines_are_scanned,
 };
 pub use prefixes::without_prefix;
-pub use revisions::{GitRevision, HttpRevision, OwnedRevision, Revision};
+pub use revisions::{GitRevision, HttpRevision, OwnedRevision, Revision, StoredRevision};
 pub use sha1::{HexBytes, Sha1Hex};
 pub use version_status::{
     VersionStatus, read_item_version_flags, read_version_flags, status_among,

@@ -89,9 +89,9 @@ impl GitRevision {
     }
 }
 
-/// A revision with a commit's digits.
+/// A revision with its text in an entry at hand: that of a commit is its digits.
 #[derive(Clone, Copy)]
-enum StoredRevision<'s> {
+pub enum StoredRevision<'s> {
     Etag(&'s str),
     LastModified(&'s str),
     Commit(Sha1Hex),
@@ -100,7 +100,7 @@ enum StoredRevision<'s> {
 
 impl StoredRevision<'_> {
     /// The name in front of its text in an entry, and what stands behind that.
-    fn parts(&self) -> (&'static str, &str)
+    pub(crate) fn parts(&self) -> (&'static str, &str)
         ensures name { result.0.now ≡ entry_name (stored_value self.now) }
         ensures value { result.1.now ≡ entry_value (stored_value self.now) }
         ensures formed { IsFormed (stored_value self.now) }
@@ -135,7 +135,8 @@ fn both_without_zero(first: &[u8], second: &[u8]) -> bool
 }
 
 impl<'s> Revision<'s> {
-    fn stored(&self) -> StoredRevision<'s>
+    /// This revision with its text at hand. Takes no memory.
+    pub fn stored(&self) -> StoredRevision<'s>
         ensures { stored_value result ≡ revision_value self.now }
     {
         match self {
@@ -162,23 +163,12 @@ impl<'s> Revision<'s> {
 
     /// Whether no zero byte stands in the text of this revision.
     pub fn has_no_zero(&self) -> bool
-        ensures { result ≡ spec.has_no_zero (written_text self.now) }
+        ensures formed { IsFormed (revision_value self.now) }
+        ensures tested { result ≡ spec.has_no_zero (written_text self.now) }
     {
         let stored = self.stored();
         let (name, value) = stored.parts();
         both_without_zero(name.as_bytes(), value.as_bytes())
-    }
-
-    /// Appends the text of this revision in an entry.
-    pub fn append_to(&self, out: &mut Vec<u8>) -> Result<(), NoMemory>
-        ensures formed { IsFormed (revision_value self.now) }
-        ensures appended { OnOk result (out.new.items ≡ out.old.items ++ written_text self.now) }
-    {
-        let stored = self.stored();
-        let (name, value) = stored.parts();
-        out.extend_from_slice(name.as_bytes())?;
-        out.extend_from_slice(value.as_bytes())?;
-        Ok(())
     }
 }
 

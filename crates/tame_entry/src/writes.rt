@@ -1,19 +1,19 @@
 //! Entries of the cache, written.
-ghost use Rattle.std.specs.Prelude.{◌≡◌, ◌⊎◌, ◌≤◌, ◌++◌, ℕ, List, Err, length, map, flat_map, IfOk, IfErr, OnOk};
+ghost use Rattle.std.specs.Prelude.{◌≡◌, ◌⊎◌, ◌≤◌, ◌^◌, ◌++◌, ℕ, List, Err, length, map, flat_map, IfOk, IfErr, OnOk, IsErr};
 ghost use Rattle.std.specs.List.{list_all};
 ghost use Rattle.tame_names.specs.Counts.{CountRose};
-ghost use Rattle.tame_names.specs.Output.{AddsPrefix};
-ghost use Rattle.tame_entry.specs.Entry.{is_storable_pair, pair_bytes, pair_of, version_pair, written_pairs};
+ghost use Rattle.tame_names.specs.Output.{AddsPrefix, HasPutCause};
+ghost use Rattle.tame_entry.specs.Entry.{TakesMemory, is_storable_pair, pair_bytes, pair_of, version_pair, written_pairs};
 ghost use Rattle.tame_entry.specs.Entry as spec;
 ghost use Rattle.tame_entry.specs.JsonLines.{lines_of};
 ghost use Rattle.tame_entry.specs.Revision.{IsFormed, revision_value};
 
-use crate::entries::{CURRENT_CACHE_VERSION, INDEX_V_MAX};
+use crate::entry_pieces::{EntryPieces, PIECE_LEN};
 use crate::json_lines::JsonLines;
-use crate::raw::{has_no_zero, raw_version};
+use crate::raw::has_no_zero;
 use crate::revisions::Revision;
 use std::alloc::Global;
-use tame_names::{Error, IoKind, NoMemory, Sink, put_counted};
+use tame_names::{Error, IoKind, NoMemory, Sink, SinkFault};
 use tame_records::{IndexKrate, IndexVersion, with_line};
 
 /// What is written to the cache.
@@ -45,15 +45,6 @@ impl<'r> From<&'r IndexKrate> for CacheWrite<'r> {
     }
 }
 
-fn append_line(out: &mut Vec<u8>, line: &[u8]) -> Result<(), NoMemory>
-    ensures { OnOk result (out.new.items ≡ out.old.items ++ pair_bytes (pair_of line.now)) }
-{
-    out.extend_from_slice(raw_version(line).as_bytes())?;
-    out.push(0)?;
-    out.extend_from_slice(line)?;
-    Ok(out.push(0)?)
-}
-
 /// The bytes, and behind them a version with the line that it writes.
 fn with_version(alloc: Global, bytes: Vec<u8>, version: &IndexVersion) -> Result<Vec<u8>, NoMemory>
     ensures { IfOk result (λ all. all.items
@@ -80,16 +71,6 @@ fn with_versions(
         all = with_version(alloc, all, version)?;
     }
     Ok(all)
-}
-
-fn append_lines(out: &mut Vec<u8>, lines: JsonLines<'_>) -> Result<(), NoMemory>
-    ensures { OnOk result (out.new.items
-        ≡ out.old.items ++ flat_map pair_bytes (map pair_of (lines_of lines.entry))) }
-{
-    for line in lines.lines() {
-        append_line(out, line)?;
-    }
-    Ok(())
 }
 
 fn line_is_storable(line: &[u8]) -> bool
@@ -128,11 +109,103 @@ fn versions_are_storable(alloc: Global, versions: &[IndexVersion]) -> Result<boo
     Ok(true)
 }
 
+/// The number of bytes of the entry of lines. `NoMemory` where it isn't below 2^64.
+fn lines_len(index: &str, revision: &Revision<'_>, lines: JsonLines<'_>) -> Result<u64, NoMemory>
+    ensures ok { IfOk result (λ n. n ≡ length (spec.entry index.now (revision_value revision.now)
+        (map pair_of (lines_of lines.entry)))) }
+    ensures formed { IsFormed (revision_value revision.now) }
+    ensures long { IfErr result (λ _. 2 ^ 64 ≤ length (spec.entry index.now
+        (revision_value revision.now) (map pair_of (lines_of lines.entry)))) }
+{
+    let stored = revision.stored();
+    match EntryPieces::of(index, &stored, lines).into_len() {
+        Some(len) => Ok(len),
+        None => Err(NoMemory),
+    }
+}
+
+/// The bytes that are left of an entry.
+fn bytes_of(alloc: Global, pieces: EntryPieces<'_>) -> Result<Vec<u8>, NoMemory>
+    ensures { IfOk result (λ bytes. bytes.items ≡ pieces.entry) }
+{
+    let mut left = pieces;
+    let mut bytes = Vec::new(alloc);
+    let mut piece = [0u8; PIECE_LEN];
+    loop {
+        let count = left.fill(&mut piece);
+        if count == 0 {
+            return Ok(bytes);
+        }
+        bytes.extend_from_slice(&piece[..count])?;
+    }
+}
+
+/// Puts what is left of an entry, each piece by a put of its own.
+fn put_pieces<S: Sink>(sink: &mut S, pieces: EntryPieces<'_>) -> Result<(), SinkFault>
+    ensures put { S.tells → OnOk result (S.holds sink.new ≡ S.holds sink.old ++ pieces.entry) }
+    ensures part { S.tells → AddsPrefix (S.holds sink.old) pieces.entry (S.holds sink.new) }
+    ensures cause { HasPutCause (S.faults sink.old) (S.faults sink.new) result }
+{
+    let mut left = pieces;
+    let mut piece = [0u8; PIECE_LEN];
+    loop {
+        let count = left.fill(&mut piece);
+        if count == 0 {
+            return Ok(());
+        }
+        sink.put(&piece[..count])?;
+    }
+}
+
+/// Puts an entry of lines, and answers the number of its bytes.
+fn put_lines<S: Sink>(
+    sink: &mut S,
+    index: &str,
+    revision: &Revision<'_>,
+    lines: JsonLines<'_>,
+) -> Result<u64, Error>
+    ensures put { S.tells → OnOk result (S.holds sink.new ≡ S.holds sink.old ++ spec.entry
+        index.now (revision_value revision.now) (map pair_of (lines_of lines.entry))) }
+    ensures part { S.tells → AddsPrefix (S.holds sink.old) (spec.entry index.now
+        (revision_value revision.now) (map pair_of (lines_of lines.entry))) (S.holds sink.new) }
+    ensures count { IfOk result (λ n. n ≡ length (spec.entry index.now
+        (revision_value revision.now) (map pair_of (lines_of lines.entry)))) }
+    ensures later { S.faults sink.old ≤ S.faults sink.new }
+    ensures failed { IfErr result (λ e. (e ≡ Error.NoMemory)
+        ⊎ ((e ≡ Error.Io IoKind.Failed) × CountRose (S.faults sink.old) (S.faults sink.new))) }
+    ensures same { S.tells → result ≡ Err Error.NoMemory → S.holds sink.new ≡ S.holds sink.old }
+    ensures long { result ≡ Err Error.NoMemory → 2 ^ 64 ≤ length (spec.entry index.now
+        (revision_value revision.now) (map pair_of (lines_of lines.entry))) }
+{
+    let len = lines_len(index, revision, lines)?;
+    let stored = revision.stored();
+    match put_pieces(sink, EntryPieces::of(index, &stored, lines)) {
+        Ok(()) => Ok(len),
+        Err(_) => Err(Error::Io(IoKind::Failed)),
+    }
+}
+
+/// Puts the bytes of an entry, and answers their number.
+fn put_bytes<S: Sink>(sink: &mut S, bytes: &[u8]) -> Result<u64, Error>
+    ensures put { S.tells → OnOk result (S.holds sink.new ≡ S.holds sink.old ++ bytes.now) }
+    ensures part { S.tells → AddsPrefix (S.holds sink.old) bytes.now (S.holds sink.new) }
+    ensures count { IfOk result (λ n. n ≡ length bytes.now) }
+    ensures later { S.faults sink.old ≤ S.faults sink.new }
+    ensures failed { IfErr result (λ e. (e ≡ Error.Io IoKind.Failed)
+        × CountRose (S.faults sink.old) (S.faults sink.new)) }
+{
+    match put_pieces(sink, EntryPieces::of_bytes(bytes)) {
+        Ok(()) => Ok(bytes.len() as u64),
+        Err(_) => Err(Error::Io(IoKind::Failed)),
+    }
+}
+
 impl CacheWrite<'_> {
     /// Whether no zero byte stands in the versions and lines that are written.
     fn pairs_are_storable(&self, alloc: Global) -> Result<bool, NoMemory>
-        ensures { IfOk result (λ storable. storable
+        ensures storable { IfOk result (λ storable. storable
             ≡ list_all is_storable_pair (written_pairs self.now)) }
+        ensures memory { IsErr result → TakesMemory self.now }
     {
         match self {
             CacheWrite::Remote(lines) => Ok(lines_are_storable(*lines)),
@@ -140,75 +213,98 @@ impl CacheWrite<'_> {
         }
     }
 
-    /// Whether these lines can be stored under a revision: no zero byte stands in what is written.
-    pub fn is_storable(&self, alloc: Global, revision: &Revision<'_>) -> Result<bool, NoMemory>
-        ensures { IfOk result (λ storable. storable
-            ≡ spec.is_storable (revision_value revision.now) (written_pairs self.now)) }
+    /// Whether these lines can be stored under a revision, as an entry of the index at a url: no
+    /// zero byte stands in what is written.
+    pub fn is_storable(
+        &self,
+        alloc: Global,
+        index: &str,
+        revision: &Revision<'_>,
+    ) -> Result<bool, NoMemory>
+        ensures formed { IsFormed (revision_value revision.now) }
+        ensures storable { IfOk result (λ storable. storable ≡ spec.is_storable index.now
+            (revision_value revision.now) (written_pairs self.now)) }
+        ensures memory { IsErr result → TakesMemory self.now }
     {
-        if !revision.has_no_zero() {
+        if !revision.has_no_zero() || !has_no_zero(index.as_bytes()) {
             return Ok(false);
         }
         self.pairs_are_storable(alloc)
     }
 
-    /// The bytes, and behind them what is written of each version.
-    fn with_pairs(&self, alloc: Global, bytes: Vec<u8>) -> Result<Vec<u8>, NoMemory>
-        ensures { IfOk result (λ all. all.items
-            ≡ bytes.items ++ flat_map pair_bytes (written_pairs self.now)) }
+    /// The whole entry of these lines under a revision, of the index at a url.
+    pub fn entry(
+        &self,
+        alloc: Global,
+        index: &str,
+        revision: &Revision<'_>,
+    ) -> Result<Vec<u8>, NoMemory>
+        ensures formed { OnOk result (IsFormed (revision_value revision.now)) }
+        ensures entry { IfOk result (λ bytes. bytes.items
+            ≡ spec.entry index.now (revision_value revision.now) (written_pairs self.now)) }
     {
+        let stored = revision.stored();
         match self {
-            CacheWrite::Remote(lines) => {
-                let mut all = bytes;
-                append_lines(&mut all, *lines)?;
-                Ok(all)
+            CacheWrite::Remote(lines) => bytes_of(alloc, EntryPieces::of(index, &stored, *lines)),
+            CacheWrite::Krate(krate) => {
+                let front = bytes_of(alloc, EntryPieces::front(index, &stored))?;
+                with_versions(alloc, front, krate.versions.as_slice())
             }
-            CacheWrite::Krate(krate) => with_versions(alloc, bytes, krate.versions.as_slice()),
         }
     }
 
-    /// The whole entry of these lines under a revision.
-    pub fn entry(&self, alloc: Global, revision: &Revision<'_>) -> Result<Vec<u8>, NoMemory>
-        ensures formed { OnOk result (IsFormed (revision_value revision.now)) }
-        ensures entry { IfOk result (λ bytes. bytes.items
-            ≡ spec.entry (revision_value revision.now) (written_pairs self.now)) }
-    {
-        let mut out = Vec::new(alloc);
-        out.push(CURRENT_CACHE_VERSION)?;
-        out.extend_from_slice(&INDEX_V_MAX.to_le_bytes())?;
-        revision.append_to(&mut out)?;
-        out.push(0)?;
-        self.with_pairs(alloc, out)
-    }
-
-    /// Puts the entry of these lines under a revision, and answers the number of its bytes.
-    /// `Io(Failed)` where the sink failed, which then holds a part of it.
+    /// Puts the entry of these lines under a revision, of the index at a url, and answers the
+    /// number of its bytes. `Io(Failed)` where the sink failed, which then holds a part of it.
     pub fn write_cache_entry<S: Sink>(
         &self,
         alloc: Global,
         sink: &mut S,
+        index: &str,
         revision: &Revision<'_>,
     ) -> Result<u64, Error>
-        ensures put { S.tells → OnOk result
-            (S.holds sink.new ≡ S.holds sink.old
-            ++ spec.entry (revision_value revision.now) (written_pairs self.now)) }
+        ensures put { S.tells → OnOk result (S.holds sink.new ≡ S.holds sink.old
+            ++ spec.entry index.now (revision_value revision.now) (written_pairs self.now)) }
         ensures part { S.tells → AddsPrefix (S.holds sink.old)
-            (spec.entry (revision_value revision.now) (written_pairs self.now)) (S.holds sink.new) }
-        ensures count { IfOk result (λ n. n
-            ≡ length (spec.entry (revision_value revision.now) (written_pairs self.now))) }
+            (spec.entry index.now (revision_value revision.now) (written_pairs self.now))
+            (S.holds sink.new) }
+        ensures count { IfOk result (λ n. n ≡ length
+            (spec.entry index.now (revision_value revision.now) (written_pairs self.now))) }
         ensures later { S.faults sink.old ≤ S.faults sink.new }
         ensures failed { IfErr result (λ e. (e ≡ Error.NoMemory)
             ⊎ ((e ≡ Error.Io IoKind.Failed) × CountRose (S.faults sink.old) (S.faults sink.new))) }
         ensures same { S.tells → result ≡ Err Error.NoMemory → S.holds sink.new ≡ S.holds sink.old }
+        // no memory is taken for lines; their entry may be too long for its length to be told
+        ensures memory { result ≡ Err Error.NoMemory → TakesMemory self.now
+            ⊎ (2 ^ 64 ≤ length (spec.entry index.now (revision_value revision.now)
+            (written_pairs self.now))) }
     {
-        let bytes = self.entry(alloc, revision)?;
-        put_counted(sink, bytes.as_slice())
+        match self {
+            CacheWrite::Remote(lines) => put_lines(sink, index, revision, *lines),
+            CacheWrite::Krate(_) => {
+                let bytes = self.entry(alloc, index, revision)?;
+                put_bytes(sink, bytes.as_slice())
+            }
+        }
     }
 
-    /// The number of bytes of the entry of these lines under a revision.
-    pub fn entry_len(&self, alloc: Global, revision: &Revision<'_>) -> Result<u64, NoMemory>
-        ensures { IfOk result (λ n. n ≡ length
-            (spec.entry (revision_value revision.now) (written_pairs self.now))) }
+    /// The number of bytes of the entry of these lines under a revision, of the index at a url.
+    pub fn entry_len(
+        &self,
+        alloc: Global,
+        index: &str,
+        revision: &Revision<'_>,
+    ) -> Result<u64, NoMemory>
+        ensures formed { OnOk result (IsFormed (revision_value revision.now)) }
+        ensures len { IfOk result (λ n. n ≡ length
+            (spec.entry index.now (revision_value revision.now) (written_pairs self.now))) }
+        // no memory is taken for lines; their entry may be too long for its length to be told
+        ensures memory { IsErr result → TakesMemory self.now
+            ⊎ (2 ^ 64 ≤ length (spec.entry index.now (revision_value revision.now)
+            (written_pairs self.now))) }
     {
-        Ok(self.entry(alloc, revision)?.len() as u64)
+        match self {
+            CacheWrite::Remote(lines) => lines_len(index, revision, *lines),
+            CacheWrite::Krate(_) => Ok(self.entry(alloc, index, revision)?.len() as u64),
+        }
     }
 }

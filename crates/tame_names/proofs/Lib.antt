@@ -8,3 +8,6 @@ pub mod Cases
 pub mod Relative
 pub mod Trims
 mod Ruled
+pub mod LastCuts
+pub mod Placed
+pub mod Parents

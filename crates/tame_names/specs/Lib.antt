@@ -1,11 +1,15 @@
+pub mod Changes
 pub mod Counts
 pub mod FirstPlaces
 pub mod KrateNames
+pub mod Locks
 pub mod MemoryFiles
+pub mod MemoryLocks
 pub mod NameRules
 pub mod Names
 pub mod Output
 pub mod Paths
 pub mod Pieces
+pub mod Sources
 pub mod Standing
 pub mod Utf8

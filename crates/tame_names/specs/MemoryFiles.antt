@@ -7,11 +7,11 @@ use Rattle.tame_names.specs.declared.host.EnvValue.{EnvValue}
 use Rattle.tame_names.specs.declared.host.EnvValue.TheVariants.{Unset}
 use Rattle.tame_names.specs.declared.host.FileFault.{FileFault}
 use Rattle.tame_names.specs.declared.host.FileFault.TheVariants as file_fault
-use Rattle.tame_names.specs.declared.memory_files.MemFile.{MemFile}
+use Rattle.tame_names.specs.declared.memory_nodes.MemFile.{MemFile}
 use Rattle.tame_names.specs.declared.memory_files.MemFiles.{MemFiles}
-use Rattle.tame_names.specs.declared.memory_files.MemNode.{MemNode}
-use Rattle.tame_names.specs.declared.memory_files.MemNode.TheVariants as node
-use Rattle.tame_names.specs.declared.memory_files.MemVariable.{MemVariable}
+use Rattle.tame_names.specs.declared.memory_nodes.MemNode.{MemNode}
+use Rattle.tame_names.specs.declared.memory_nodes.MemNode.TheVariants as node
+use Rattle.tame_names.specs.declared.memory_variables.MemVariable.{MemVariable}
 
 -- ---- what it has
 

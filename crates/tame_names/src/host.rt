@@ -1,5 +1,5 @@
 //! The host: its files, its input, its environment and its current folder.
-ghost use Rattle.std.specs.Prelude.{◌≡◌, ◌≢◌, ℕ, List, Ok, Some, None, IfOk, ⊤};
+ghost use Rattle.std.specs.Prelude.{◌≡◌, ◌≢◌, ℕ, List, [], Ok, Err, Some, None, true, false, IfOk, IfErr, IsErr, IsErrOf, OnOk, ⊤};
 ghost use Rattle.tame_names.specs.Counts.{HasCause};
 
 use crate::errors::NoMemory;
@@ -73,6 +73,10 @@ pub enum FileCall {
     Kind,
     Env,
     CurrentDir,
+    MakeDirs,
+    Create,
+    OpenLock,
+    TakeLock,
 }
 
 /// A call that failed.
@@ -83,10 +87,59 @@ pub struct FailedCall {
     pub path: Option<Text>,
 }
 
+/// A file that was opened to be locked; none on a host without files of the system. Its lock is
+/// given back as it is dropped.
+#[derive(Debug, Drop)]
+pub struct OpenedLock {
+    pub file: Option<std::fs::File>,
+}
+
+/// Why a file wasn't opened to be locked.
+#[derive(Clone, Copy, Debug, PartialEq, Eq)]
+pub enum LockOpenFault {
+    /// Nothing is there, or no folder to make it in.
+    NotFound,
+    /// There is no permission, or the file system is read-only.
+    Denied,
+    /// The host couldn't do it; the call was counted.
+    Failed,
+}
+
+/// Why a lock wasn't taken.
+#[derive(Clone, Copy, Debug, PartialEq, Eq)]
+pub enum LockTakeFault {
+    /// Another one holds it.
+    Contested,
+    /// The file system has no locks.
+    NotSupported,
+    /// The host couldn't do it; the call was counted.
+    Failed,
+}
+
+/// A call on a lock, and why it was refused, if it was.
+#[derive(Clone, Copy, Debug, PartialEq, Eq)]
+pub enum LockCall {
+    Open(Option<LockOpenFault>),
+    /// A taking, which waits for its turn or doesn't.
+    Take(bool, Option<LockTakeFault>),
+}
+
+/// A step on a lock: the path as the call was given it, and whether it was to be exclusive.
+#[derive(Debug, Drop, PartialEq, Eq)]
+pub struct LockStep {
+    pub path: Text,
+    pub exclusive: bool,
+    pub call: LockCall,
+}
+
 /// The host. A path that ends with slashes stands for the path without them, but for `/` itself.
 pub trait Files {
+    ghost use Rattle.tame_names.specs.Changes.{AreFolders, Creates, MakesFolders, can_create, is_folder};
+    ghost use Rattle.tame_names.specs.Locks.{AddsCall, AddsStep, HasLockCause, MayMake, fault_of, open_step, take_step};
     ghost use Rattle.tame_names.specs.Standing.{Host, IsAboveLimit, IsLeft, Reads, StaysButInput, File, failed_calls, kind_of, listing};
+    ghost use Rattle.tame_names.specs.Paths.{ways_to};
     ghost use Rattle.tame_names.specs.declared.host.FailedCall.{FailedCall};
+    ghost use Rattle.tame_names.specs.declared.host.LockStep.{LockStep};
 
     /// That it tells what it has and which calls have failed.
     ghost tells: { Type 0 };
@@ -96,6 +149,9 @@ pub trait Files {
 
     /// The calls that have failed, the first in front, where they are told.
     ghost failed: { Self → List FailedCall };
+
+    /// The steps on locks, the first in front, where they are told.
+    ghost steps: { Self → List LockStep };
 
     /// How often a call has failed.
     ghost faults: { Self → ℕ };
@@ -111,7 +167,8 @@ pub trait Files {
         ensures same { tells → host self.new ≡ host self.old }
         ensures answer { tells → Reads ((host self.old).stands path.now) limit result }
         ensures failed { tells → failed self.new
-            ≡ failed_calls (failed self.old) FileCall.Read (Some path.now) result };
+            ≡ failed_calls (failed self.old) FileCall.Read (Some path.now) result }
+        ensures steps { tells → steps self.new ≡ steps self.old };
 
     /// Reads standard input, where it has no more than `limit` bytes. It is never absent. Read
     /// whole, it is empty from then on.
@@ -123,7 +180,8 @@ pub trait Files {
         ensures answer { tells → Reads (File (host self.old).input) limit result }
         ensures left { tells → IsLeft result (host self.new).input }
         ensures failed { tells → failed self.new
-            ≡ failed_calls (failed self.old) FileCall.ReadStdin None result };
+            ≡ failed_calls (failed self.old) FileCall.ReadStdin None result }
+        ensures steps { tells → steps self.new ≡ steps self.old };
 
     /// The entries of the folder at a path; nothing where no folder is there.
     fn list(&mut self, alloc: Global, path: &str) -> Result<Option<Items<Listed>>, FileFault>
@@ -132,7 +190,8 @@ pub trait Files {
         ensures answer { tells → IfOk result (λ entries. entries
             ≡ listing ((host self.old).stands path.now)) }
         ensures failed { tells → failed self.new
-            ≡ failed_calls (failed self.old) FileCall.List (Some path.now) result };
+            ≡ failed_calls (failed self.old) FileCall.List (Some path.now) result }
+        ensures steps { tells → steps self.new ≡ steps self.old };
 
     /// What is at a path.
     fn kind(&mut self, path: &str) -> Result<PathKind, FileFault>
@@ -141,7 +200,8 @@ pub trait Files {
         ensures answer { tells → IfOk result (λ kind. kind
             ≡ kind_of ((host self.old).stands path.now)) }
         ensures failed { tells → failed self.new
-            ≡ failed_calls (failed self.old) FileCall.Kind (Some path.now) result };
+            ≡ failed_calls (failed self.old) FileCall.Kind (Some path.now) result }
+        ensures steps { tells → steps self.new ≡ steps self.old };
 
     /// The value of a variable of the environment.
     fn env(&mut self, alloc: Global, name: &str) -> Result<EnvValue, FileFault>
@@ -150,7 +210,8 @@ pub trait Files {
         ensures answer { tells → IfOk result (λ value. value
             ≡ (host self.old).environment name.now) }
         ensures failed { tells → failed self.new
-            ≡ failed_calls (failed self.old) FileCall.Env (Some name.now) result };
+            ≡ failed_calls (failed self.old) FileCall.Env (Some name.now) result }
+        ensures steps { tells → steps self.new ≡ steps self.old };
 
     /// The path of the current folder.
     fn current_dir(&mut self, alloc: Global) -> Result<Text, FileFault>
@@ -158,5 +219,70 @@ pub trait Files {
         ensures same { tells → host self.new ≡ host self.old }
         ensures answer { tells → IfOk result (λ path. path ≡ (host self.old).current) }
         ensures failed { tells → failed self.new
-            ≡ failed_calls (failed self.old) FileCall.CurrentDir None result };
+            ≡ failed_calls (failed self.old) FileCall.CurrentDir None result }
+        ensures steps { tells → steps self.new ≡ steps self.old };
+
+    /// Makes the folder at a path, and those on the way to it that are missing; a folder that was
+    /// there gains the entry of one that is made in it, and no other path changes. It fails where
+    /// something else is on the way. After a fault some of them may have been made.
+    fn make_dirs(&mut self, path: &str) -> Result<(), FileFault>
+        ensures cause { HasCause FileFault.NoMemory (faults self.old) (faults self.new) result }
+        ensures made { tells → MakesFolders path.now (host self.old) (host self.new) result }
+        ensures possible { tells
+            → OnOk result (AreFolders (ways_to path.now) (host self.old).stands) }
+        ensures there { tells → OnOk result
+            (path.now ≢ [] → is_folder ((host self.new).stands path.now) ≡ true) }
+        ensures failed { tells → failed self.new
+            ≡ failed_calls (failed self.old) FileCall.MakeDirs (Some path.now) result }
+        ensures steps { tells → steps self.new ≡ steps self.old };
+
+    /// Makes the file at a path, which then has these bytes; where nothing was there, the folder
+    /// that it is in gains its entry, and no other path changes. It fails where something that is
+    /// no file is there, and where the folder that it is in isn't there; it may where a file is
+    /// there. After a fault the file may have a part of the bytes, from the front.
+    fn create(&mut self, path: &str, bytes: &[u8]) -> Result<(), FileFault>
+        ensures cause { HasCause FileFault.NoMemory (faults self.old) (faults self.new) result }
+        ensures created { tells
+            → Creates path.now bytes.now (host self.old) (host self.new) result }
+        ensures possible { tells → can_create path.now (host self.old).stands ≡ false
+            → IsErr result × (host self.new ≡ host self.old) }
+        ensures failed { tells → failed self.new
+            ≡ failed_calls (failed self.old) FileCall.Create (Some path.now) result }
+        ensures steps { tells → steps self.new ≡ steps self.old };
+
+    /// Opens the file at a path to be locked: to be read, or exclusively to be written, which may
+    /// make an empty file where nothing is. A call that fails without room for its step may leave
+    /// it out, and so of the list of calls that have failed.
+    fn open_lock(&mut self, path: &str, exclusive: bool) -> Result<OpenedLock, LockOpenFault>
+        ensures cause { HasLockCause (IsErrOf result LockOpenFault.Failed)
+            (faults self.old) (faults self.new) }
+        ensures made { tells → MayMake exclusive path.now (host self.old) (host self.new) }
+        ensures refused { tells → IfErr result (λ fault. fault ≢ LockOpenFault.Failed
+            → host self.new ≡ host self.old) }
+        ensures failed { tells → AddsCall (IsErrOf result LockOpenFault.Failed)
+            (record { call = FileCall.OpenLock; path = Some path.now })
+            (failed self.old) (failed self.new) }
+        ensures steps { tells → AddsStep (IsErrOf result LockOpenFault.Failed)
+            (open_step path.now exclusive (fault_of result)) (steps self.old) (steps self.new) };
+
+    /// Takes the lock of an opened file, for oneself (`exclusive`) or with others; waits for its
+    /// turn where it may (`block`), and else is contested where another one holds it. Steps and
+    /// failed calls are as those of `open_lock`.
+    fn take_lock(
+        &mut self,
+        path: &str,
+        opened: &OpenedLock,
+        exclusive: bool,
+        block: bool,
+    ) -> Result<(), LockTakeFault>
+        ensures cause { HasLockCause (IsErrOf result LockTakeFault.Failed)
+            (faults self.old) (faults self.new) }
+        ensures contested { result ≡ Err LockTakeFault.Contested → block ≡ false }
+        ensures same { tells → host self.new ≡ host self.old }
+        ensures failed { tells → AddsCall (IsErrOf result LockTakeFault.Failed)
+            (record { call = FileCall.TakeLock; path = Some path.now })
+            (failed self.old) (failed self.new) }
+        ensures steps { tells → AddsStep (IsErrOf result LockTakeFault.Failed)
+            (take_step path.now exclusive block (fault_of result))
+            (steps self.old) (steps self.new) };
 }

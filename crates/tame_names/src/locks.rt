@@ -1,4 +1,5 @@
 //! Locks that a cache is used under.
+use crate::host::OpenedLock;
 
 /// How a lock is held.
 #[derive(Clone, Copy, Debug, PartialEq, Eq)]
@@ -12,6 +13,7 @@ pub enum LockState {
 #[derive(Debug, Drop)]
 pub struct FileLock {
     state: LockState,
+    opened: OpenedLock,
 }
 
 impl FileLock {
@@ -23,6 +25,22 @@ impl FileLock {
     {
         FileLock {
             state: LockState::Unlocked,
+            opened: OpenedLock { file: None },
         }
+    }
+
+    /// The lock of an opened file, held in this way; it is given back as this is dropped.
+    pub fn holding(opened: OpenedLock, state: LockState) -> FileLock
+        ensures state { result.state ≡ state }
+        ensures opened { result.opened ≡ opened }
+    {
+        FileLock { state, opened }
+    }
+
+    /// How it is held.
+    pub fn state(&self) -> LockState
+        ensures { result ≡ self.now.state }
+    {
+        self.state
     }
 }

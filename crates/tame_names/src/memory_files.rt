@@ -1,65 +1,58 @@
 //! A host in memory.
-ghost use Rattle.std.specs.Prelude.{◌≡◌, ◌≢◌, ◌≤◌, [], ⊤, Ok, Some, None, Err, IfOk, IfErr, IsTrue, ◌↔◌, option_copied, option_map};
+ghost use Rattle.std.specs.Prelude.{◌≡◌, ◌≢◌, ◌≤◌, [], ⊤, true, false, Ok, Some, None, Err, IfOk, IfErr, IsErr, IsErrOf, OnOk, option_map};
+ghost use Rattle.tame_names.specs.Changes.{AreFolders, Creates, MakesFolders, can_create, is_folder};
 ghost use Rattle.tame_names.specs.Counts.{HasCause, CountRose, next_call};
+ghost use Rattle.tame_names.specs.Locks.{AddsCall, AddsStep, HasLockCause, MayMake, fault_of, open_step, take_step};
+ghost use Rattle.tame_names.specs.MemoryLocks.{LockCounted};
 ghost use Rattle.tame_names.specs.MemoryFiles.{Counted, IsReadable, host_in, standing_in, value_in};
-ghost use Rattle.tame_names.specs.MemoryFiles as spec;
+ghost use Rattle.tame_names.specs.Paths.{ways_to};
 ghost use Rattle.tame_names.specs.Standing.{IsAboveLimit, IsLeft, Reads, StaysButInput, File, failed_calls, kind_of, listing, with_fault};
 
 use crate::errors::NoMemory;
-use crate::host::{EnvValue, FailedCall, FileCall, FileFault, Files, Listed, PathKind, ReadAnswer};
+use crate::host::{
+    EnvValue, FailedCall, FileCall, FileFault, Files, Listed, LockCall, LockOpenFault, LockStep,
+    LockTakeFault, OpenedLock, PathKind, ReadAnswer,
+};
 use crate::lists::Items;
-use crate::paths::is_same_path;
+use crate::memory_changes::{add_folders, can_create, place, ways_to};
+use crate::memory_locks::{LockAnswer, MemLocks};
+use crate::memory_nodes::{
+    MemFile, MemNode, copy_within, entries_at, is_readable, kind_at, read_at,
+};
+use crate::memory_variables::{MemVariable, value_of};
 use crate::texts::Text;
 use std::alloc::Global;
 
-/// What is at a path in memory.
-#[derive(Drop)]
-pub enum MemNode {
-    /// A file with these bytes.
-    File(Items<u8>),
-    /// A folder with these entries.
-    Folder(Items<Listed>),
-    Other,
-}
-
-/// A path in memory, and what is there.
-#[derive(Drop)]
-pub struct MemFile {
-    pub path: Text,
-    pub node: MemNode,
-}
-
-/// A variable of the environment in memory.
-#[derive(Drop)]
-pub struct MemVariable {
-    pub name: Text,
-    pub value: EnvValue,
-}
-
 /// A host in memory. Of paths that are equal but for slashes at their ends the first counts, and
-/// so of variables; a folder has the entries that were stated. The calls whose numbers are listed,
-/// counted from 1, fail.
+/// so of variables; a folder has the entries that were stated, and gains those of what a call makes
+/// in it. The calls whose numbers are listed, counted from 1, fail. The n-th call on a lock is to
+/// give the n-th answer; one that has none, or one of the other kind, fails, as does one that is to
+/// be contested though it waits for its turn. No opening of a lock makes a file.
 #[derive(Drop)]
 pub struct MemFiles {
-    alloc: Global,
+    pub(crate) alloc: Global,
     files: Items<MemFile>,
     input: Items<u8>,
     variables: Items<MemVariable>,
     current: Text,
+    pub(crate) locks: MemLocks,
     fails: Items<u64>,
     failed: Items<FailedCall>,
     calls: u64,
-    faults: u64,
+    pub(crate) faults: u64,
 }
 
 impl MemFiles {
-    /// These files, with an empty input, no variable, and the empty path as current folder; the
-    /// calls of these numbers are to fail.
+    /// These files, with an empty input, no variable, the empty path as current folder, and no
+    /// answer for calls on locks; the calls of these numbers are to fail.
     pub fn new(alloc: Global, files: Items<MemFile>, fails: Items<u64>) -> MemFiles
         ensures files { result.files ≡ files }
         ensures input { result.input ≡ [] }
         ensures variables { result.variables ≡ [] }
         ensures current { result.current ≡ [] }
+        ensures answers { result.locks.answers ≡ [] }
+        ensures asked { result.locks.asked ≡ 0 }
+        ensures steps { result.locks.steps ≡ [] }
         ensures fails { result.fails ≡ fails }
         ensures failed { result.failed ≡ [] }
         ensures calls { result.calls ≡ 0 }
@@ -71,6 +64,7 @@ impl MemFiles {
             input: Items::new(alloc),
             variables: Items::new(alloc),
             current: Text::from_string(String::new(alloc)),
+            locks: MemLocks::new(alloc, Items::new(alloc)),
             fails,
             failed: Items::new(alloc),
             calls: 0,
@@ -105,6 +99,22 @@ impl MemFiles {
         files
     }
 
+    /// The same with these answers of the calls on locks.
+    pub fn with_locks(self, answers: Items<LockAnswer>) -> MemFiles
+        ensures { result ≡ record self { locks = record self.locks { answers = answers } } }
+    {
+        let mut files = self;
+        files.locks = files.locks.with_answers(answers);
+        files
+    }
+
+    /// The steps on locks, the first in front.
+    pub fn steps(&self) -> &[LockStep]
+        ensures { result.now ≡ self.now.locks.steps }
+    {
+        self.locks.steps()
+    }
+
     /// The calls that have failed, the first in front.
     pub fn failed(&self) -> &[FailedCall]
         ensures { result.now ≡ self.now.failed }
@@ -113,11 +123,12 @@ impl MemFiles {
     }
 
     /// The fault of a call on a path or a variable, which is counted unless memory runs out.
-    fn fail(&mut self, call: FileCall, path: Option<&str>) -> FileFault
+    pub(crate) fn fail(&mut self, call: FileCall, path: Option<&str>) -> FileFault
         ensures files { self.new.files ≡ self.old.files }
         ensures input { self.new.input ≡ self.old.input }
         ensures variables { self.new.variables ≡ self.old.variables }
         ensures current { self.new.current ≡ self.old.current }
+        ensures locks { self.new.locks ≡ self.old.locks }
         ensures calls { self.new.calls ≡ self.old.calls }
         ensures fails { self.new.fails ≡ self.old.fails }
         ensures failed { self.new.failed ≡ with_fault self.old.failed call
@@ -140,11 +151,12 @@ impl MemFiles {
     }
 
     /// Counts a call on a path or a variable, which fails where its number is listed.
-    fn begin(&mut self, call: FileCall, path: Option<&str>) -> Result<(), FileFault>
+    pub(crate) fn begin(&mut self, call: FileCall, path: Option<&str>) -> Result<(), FileFault>
         ensures files { self.new.files ≡ self.old.files }
         ensures input { self.new.input ≡ self.old.input }
         ensures variables { self.new.variables ≡ self.old.variables }
         ensures current { self.new.current ≡ self.old.current }
+        ensures locks { self.new.locks ≡ self.old.locks }
         ensures cause { HasCause FileFault.NoMemory self.old.faults self.new.faults result }
         ensures counted { Counted (Unit {0}) self.old self.new result }
         ensures failed { self.new.failed ≡ failed_calls self.old.failed call
@@ -158,138 +170,14 @@ impl MemFiles {
     }
 }
 
-fn file_at<'a>(files: &'a [MemFile], path: &str) -> Option<&'a MemFile>
-    ensures { option_copied result ≡ spec.file_at files.now path.now }
-{
-    for file in files {
-        if is_same_path(file.path.as_str(), path) {
-            return Some(file);
-        }
-    }
-    None
-}
-
-/// Whether nothing or a file is at a path.
-fn is_readable(files: &[MemFile], path: &str) -> bool
-    ensures { IsTrue result ↔ IsReadable (standing_in files.now path.now) }
-{
-    match file_at(files, path) {
-        None => true,
-        Some(file) => matches!(&file.node, MemNode::File(_)),
-    }
-}
-
-/// The bytes, or their number where they are more than the limit.
-fn copy_within(alloc: Global, bytes: &[u8], limit: u64) -> Result<ReadAnswer, FileFault>
-    ensures memory { IfErr result (λ e. e ≡ FileFault.NoMemory) }
-    ensures there { result ≢ Ok ReadAnswer.Absent }
-    ensures read { Reads (File bytes.now) limit result }
-{
-    let len = bytes.len() as u64;
-    if len > limit {
-        return Ok(ReadAnswer::Over(len));
-    }
-    match Vec::from_slice(alloc, bytes) {
-        Ok(copy) => Ok(ReadAnswer::Whole(copy)),
-        Err(_) => Err(FileFault::NoMemory),
-    }
-}
-
-/// What a read of a path gives, where nothing or a file is there.
-fn read_at(
-    alloc: Global,
-    files: &[MemFile],
-    path: &str,
-    limit: u64,
-) -> Result<ReadAnswer, FileFault>
-    ensures memory { IfErr result (λ e. e ≡ FileFault.NoMemory) }
-    ensures read { IsReadable (standing_in files.now path.now)
-        → Reads (standing_in files.now path.now) limit result }
-{
-    match file_at(files, path) {
-        None => Ok(ReadAnswer::Absent),
-        Some(file) => match &file.node {
-            MemNode::File(bytes) => copy_within(alloc, bytes.as_slice(), limit),
-            _ => Err(FileFault::NoMemory),
-        },
-    }
-}
-
-fn kind_at(files: &[MemFile], path: &str) -> PathKind
-    ensures { result ≡ kind_of (standing_in files.now path.now) }
-{
-    match file_at(files, path) {
-        None => PathKind::Absent,
-        Some(file) => match &file.node {
-            MemNode::File(_) => PathKind::File,
-            MemNode::Folder(_) => PathKind::Folder,
-            MemNode::Other => PathKind::Other,
-        },
-    }
-}
-
-fn entries_copied(alloc: Global, entries: &[Listed]) -> Result<Items<Listed>, NoMemory>
-    ensures { IfOk result (λ copies. copies ≡ entries.now) }
-{
-    let mut copies = Items::new(alloc);
-    for entry in entries {
-        let name = match &entry.name {
-            None => None,
-            Some(name) => Some(name.try_clone(alloc)?),
-        };
-        copies.add(Listed {
-            name,
-            file: entry.file,
-        })?;
-    }
-    Ok(copies)
-}
-
-fn entries_at(
-    alloc: Global,
-    files: &[MemFile],
-    path: &str,
-) -> Result<Option<Items<Listed>>, NoMemory>
-    ensures { IfOk result (λ entries. entries ≡ listing (standing_in files.now path.now)) }
-{
-    match file_at(files, path) {
-        None => Ok(None),
-        Some(file) => match &file.node {
-            MemNode::Folder(entries) => Ok(Some(entries_copied(alloc, entries.as_slice())?)),
-            _ => Ok(None),
-        },
-    }
-}
-
-impl EnvValue {
-    fn copied(&self, alloc: Global) -> Result<EnvValue, NoMemory>
-        ensures { IfOk result (λ copy. copy ≡ self.now) }
-    {
-        match self {
-            EnvValue::Unset => Ok(EnvValue::Unset),
-            EnvValue::NotUtf8 => Ok(EnvValue::NotUtf8),
-            EnvValue::Value(text) => Ok(EnvValue::Value(text.try_clone(alloc)?)),
-        }
-    }
-}
-
-fn value_of(alloc: Global, variables: &[MemVariable], name: &str) -> Result<EnvValue, NoMemory>
-    ensures { IfOk result (λ value. value ≡ value_in variables.now name.now) }
-{
-    for variable in variables {
-        if variable.name.as_str() == name {
-            return variable.value.copied(alloc);
-        }
-    }
-    Ok(EnvValue::Unset)
-}
-
 impl Files for MemFiles {
     ghost tells = { ⊤ };
 
     ghost host = { λ m. host_in m };
 
     ghost failed = { λ m. m.failed };
+
+    ghost steps = { λ m. m.locks.steps };
 
     ghost faults = { λ m. m.faults };
 
@@ -304,6 +192,7 @@ impl Files for MemFiles {
         ensures answer { Reads (standing_in self.old.files path.now) limit result }
         ensures failed { self.new.failed
             ≡ failed_calls self.old.failed FileCall.Read (Some path.now) result }
+        ensures steps { self.new.locks.steps ≡ self.old.locks.steps }
         ensures counted { Counted (IsReadable (standing_in self.old.files path.now))
             self.old self.new result }
     {
@@ -324,6 +213,7 @@ impl Files for MemFiles {
         ensures left { IsLeft result self.new.input }
         ensures failed { self.new.failed
             ≡ failed_calls self.old.failed FileCall.ReadStdin None result }
+        ensures steps { self.new.locks.steps ≡ self.old.locks.steps }
         ensures counted { Counted (Unit {0}) self.old self.new result }
     {
         self.begin(FileCall::ReadStdin, None)?;
@@ -339,6 +229,7 @@ impl Files for MemFiles {
             ≡ listing (standing_in self.old.files path.now)) }
         ensures failed { self.new.failed
             ≡ failed_calls self.old.failed FileCall.List (Some path.now) result }
+        ensures steps { self.new.locks.steps ≡ self.old.locks.steps }
         ensures counted { Counted (Unit {0}) self.old self.new result }
     {
         self.begin(FileCall::List, Some(path))?;
@@ -352,6 +243,7 @@ impl Files for MemFiles {
             ≡ kind_of (standing_in self.old.files path.now)) }
         ensures failed { self.new.failed
             ≡ failed_calls self.old.failed FileCall.Kind (Some path.now) result }
+        ensures steps { self.new.locks.steps ≡ self.old.locks.steps }
         ensures counted { Counted (Unit {0}) self.old self.new result }
     {
         self.begin(FileCall::Kind, Some(path))?;
@@ -364,6 +256,7 @@ impl Files for MemFiles {
         ensures answer { IfOk result (λ value. value ≡ value_in self.old.variables name.now) }
         ensures failed { self.new.failed
             ≡ failed_calls self.old.failed FileCall.Env (Some name.now) result }
+        ensures steps { self.new.locks.steps ≡ self.old.locks.steps }
         ensures counted { Counted (Unit {0}) self.old self.new result }
     {
         self.begin(FileCall::Env, Some(name))?;
@@ -376,9 +269,108 @@ impl Files for MemFiles {
         ensures answer { IfOk result (λ path. path ≡ self.old.current) }
         ensures failed { self.new.failed
             ≡ failed_calls self.old.failed FileCall.CurrentDir None result }
+        ensures steps { self.new.locks.steps ≡ self.old.locks.steps }
         ensures counted { Counted (Unit {0}) self.old self.new result }
     {
         self.begin(FileCall::CurrentDir, None)?;
         Ok(self.current.try_clone(alloc)?)
+    }
+
+    fn make_dirs(&mut self, path: &str) -> Result<(), FileFault>
+        ensures cause { HasCause FileFault.NoMemory self.old.faults self.new.faults result }
+        ensures made { MakesFolders path.now (host_in self.old) (host_in self.new) result }
+        ensures possible { OnOk result
+            (AreFolders (ways_to path.now) (standing_in self.old.files)) }
+        ensures there { OnOk result
+            (path.now ≢ [] → is_folder (standing_in self.new.files path.now) ≡ true) }
+        ensures failed { self.new.failed
+            ≡ failed_calls self.old.failed FileCall.MakeDirs (Some path.now) result }
+        ensures steps { self.new.locks.steps ≡ self.old.locks.steps }
+        ensures counted { Counted (AreFolders (ways_to path.now) (standing_in self.old.files))
+            self.old self.new result }
+    {
+        self.begin(FileCall::MakeDirs, Some(path))?;
+        let ways = ways_to(self.alloc, path)?;
+        match add_folders(self.alloc, &mut self.files, ways.as_slice()) {
+            Ok(true) => Ok(()),
+            Ok(false) => Err(self.fail(FileCall::MakeDirs, Some(path))),
+            Err(NoMemory) => Err(FileFault::NoMemory),
+        }
+    }
+
+    fn create(&mut self, path: &str, bytes: &[u8]) -> Result<(), FileFault>
+        ensures cause { HasCause FileFault.NoMemory self.old.faults self.new.faults result }
+        ensures created { Creates path.now bytes.now (host_in self.old) (host_in self.new) result }
+        ensures possible { can_create path.now (standing_in self.old.files) ≡ false
+            → IsErr result × (host_in self.new ≡ host_in self.old) }
+        ensures failed { self.new.failed
+            ≡ failed_calls self.old.failed FileCall.Create (Some path.now) result }
+        ensures steps { self.new.locks.steps ≡ self.old.locks.steps }
+        ensures counted { Counted (can_create path.now (standing_in self.old.files) ≡ true)
+            self.old self.new result }
+    {
+        self.begin(FileCall::Create, Some(path))?;
+        if !can_create(self.files.as_slice(), path) {
+            return Err(self.fail(FileCall::Create, Some(path)));
+        }
+        let file = MemNode::File(Items::copied(self.alloc, bytes)?);
+        place(self.alloc, &mut self.files, path, file)?;
+        Ok(())
+    }
+
+    fn open_lock(&mut self, path: &str, exclusive: bool) -> Result<OpenedLock, LockOpenFault>
+        ensures cause { HasLockCause (IsErrOf result LockOpenFault.Failed)
+            self.old.faults self.new.faults }
+        ensures made { MayMake exclusive path.now (host_in self.old) (host_in self.new) }
+        ensures refused { IfErr result (λ fault. fault ≢ LockOpenFault.Failed
+            → host_in self.new ≡ host_in self.old) }
+        ensures failed { AddsCall (IsErrOf result LockOpenFault.Failed)
+            (record { call = FileCall.OpenLock; path = Some path.now })
+            self.old.failed self.new.failed }
+        ensures steps { AddsStep (IsErrOf result LockOpenFault.Failed)
+            (open_step path.now exclusive (fault_of result))
+            self.old.locks.steps self.new.locks.steps }
+        ensures counted { LockCounted (IsErrOf result LockOpenFault.Failed)
+            (LockAnswer.Open (fault_of result)) self.old self.new }
+        ensures same { host_in self.new ≡ host_in self.old }
+    {
+        let fault = self.opening(path);
+        if !self.add_step(path, exclusive, LockCall::Open(fault)) {
+            return Err(LockOpenFault::Failed);
+        }
+        match fault {
+            None => Ok(OpenedLock { file: None }),
+            Some(fault) => Err(fault),
+        }
+    }
+
+    fn take_lock(
+        &mut self,
+        path: &str,
+        _opened: &OpenedLock,
+        exclusive: bool,
+        block: bool,
+    ) -> Result<(), LockTakeFault>
+        ensures cause { HasLockCause (IsErrOf result LockTakeFault.Failed)
+            self.old.faults self.new.faults }
+        ensures contested { result ≡ Err LockTakeFault.Contested → block ≡ false }
+        ensures same { host_in self.new ≡ host_in self.old }
+        ensures failed { AddsCall (IsErrOf result LockTakeFault.Failed)
+            (record { call = FileCall.TakeLock; path = Some path.now })
+            self.old.failed self.new.failed }
+        ensures steps { AddsStep (IsErrOf result LockTakeFault.Failed)
+            (take_step path.now exclusive block (fault_of result))
+            self.old.locks.steps self.new.locks.steps }
+        ensures counted { LockCounted (IsErrOf result LockTakeFault.Failed)
+            (LockAnswer.Take (fault_of result)) self.old self.new }
+    {
+        let fault = self.taking(path, block);
+        if !self.add_step(path, exclusive, LockCall::Take(block, fault)) {
+            return Err(LockTakeFault::Failed);
+        }
+        match fault {
+            None => Ok(()),
+            Some(fault) => Err(fault),
+        }
     }
 }

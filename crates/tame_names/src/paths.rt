@@ -1,11 +1,12 @@
 //! Paths as text.
-ghost use Rattle.std.specs.Prelude.{◌≡◌, bytes_eq, IfOk};
+ghost use Rattle.std.specs.Prelude.{◌≡◌, ◌≤◌, ◌<◌, bytes_eq, length, option_map, slice_index, take, IfOk, IfSome};
 ghost use Rattle.tame_names.specs.Paths.{plain_path};
 ghost use Rattle.tame_names.specs.Paths as spec;
 
 use crate::errors::NoMemory;
 use crate::pieces::without_end;
 use crate::texts::Text;
+use memchr::memrchr;
 use std::alloc::Global;
 
 fn begins_with_slash(path: &str) -> bool
@@ -51,4 +52,68 @@ pub fn join(alloc: Global, folder: &str, path: &str) -> Result<Text, NoMemory>
     }
     whole.push_str(path)?;
     Ok(Text::from_string(whole))
+}
+
+/// How many bytes a path has without the slashes at its end.
+fn plain_len(path: &[u8]) -> usize
+    ensures plain { take result path.now ≡ plain_path path.now }
+    ensures within { result ≤ length path.now }
+    ensures slash { result < length path.now → slice_index path.now result ≡ 47 }
+{
+    match path {
+        [] => 0,
+        [_, rest @ ..] => 1 + without_end(rest, b'/').len(),
+    }
+}
+
+/// The path that a path stands for: without the slashes at its end, but for `/` itself.
+pub fn plain(path: &str) -> &str
+    ensures { result.now ≡ plain_path path.now }
+{
+    let len = plain_len(path.as_bytes());
+    &path[..len]
+}
+
+/// What stands in front of the last slash, and what stands behind it.
+fn cut_at_last_slash(path: &str) -> Option<(&str, &str)>
+    ensures { option_map (λ p. (p.0.now, p.1.now)) result ≡ spec.cut_at_last 47 path.now }
+{
+    match memrchr(b'/', path.as_bytes()) {
+        Some(at) => Some((&path[..at], &path[at + 1..])),
+        None => None,
+    }
+}
+
+/// The folder that a path is in, where the path is `/` or has no slash at its end.
+fn parent_of_plain(path: &str) -> Option<&str>
+    ensures { option_map (λ folder. folder.now) result ≡ spec.parent_of_plain path.now }
+{
+    if path.is_empty() || path == "/" {
+        return None;
+    }
+    match cut_at_last_slash(path) {
+        None => Some(""),
+        Some((front, _)) => Some(if front.is_empty() { "/" } else { front }),
+    }
+}
+
+/// The folder that a path is in: the text before the last `/`, `/` of `/x`, and the empty text of
+/// `x`. None of the empty path and of `/`. Slashes at the end don't count. It is shorter than the
+/// path.
+pub fn parent(path: &str) -> Option<&str>
+    ensures folder { option_map (λ folder. folder.now) result ≡ spec.parent path.now }
+    ensures shorter { IfSome result (λ folder. length folder.now < length path.now) }
+{
+    parent_of_plain(plain(path))
+}
+
+/// The name of a path in its folder: the text behind the last `/`. Slashes at the end don't count.
+pub fn file_name(path: &str) -> &str
+    ensures { result.now ≡ spec.file_name path.now }
+{
+    let path = plain(path);
+    match cut_at_last_slash(path) {
+        None => path,
+        Some((_, name)) => name,
+    }
 }

@@ -2,6 +2,7 @@ pub mod Ahead
 pub mod Digits
 pub mod KrateLemmas
 mod OptionalLemmas
+mod PartLemmas
 mod WrittenTokens
 mod ReadBack
 mod RoundTrip
@@ -14,3 +15,5 @@ pub mod DependencyKeys
 pub mod VersionKeys
 pub mod QuickLex
 pub mod QuickNumbers
+pub mod PlainLanes
+pub mod HexLanes

@@ -2,10 +2,12 @@ pub mod Checksums
 pub mod Dependencies
 pub mod VersionFlags
 pub mod Highest
+pub mod Kept
 pub mod Krates
 pub mod Lines
 pub mod Members
 pub mod OptionalMembers
+pub mod Orders
 pub mod Quick
 pub mod Record
 pub mod Written

@@ -7,6 +7,7 @@ ghost use Rattle.tame_records.specs.Krates as spec;
 ghost use Rattle.tame_records.specs.Lines.{lines, trimmed};
 ghost use Rattle.tame_records.specs.declared.versions.IndexVersion.{IndexVersion};
 
+use crate::kept_parts::KeptParts;
 use crate::line_faults::LineFault;
 use crate::lines::trimmed;
 use crate::versions::IndexVersion;
@@ -19,7 +20,7 @@ pub struct IndexKrate {
     pub versions: Items<IndexVersion>,
 }
 
-/// The records of the lines of a text.
+/// The records of the lines of a text, which share what is equal of them.
 fn records_of(alloc: Global, text: &[u8]) -> Result<Items<IndexVersion>, Error>
     ensures ok { IfOk result (λ vs. (spec.records_of (pieces 10 text.now) ≡ Some vs)
         × (first_unread (pieces 10 text.now) ≡ None)) }
@@ -28,9 +29,13 @@ fn records_of(alloc: Global, text: &[u8]) -> Result<Items<IndexVersion>, Error>
         ⊎ (option_map (λ n. Error.Json n) (first_unread (pieces 10 text.now)) ≡ Some e)) }
 {
     let mut versions = Items::new(alloc);
+    let mut kept = KeptParts::new(alloc);
     for line in split(text, b'\n') {
         match IndexVersion::read_line(alloc, line) {
-            Ok(version) => versions.add(version)?,
+            Ok(mut version) => {
+                kept.share(&mut version)?;
+                versions.add(version)?;
+            }
             Err(LineFault::Json) => {
                 let line = versions.len() as u64;
                 return Err(Error::Json { line });
@@ -62,7 +67,7 @@ impl IndexKrate {
 
     /// The versions that the lines of a body are, newlines at its end left out. A body without
     /// a line is refused with `NoCrateVersions`, else `Json` tells the first line that has no
-    /// record.
+    /// record. Versions with equal dependency lists or equal maps of features share them.
     pub fn from_slice(alloc: Global, bytes: &[u8]) -> Result<IndexKrate, Error>
         ensures { IsRead bytes.now result }
     {

@@ -8,8 +8,10 @@ use crate::checksums::Chksum;
 use crate::dependencies::{IndexDependency, dependencies_at};
 use crate::line_faults::LineFault;
 use crate::members::{
-    Features, flag_or_false, lists_at, lists_or_null, text_at, text_or_null, u32_or_null,
+    FeatureMap, Features, flag_or_false, lists_at, lists_or_null, text_at, text_or_null,
+    u32_or_null,
 };
+use crate::shared::Shared;
 use crate::values::read_value;
 use serde_json::Value;
 use std::alloc::Global;
@@ -21,7 +23,8 @@ pub struct IndexVersion {
     pub name: Text,
     /// The version's text; it may be no SemVer version.
     pub version: Text,
-    pub deps: Items<IndexDependency>,
+    /// Its dependencies, a list that several versions of one crate may share.
+    pub deps: Shared<IndexDependency>,
     /// The SHA-256 digest of the crate file.
     pub checksum: Chksum,
     pub yanked: bool,
@@ -103,7 +106,7 @@ fn version_of(alloc: Global, value: &Value) -> Result<IndexVersion, LineFault>
     Ok(IndexVersion {
         name: Text::of(alloc, name)?,
         version: Text::of(alloc, version)?,
-        deps,
+        deps: Shared::of(alloc, deps)?,
         checksum,
         yanked: optional.yanked,
         links: optional.links,
@@ -136,13 +139,13 @@ impl IndexVersion {
         Ok(IndexVersion {
             name,
             version,
-            deps: Items::new(alloc),
+            deps: Shared::of(alloc, Items::new(alloc))?,
             checksum: Chksum([0; 32]),
             yanked: false,
             links: None,
             rust_version: None,
             pubtime: None,
-            features: Features::new(alloc),
+            features: Features::of(alloc, FeatureMap::new(alloc))?,
             features2: None,
             v: None,
         })

@@ -70,18 +70,20 @@ lines_whole (l ∷ ls) h =
     ((both _ (has_no_zero l) first.0).1, lines_whole ls first.1)
 
 -- a valid body that is stored is plain
-pub stored_plain : (r : EntryRevision) (body : List ℕ) → invalid body ≡ None → IsTrue (is_storable r (pairs body)) → IsTrue (plain body)
-stored_plain r body right h =
-    let whole = untrimmed_zero body (joined_zero (trimmed body) (lines_whole (lines body) (both (has_no_zero (entry_text r)) _ h).1)) in
+pub stored_plain : (index : List ℕ) (r : EntryRevision) (body : List ℕ) → invalid body ≡ None → IsTrue (is_storable index r (pairs body)) → IsTrue (plain body)
+stored_plain index r body right h =
+    let behind = (both (has_no_zero index) _ h).1 in
+    let whole = untrimmed_zero body (joined_zero (trimmed body) (lines_whole (lines body) (both (has_no_zero (entry_text r)) _ behind).1)) in
     let P : Bool → Type 0 = λ b. (b && has_no_zero body) ≡ true in
     subst P (sym (ap is_none right)) whole
 
 -- what the test of the code passes is what is to be stored
-pub to_store : (answer : WireAnswer) → answer.status ≡ 200 → invalid answer.body ≡ None → IsTrue (is_storable (stored_under answer.revision) (pairs answer.body)) → IsToStore answer
-to_store answer sent right h = record {
+pub to_store : (index : List ℕ) (answer : WireAnswer) → answer.status ≡ 200 → invalid answer.body ≡ None → IsTrue (is_storable index (stored_under answer.revision) (pairs answer.body)) → IsToStore index answer
+to_store index answer sent right h = record {
   sent = sent;
-  plain = stored_plain (stored_under answer.revision) answer.body right h;
-  storable = (both (has_no_zero (entry_text (stored_under answer.revision))) _ h).0;
+  plain = stored_plain index (stored_under answer.revision) answer.body right h;
+  storable = (both (has_no_zero (entry_text (stored_under answer.revision))) _ (both (has_no_zero index) _ h).1).0;
+  named = (both (has_no_zero index) _ h).0;
 }
 
 -- and the other way round
@@ -89,8 +91,8 @@ pairs_whole : (ls : List (List ℕ)) → NoneZero ls → list_all is_storable_pa
 pairs_whole [] h = refl
 pairs_whole (l ∷ ls) h = and_true _ _ (sym (pair_same l) ∙ h.0) (pairs_whole ls h.1)
 
-pub passes : (answer : WireAnswer) → IsToStore answer → IsTrue (is_storable (stored_under answer.revision) (pairs answer.body))
-passes answer is = and_true _ _ is.storable (pairs_whole (lines answer.body) (plain_lines answer.body is.plain))
+pub passes : (index : List ℕ) (answer : WireAnswer) → IsToStore index answer → IsTrue (is_storable index (stored_under answer.revision) (pairs answer.body))
+passes index answer is = and_true _ _ is.named (and_true _ _ is.storable (pairs_whole (lines answer.body) (plain_lines answer.body is.plain)))
 
 -- ---- what is written is what the server held
 
@@ -100,34 +102,34 @@ written_for m p (Some r) body h whole = (body, h, whole, refl)
 
 -- ---- no file changes
 
-pub stores_same : (root name : List ℕ) (answer : WireAnswer) (write : Bool) (old new : Disk) → ((q : List ℕ) → new q ≡ old q) → Stores root name answer write old new
-stores_same root name answer write old new same = record {
+pub stores_same : (index root name : List ℕ) (answer : WireAnswer) (write : Bool) (old new : Disk) → ((q : List ℕ) → new q ≡ old q) → Stores index root name answer write old new
+stores_same index root name answer write old new same = record {
   unwanted = λ no. same;
   unstored = λ other. same;
   others = λ q other. same q;
   any_moment = λ q is ordered.
-      let P : List Step → Type 0 = λ past. EachMoment (old q) past (λ file. may_leave (old q) file ⊎ (IsUnreadable file ⊎ (file ≡ Some (entry_of answer)))) in
+      let P : List Step → Type 0 = λ past. EachMoment (old q) past (λ file. may_leave (old q) file ⊎ (IsUnreadable file ⊎ (file ≡ Some (entry_of index answer)))) in
       subst P (sym (same q)) (started (old q) _ (λ file now. inl now));
   orderly = λ q is ordered. subst IsOrderly (sym (same q)) ordered;
-  kept = λ m held kept. keeps_same m root old new same kept;
+  kept = λ m held kept. keeps_same m index root old new same kept;
 }
 
 -- ---- the file of the name is written
 
-pub stores_written : (root name : List ℕ) (answer : WireAnswer) (write : Bool) (old new : Disk) → answer.status ≡ 200 → write ≡ true → invalid answer.body ≡ None
-    → ((IsTrue (is_storable (stored_under answer.revision) (pairs answer.body)) → ⊥) → (q : List ℕ) → new q ≡ old q)
+pub stores_written : (index root name : List ℕ) (answer : WireAnswer) (write : Bool) (old new : Disk) → answer.status ≡ 200 → write ≡ true → invalid answer.body ≡ None
+    → ((IsTrue (is_storable index (stored_under answer.revision) (pairs answer.body)) → ⊥) → (q : List ℕ) → new q ≡ old q)
     → ((q : List ℕ) → cache_file_of root name ≢ Some q → new q ≡ old q)
-    → ((q : List ℕ) → cache_file_of root name ≡ Some q → IsOrderly (old q) → EachMoment (old q) (new q) (λ file. may_leave (old q) file ⊎ (IsUnreadable file ⊎ (file ≡ Some (entry_of answer)))))
+    → ((q : List ℕ) → cache_file_of root name ≡ Some q → IsOrderly (old q) → EachMoment (old q) (new q) (λ file. may_leave (old q) file ⊎ (IsUnreadable file ⊎ (file ≡ Some (entry_of index answer)))))
     → ((q : List ℕ) → cache_file_of root name ≡ Some q → IsOrderly (old q) → IsOrderly (new q))
-    → ((m : ServerMap) → ((p : List ℕ) → path name ≡ Some p → IsTrue (is_storable (stored_under answer.revision) (pairs answer.body)) → IsWrittenFor m p (stored_under answer.revision) (pairs answer.body))
-    → IsKept m root old → Keeps m root old new)
-    → Stores root name answer write old new
-stores_written root name answer write old new sent asked right unstored others any orderly kept = record {
+    → ((m : ServerMap) → ((p : List ℕ) → path name ≡ Some p → IsTrue (is_storable index (stored_under answer.revision) (pairs answer.body)) → IsWrittenFor m p (stored_under answer.revision) (pairs answer.body))
+    → IsKept m index root old → Keeps m index root old new)
+    → Stores index root name answer write old new
+stores_written index root name answer write old new sent asked right unstored others any orderly kept = record {
   unwanted = λ no. cc (asked, no);
-  unstored = λ no. unstored (λ storable. no (to_store answer sent right storable));
+  unstored = λ no. unstored (λ storable. no (to_store index answer sent right storable));
   others = others;
   any_moment = any;
   orderly = orderly;
   kept = λ m held. kept m (λ p named storable.
-      written_for m p answer.revision answer.body (held p named sent) (stored_plain (stored_under answer.revision) answer.body right storable));
+      written_for m p answer.revision answer.body (held p named sent) (stored_plain index (stored_under answer.revision) answer.body right storable));
 }

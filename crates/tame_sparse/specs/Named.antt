@@ -1,6 +1,6 @@
 -- What a request names: the revision that need not be sent again (RFC 9110, sections 13.1.2 and
 -- 13.1.3).
-use Rattle.std.specs.Prelude.{◌≡◌, ◌⊎◌, ℕ, length, ◌==◌, Option, Some, None, Result, Ok, Err, if◌then◌else◌}
+use Rattle.std.specs.Prelude.{◌≡◌, ◌⊎◌, ℕ, List, length, ◌==◌, Option, Some, None, Result, Ok, Err, if◌then◌else◌}
 use Rattle.std.specs.Str.{trim}
 use Rattle.http_header.specs.FieldValue.{is_visible_text}
 use Rattle.tame_names.specs.Counts.{CountStayed}
@@ -44,22 +44,23 @@ abbrev pub named_read : Result ReadEntry CacheError → Option OwnedRevision
 named_read (Ok e) = named e.revision
 named_read (Err f) = None
 
--- of a file of the cache
-abbrev pub named_file : File → Option OwnedRevision
-named_file None = None
-named_file (Some bytes) = named_read (read_entry bytes)
+-- of a file of the cache of the index at a url
+abbrev pub named_file : List ℕ → File → Option OwnedRevision
+named_file index None = None
+named_file index (Some bytes) = named_read (read_entry index bytes)
 
 -- of what a read of the cache handed out
 abbrev pub named_entry : IndexEntry → Option OwnedRevision
 named_entry (Remote json_lines) = None
-named_entry (Cache bytes) = named_read (read_entry bytes)
+named_entry (Cache bytes url) = named_read (read_entry url bytes)
 named_entry (Local bytes) = None
 
 -- a request names what the file's revision allows, where no call on the disk failed; else that or
 -- nothing
-pub record NamesKept (file : File) (before now : ℕ) (named : Option OwnedRevision) : Type 0 where
-  pub quiet : CountStayed before now → named ≡ named_file file
-  pub else_nothing : (named ≡ None) ⊎ (named ≡ named_file file)
+pub record NamesKept (index : List ℕ) (file : File) (before now : ℕ)
+    (named : Option OwnedRevision) : Type 0 where
+  pub quiet : CountStayed before now → named ≡ named_file index file
+  pub else_nothing : (named ≡ None) ⊎ (named ≡ named_file index file)
 
 -- what a revision names that was handed in: it is refused where another byte stands in its trimmed
 -- text, and the empty text names nothing

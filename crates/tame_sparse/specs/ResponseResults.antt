@@ -1,6 +1,6 @@
 -- What an index makes of an answer (Cargo Book, "Registry Index", sparse protocol; RFC 9110,
 -- section 15), and what it stores of it.
-use Rattle.std.specs.Prelude.{◌≡◌, ◌≢◌, ◌⊎◌, ℕ, codes, List, Bool, false, IsTrue, Option, Some, None, option_map, IfSome, Result, Ok, Err, IfOk, IfErr}
+use Rattle.std.specs.Prelude.{◌≡◌, ◌≢◌, ◌⊎◌, ℕ, ◌+◌, codes, List, Bool, false, IsTrue, Option, Some, None, drop, option_map, IfSome, Result, Ok, Err, IfOk, IfErr}
 use Rattle.tame_names.specs.Names.{path}
 use Rattle.tame_names.specs.declared.errors.Error.{Error}
 use Rattle.tame_names.specs.declared.errors.Error.TheVariants as error
@@ -19,6 +19,7 @@ use Rattle.tame_entry.specs.declared.revisions.OwnedRevision.{OwnedRevision}
 use Rattle.tame_cache.specs.Disk.{EachMoment, may_leave}
 use Rattle.tame_cache.specs.Gate.{IsOrderly, IsUnreadable, IsStored}
 use Rattle.tame_cache.specs.Kept.{Disk, IsKept, Keeps, cache_file_of}
+use Rattle.tame_cache.specs.LaidPieces.{piece_count}
 use Rattle.tame_sparse.specs.Honest.{SaysAbsent}
 use Rattle.tame_sparse.specs.declared.network.WireAnswer.{WireAnswer}
 use Rattle.tame_sparse.specs.declared.responses.Response.{Response}
@@ -76,15 +77,21 @@ abbrev pub stored_under : Option OwnedRevision → EntryRevision
 stored_under None = Unknown
 stored_under (Some r) = Http r
 
--- the entry of an answer: the lines of its body under its revision
-abbrev pub entry_of : WireAnswer → List ℕ
-entry_of answer = entry (stored_under answer.revision) (pairs answer.body)
+-- the entry of an answer, in the index at a url: the lines of its body under its revision
+abbrev pub entry_of : List ℕ → WireAnswer → List ℕ
+entry_of index answer = entry index (stored_under answer.revision) (pairs answer.body)
 
--- an answer is stored: a plain body was sent, and no zero byte stands in its revision
-pub record IsToStore (answer : WireAnswer) : Type 0 where
+-- how many calls on the disk store it: one for each piece of its entry, and twelve more
+abbrev pub storing_calls : List ℕ → WireAnswer → ℕ
+storing_calls index answer = piece_count (drop 1 (entry_of index answer)) + 12
+
+-- an answer is stored: a plain body was sent, and no zero byte stands in its revision and in the
+-- url of the index
+pub record IsToStore (index : List ℕ) (answer : WireAnswer) : Type 0 where
   pub sent : answer.status ≡ 200
   pub plain : IsTrue (plain answer.body)
   pub storable : IsTrue (has_no_zero (entry_text (stored_under answer.revision)))
+  pub named : IsTrue (has_no_zero index)
 
 -- the map gives the body that was sent for its revision
 abbrev pub IsHeldBody : ServerMap → List ℕ → WireAnswer → Type 0
@@ -93,20 +100,20 @@ IsHeldBody m p answer = answer.status ≡ 200 → IfSome answer.revision (λ r. 
 -- what becomes of the files of a cache: the file of the name alone may change, and only where the
 -- answer is stored; a crash at any moment leaves a file that it could have left before, a refused
 -- one, or the entry whole; and a kept cache is kept at each moment
-pub record Stores (root name : List ℕ) (answer : WireAnswer) (write : Bool)
+pub record Stores (index root name : List ℕ) (answer : WireAnswer) (write : Bool)
     (old new : Disk) : Type 0 where
   pub unwanted : write ≡ false → (q : List ℕ) → new q ≡ old q
-  pub unstored : ¬ (IsToStore answer) → (q : List ℕ) → new q ≡ old q
+  pub unstored : ¬ (IsToStore index answer) → (q : List ℕ) → new q ≡ old q
   pub others : (q : List ℕ) → cache_file_of root name ≢ Some q → new q ≡ old q
   pub any_moment : (q : List ℕ) → cache_file_of root name ≡ Some q → IsOrderly (old q)
       → EachMoment (old q) (new q) (λ file. may_leave (old q) file
-      ⊎ (IsUnreadable file ⊎ (file ≡ Some (entry_of answer))))
+      ⊎ (IsUnreadable file ⊎ (file ≡ Some (entry_of index answer))))
   pub orderly : (q : List ℕ) → cache_file_of root name ≡ Some q → IsOrderly (old q)
       → IsOrderly (new q)
   pub kept : (m : ServerMap) → ((p : List ℕ) → path name ≡ Some p → IsHeldBody m p answer)
-      → IsKept m root old → Keeps m root old new
+      → IsKept m index root old → Keeps m index root old new
 
 -- the file of the name is the entry, and a crash leaves no other
-abbrev pub StoresWhole : List ℕ → List ℕ → WireAnswer → Disk → Type 0
-StoresWhole root name answer new =
-    (q : List ℕ) → cache_file_of root name ≡ Some q → IsStored (entry_of answer) (new q)
+abbrev pub StoresWhole : List ℕ → List ℕ → List ℕ → WireAnswer → Disk → Type 0
+StoresWhole index root name answer new =
+    (q : List ℕ) → cache_file_of root name ≡ Some q → IsStored (entry_of index answer) (new q)

@@ -9,7 +9,7 @@ ghost use Rattle.tame_cache.specs.CacheFiles.{HandsOut};
 ghost use Rattle.tame_cache.specs.Disk.{reads};
 ghost use Rattle.tame_cache.specs.Folders.{MakesOnly};
 ghost use Rattle.tame_cache.specs.Kept.{IsKept, Keeps, cache_file_of};
-ghost use Rattle.tame_sparse.specs.ResponseResults.{IsResponseResult, IsToStore, Stores, StoresWhole, came};
+ghost use Rattle.tame_sparse.specs.ResponseResults.{IsResponseResult, IsToStore, Stores, StoresWhole, came, storing_calls};
 ghost use Rattle.tame_sparse.specs.Etags.{after_response, etag_at, with_etag};
 ghost use Rattle.tame_sparse.specs.Etags as spec;
 ghost use Rattle.tame_sparse.specs.Named.{NamesKept, handed};
@@ -91,12 +91,12 @@ impl EtagCache {
     ) -> Result<Request, Error>
         ensures path { IfOk result (λ request. path (text_of name.entry) ≡ Some request.path) }
         ensures uri { IfOk result (λ request. request.uri
-            ≡ http_url index.now.url ++ request.path) }
+            ≡ http_url index.now.cache.index ++ request.path) }
         // what is named
         ensures kept_named { D.tells → etag_at self.now (text_of name.entry) ≡ None → (q : List ℕ)
             → cache_file_of index.now.cache.path (text_of name.entry) ≡ Some q
-            → IfOk result (λ request. NamesKept (reads (D.past disk.old q)) (D.faults disk.old)
-            (D.faults disk.new) request.named) }
+            → IfOk result (λ request. NamesKept index.now.cache.index (reads (D.past disk.old q))
+            (D.faults disk.old) (D.faults disk.new) request.named) }
         ensures handed { (etag : List ℕ) → etag_at self.now (text_of name.entry) ≡ Some etag
             → IfOk result (λ request. handed (Etag etag) ≡ Ok request.named) }
         ensures refused { IfErr result
@@ -106,8 +106,10 @@ impl EtagCache {
         // no file changes, and none is read where a tag was seen
         ensures same { D.tells → (q : List ℕ) → D.past disk.new q ≡ D.past disk.old q }
         ensures folders { D.tells → D.folders disk.new ≡ D.folders disk.old }
-        ensures kept { D.tells → (m : ServerMap) → IsKept m index.now.cache.path (D.past disk.old)
-            → Keeps m index.now.cache.path (D.past disk.old) (D.past disk.new) }
+        ensures kept { D.tells → (m : ServerMap)
+            → IsKept m index.now.cache.index index.now.cache.path (D.past disk.old)
+            → Keeps m index.now.cache.index index.now.cache.path (D.past disk.old)
+            (D.past disk.new) }
         ensures uncalled { (etag : List ℕ) → etag_at self.now (text_of name.entry) ≡ Some etag
             → disk.new ≡ disk.old }
         ensures calls { D.made disk.new ≤ D.made disk.old + 1 }
@@ -143,20 +145,22 @@ impl EtagCache {
         ensures taken { (result ≡ Err Error.NoMemory) ⊎ IsResponseResult response.entry result }
         ensures read { D.tells → response.entry.status ≡ 304 → (q : List ℕ)
             → cache_file_of index.now.cache.path (text_of name.entry) ≡ Some q
-            → IfOk result (λ e. HandsOut e (reads (D.past disk.old q))) }
+            → IfOk result (λ e. HandsOut index.now.cache.index e (reads (D.past disk.old q))) }
         ensures rose { result ≡ Err (Error.Io IoKind.Failed)
             → (response.entry.status ≡ 304) × CountRose (D.faults disk.old) (D.faults disk.new) }
         // what is stored
-        ensures stores { D.tells → Stores index.now.cache.path (text_of name.entry)
-            (came response.entry) write_cache_entry (D.past disk.old) (D.past disk.new) }
+        ensures stores { D.tells → Stores index.now.cache.index index.now.cache.path
+            (text_of name.entry) (came response.entry) write_cache_entry (D.past disk.old)
+            (D.past disk.new) }
         ensures stored { D.tells → CountStayed (D.faults disk.old) (D.faults disk.new)
-            → write_cache_entry ≡ true → IsToStore (came response.entry)
-            → OnOk result (StoresWhole index.now.cache.path (text_of name.entry)
-            (came response.entry) (D.past disk.new)) }
+            → write_cache_entry ≡ true → IsToStore index.now.cache.index (came response.entry)
+            → OnOk result (StoresWhole index.now.cache.index index.now.cache.path
+            (text_of name.entry) (came response.entry) (D.past disk.new)) }
         ensures folders { D.tells → MakesOnly
             (λ q. cache_file_of index.now.cache.path (text_of name.entry) ≡ Some q)
             (D.folders disk.old) (D.folders disk.new) }
-        ensures calls { D.made disk.new ≤ D.made disk.old + 13 }
+        ensures calls { D.made disk.new ≤ D.made disk.old
+            + storing_calls index.now.cache.index (came response.entry) }
         ensures later { D.faults disk.old ≤ D.faults disk.new }
     {
         let seen = seen_etag(response.revision);

@@ -31,7 +31,6 @@ pub const CRATES_IO_INDEX: &str = "https://github.com/rust-lang/crates.io-index"
 #[derive(Drop)]
 pub struct GitIndex {
     cache: IndexCache,
-    url: Text,
     head: Option<Sha1Hex>,
 }
 
@@ -40,7 +39,7 @@ impl GitIndex {
     /// `InvalidUrl(SparseForGit)` where the url begins with `sparse+http`.
     pub fn at(alloc: Global, path: Text, url: &str) -> Result<GitIndex, Error>
         ensures ok { IfOk result (λ index. (is_sparse_url url.now ≡ false)
-            × (index.cache.path ≡ path) × (index.url ≡ url.now) × (index.head ≡ None)) }
+            × (index.cache.path ≡ path) × (index.cache.index ≡ url.now) × (index.head ≡ None)) }
         ensures refused { IfErr result (λ e. (e ≡ Error.NoMemory)
             ⊎ ((is_sparse_url url.now ≡ true) × (e ≡ Error.InvalidUrl (record {
               url = url.now;
@@ -55,8 +54,7 @@ impl GitIndex {
             }));
         }
         Ok(GitIndex {
-            cache: IndexCache::at_path(path),
-            url: copy,
+            cache: IndexCache::at_path(path, copy),
             head: None,
         })
     }
@@ -65,7 +63,6 @@ impl GitIndex {
     pub fn set_head_commit(&mut self, commit_id: Option<[u8; 20]>)
         ensures head { self.new.head ≡ option_map encode_lower commit_id }
         ensures cache { self.new.cache ≡ self.old.cache }
-        ensures url { self.new.url ≡ self.old.url }
     {
         self.head = match commit_id {
             Some(id) => Some(Sha1Hex::from(id)),
@@ -101,7 +98,7 @@ impl GitIndex {
     ) -> Result<Option<IndexEntry<'static, 'l>>, Error>
         ensures read { D.tells → (q : List ℕ)
             → cache_file_of self.now.cache.path (text_of name.entry) ≡ Some q
-            → IfOk result (λ e. HandsOut e (reads (D.past disk.old q))) }
+            → IfOk result (λ e. HandsOut self.now.cache.index e (reads (D.past disk.old q))) }
         ensures same { D.tells → (q : List ℕ) → D.past disk.new q ≡ D.past disk.old q }
         ensures folders { D.tells → D.folders disk.new ≡ D.folders disk.old }
         ensures calls { D.made disk.new ≤ D.made disk.old + 1 }
@@ -145,10 +142,12 @@ impl GitIndex {
             → (q : List ℕ) → cache_file_of self.now.cache.path (spec.first_name krate.now.versions)
             ≡ Some q
             → result ≡ Ok (Some Kept.Written)
-            → IsStored (entry (Commit id) (version_pairs krate.now.versions)) (D.past disk.new q) }
+            → IsStored (entry self.now.cache.index (Commit id) (version_pairs krate.now.versions))
+            (D.past disk.new q) }
         ensures storable { (id : List ℕ) → spec.stored_id blob_id self.now.head ≡ Some id
             → IfOk result (λ kept. (kept ≡ Some Kept.Written)
-            ↔ IsTrue (is_storable (Commit id) (version_pairs krate.now.versions))) }
+            ↔ IsTrue (is_storable self.now.cache.index (Commit id)
+            (version_pairs krate.now.versions))) }
         ensures any_moment { D.tells → (id : List ℕ)
             → spec.stored_id blob_id self.now.head ≡ Some id → (q : List ℕ)
             → cache_file_of self.now.cache.path (spec.first_name krate.now.versions) ≡ Some q
@@ -156,12 +155,15 @@ impl GitIndex {
             → EachMoment (D.past disk.old q) (D.past disk.new q)
             (λ file. may_leave (D.past disk.old q) file
             ⊎ (IsUnreadable file
-            ⊎ (file ≡ Some (entry (Commit id) (version_pairs krate.now.versions))))) }
+            ⊎ (file ≡ Some (entry self.now.cache.index (Commit id)
+            (version_pairs krate.now.versions))))) }
         ensures others { D.tells → (q : List ℕ)
             → cache_file_of self.now.cache.path (spec.first_name krate.now.versions) ≢ Some q
             → D.past disk.new q ≡ D.past disk.old q }
-        ensures kept { D.tells → (m : ServerMap) → IsKept m self.now.cache.path (D.past disk.old)
-            → Keeps m self.now.cache.path (D.past disk.old) (D.past disk.new) }
+        ensures kept { D.tells → (m : ServerMap)
+            → IsKept m self.now.cache.index self.now.cache.path (D.past disk.old)
+            → Keeps m self.now.cache.index self.now.cache.path (D.past disk.old)
+            (D.past disk.new) }
         ensures folders { D.tells → MakesOnly
             (λ q. cache_file_of self.now.cache.path (spec.first_name krate.now.versions) ≡ Some q)
             (D.folders disk.old) (D.folders disk.new) }

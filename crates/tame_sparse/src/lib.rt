@@ -23,15 +23,18 @@ mod memory_wire;
 mod naming;
 mod network;
 mod responses;
+mod serving;
 mod sparse;
 mod urls;
 
 pub use etags::EtagCache;
 pub use git::{CRATES_IO_INDEX, GitIndex};
-pub use laws::cases_share_places;
+pub use laws::{cases_share_places, served_exchanges_are_honest};
 pub use memory_wire::{MemWire, Scripted};
 pub use network::{
-    CRATES_IO_HTTP_INDEX, Exchange, Held, Request, Wire, WireAnswer, WireFault, crates_io_request,
+    CRATES_IO_HTTP_INDEX, Exchange, Representation, Request, Wire, WireAnswer, WireFault,
+    crates_io_request,
 };
 pub use responses::Response;
+pub use serving::{Held, ServeWire};
 pub use sparse::SparseIndex;

@@ -4,7 +4,7 @@ ghost use Rattle.tame_names.specs.Counts.{HasCause, next_call};
 ghost use Rattle.tame_sparse.specs.Exchanges.{AddsExchange};
 ghost use Rattle.tame_sparse.specs.MemoryWire.{GivesItem, MayAddItem, item_at};
 
-use crate::network::{Exchange, Held, Request, Wire, WireAnswer, WireFault};
+use crate::network::{Exchange, Representation, Request, Wire, WireAnswer, WireFault};
 use std::alloc::Global;
 use tame_entry::OwnedRevision;
 use tame_names::{Items, NoMemory};
@@ -12,7 +12,7 @@ use tame_names::{Items, NoMemory};
 /// What a server holds at a call, and the answer that it gives; without one the call fails.
 #[derive(Drop)]
 pub struct Scripted {
-    pub held: Option<Held>,
+    pub held: Option<Representation>,
     pub answer: Option<WireAnswer>,
 }
 
@@ -47,7 +47,7 @@ impl MemWire {
     }
 }
 
-fn copy_revision(
+pub fn copy_revision(
     alloc: Global,
     revision: &Option<OwnedRevision>,
 ) -> Result<Option<OwnedRevision>, NoMemory>
@@ -72,13 +72,16 @@ fn copy_answer(alloc: Global, answer: &Option<WireAnswer>) -> Result<Option<Wire
     }))
 }
 
-fn copy_held(alloc: Global, held: &Option<Held>) -> Result<Option<Held>, NoMemory>
+fn copy_held(
+    alloc: Global,
+    held: &Option<Representation>,
+) -> Result<Option<Representation>, NoMemory>
     ensures { IfOk result (λ copy. copy ≡ held.now) }
 {
     let Some(held) = held else {
         return Ok(None);
     };
-    Ok(Some(Held {
+    Ok(Some(Representation {
         revision: copy_revision(alloc, &held.revision)?,
         body: Items::copied(alloc, held.body.as_slice())?,
     }))
@@ -87,7 +90,7 @@ fn copy_held(alloc: Global, held: &Option<Held>) -> Result<Option<Held>, NoMemor
 /// What is held at a call, its answer, and a copy of that.
 #[derive(Drop)]
 struct Given {
-    held: Option<Held>,
+    held: Option<Representation>,
     answer: Option<WireAnswer>,
     copy: Option<WireAnswer>,
 }
@@ -118,6 +121,12 @@ impl Wire for MemWire {
     ghost exchanges = { λ w. w.exchanges };
 
     ghost faults = { λ w. w.faults };
+
+    ghost becomes = { λ _ _. ⊤ };
+
+    ghost becomes_itself = { λ _. tt };
+
+    ghost becomes_then = { λ _ _ _ _ _. tt };
 
     fn wire_faults(&self) -> u64 {
         self.faults

@@ -1,5 +1,5 @@
 //! A sparse index with its cache.
-ghost use Rattle.std.specs.Prelude.{◌≡◌, ◌≢◌, ◌⊎◌, ◌≤◌, ◌+◌, ℕ, List, ◌++◌, true, false, map, Ok, Err, Some, None, IsTrue, IfOk, IfErr, OnOk};
+ghost use Rattle.std.specs.Prelude.{◌≡◌, ◌≢◌, ◌⊎◌, ◌≤◌, ◌+◌, ℕ, List, ◌++◌, true, false, drop, map, Ok, Err, Some, None, IsTrue, IfOk, IfErr, OnOk};
 ghost use Rattle.tame_names.specs.Counts.{HasCause, CountStayed, CountRose};
 ghost use Rattle.tame_names.specs.KrateNames.{text_of};
 ghost use Rattle.tame_names.specs.Names.{IsIndexPath, path};
@@ -13,7 +13,8 @@ ghost use Rattle.tame_cache.specs.Disk.{EachMoment, may_leave, reads};
 ghost use Rattle.tame_cache.specs.Folders.{MakesOnly};
 ghost use Rattle.tame_cache.specs.Gate.{IsOrderly, IsUnreadable, IsStored};
 ghost use Rattle.tame_cache.specs.Kept.{IsKept, IsWrittenFor, Keeps, cache_file_of};
-ghost use Rattle.tame_sparse.specs.ResponseResults.{IsBodyResult, IsResponseResult, IsToStore, Stores, StoresWhole, came};
+ghost use Rattle.tame_cache.specs.LaidPieces.{piece_count};
+ghost use Rattle.tame_sparse.specs.ResponseResults.{IsBodyResult, IsResponseResult, IsToStore, Stores, StoresWhole, came, storing_calls};
 ghost use Rattle.tame_sparse.specs.Named.{NamesKept, handed};
 ghost use Rattle.tame_sparse.specs.Urls.{IsConfigRead, config_file, http_url, is_sparse_url};
 ghost use Rattle.tame_sparse.specs.Urls as spec;
@@ -37,7 +38,6 @@ use tame_names::{
 #[derive(Debug, Drop)]
 pub struct SparseIndex {
     cache: IndexCache,
-    url: Text,
 }
 
 impl SparseIndex {
@@ -45,7 +45,7 @@ impl SparseIndex {
     /// where the url doesn't begin with `sparse+http`.
     pub fn at(alloc: Global, path: Text, url: &str) -> Result<SparseIndex, Error>
         ensures ok { IfOk result (λ index. (is_sparse_url url.now ≡ true)
-            × (index.cache.path ≡ path) × (index.url ≡ url.now)) }
+            × (index.cache.path ≡ path) × (index.cache.index ≡ url.now)) }
         ensures refused { IfErr result (λ e. (e ≡ Error.NoMemory)
             ⊎ ((is_sparse_url url.now ≡ false) × (e ≡ Error.InvalidUrl (record {
               url = url.now;
@@ -60,8 +60,7 @@ impl SparseIndex {
             }));
         }
         Ok(SparseIndex {
-            cache: IndexCache::at_path(path),
-            url: copy,
+            cache: IndexCache::at_path(path, copy),
         })
     }
 
@@ -88,7 +87,7 @@ impl SparseIndex {
 
     /// The url of a crate's file.
     pub fn crate_url(&self, alloc: Global, name: KrateName<'_>) -> Result<Text, NoMemory>
-        ensures { IfOk result (λ url. spec.crate_url self.now.url (text_of name.entry)
+        ensures { IfOk result (λ url. spec.crate_url self.now.cache.index (text_of name.entry)
             ≡ Some url) }
     {
         let path = name.relative_path(alloc, None)?;
@@ -97,7 +96,7 @@ impl SparseIndex {
 
     /// The url of the file of a path.
     fn file_url(&self, alloc: Global, path: &str) -> Result<Text, NoMemory>
-        ensures { IfOk result (λ url. url ≡ http_url self.now.url ++ path.now) }
+        ensures { IfOk result (λ url. url ≡ http_url self.now.cache.index ++ path.now) }
     {
         let url = self.url();
         let text = format!(in alloc; "{url}{path}")?;
@@ -106,9 +105,9 @@ impl SparseIndex {
 
     /// The url of the index, without what marks it as sparse.
     pub fn url(&self) -> &str
-        ensures { result.now ≡ http_url self.now.url }
+        ensures { result.now ≡ http_url self.now.cache.index }
     {
-        http_url(self.url.as_str())
+        http_url(self.cache.index())
     }
 
     /// The cache of the index.
@@ -129,7 +128,7 @@ impl SparseIndex {
     ) -> Result<Option<IndexEntry<'static, 'l>>, Error>
         ensures read { D.tells → (q : List ℕ)
             → cache_file_of self.now.cache.path (text_of name.entry) ≡ Some q
-            → IfOk result (λ e. HandsOut e (reads (D.past disk.old q))) }
+            → IfOk result (λ e. HandsOut self.now.cache.index e (reads (D.past disk.old q))) }
         ensures same { D.tells → (q : List ℕ) → D.past disk.new q ≡ D.past disk.old q }
         ensures folders { D.tells → D.folders disk.new ≡ D.folders disk.old }
         ensures calls { D.made disk.new ≤ D.made disk.old + 1 }
@@ -153,12 +152,13 @@ impl SparseIndex {
     ) -> Result<Request, Error>
         ensures path { IfOk result (λ request. path (text_of name.entry) ≡ Some request.path) }
         ensures index_path { IfOk result (λ request. IsIndexPath request.path) }
-        ensures uri { IfOk result (λ request. request.uri ≡ http_url self.now.url ++ request.path) }
+        ensures uri { IfOk result (λ request. request.uri
+            ≡ http_url self.now.cache.index ++ request.path) }
         // what is named
         ensures kept_named { D.tells → revision.entry ≡ None → (q : List ℕ)
             → cache_file_of self.now.cache.path (text_of name.entry) ≡ Some q
-            → IfOk result (λ request. NamesKept (reads (D.past disk.old q)) (D.faults disk.old)
-            (D.faults disk.new) request.named) }
+            → IfOk result (λ request. NamesKept self.now.cache.index (reads (D.past disk.old q))
+            (D.faults disk.old) (D.faults disk.new) request.named) }
         ensures handed { (r : HttpRevision) → revision.entry ≡ Some r
             → IfOk result (λ request. handed (http_value r) ≡ Ok request.named) }
         ensures refused { IfErr result
@@ -167,8 +167,10 @@ impl SparseIndex {
         // no file changes, and none is read for a revision that is handed in
         ensures same { D.tells → (q : List ℕ) → D.past disk.new q ≡ D.past disk.old q }
         ensures folders { D.tells → D.folders disk.new ≡ D.folders disk.old }
-        ensures kept { D.tells → (m : ServerMap) → IsKept m self.now.cache.path (D.past disk.old)
-            → Keeps m self.now.cache.path (D.past disk.old) (D.past disk.new) }
+        ensures kept { D.tells → (m : ServerMap)
+            → IsKept m self.now.cache.index self.now.cache.path (D.past disk.old)
+            → Keeps m self.now.cache.index self.now.cache.path (D.past disk.old)
+            (D.past disk.new) }
         ensures uncalled { (r : HttpRevision) → revision.entry ≡ Some r → disk.new ≡ disk.old }
         ensures calls { D.made disk.new ≤ D.made disk.old + 1 }
         ensures later { D.faults disk.old ≤ D.faults disk.new }
@@ -190,8 +192,8 @@ impl SparseIndex {
     ) -> Result<Option<OwnedRevision>, Error>
         ensures kept_named { D.tells → revision.entry ≡ None → (q : List ℕ)
             → cache_file_of self.now.cache.path (text_of name.entry) ≡ Some q
-            → IfOk result (NamesKept (reads (D.past disk.old q)) (D.faults disk.old)
-            (D.faults disk.new)) }
+            → IfOk result (NamesKept self.now.cache.index (reads (D.past disk.old q))
+            (D.faults disk.old) (D.faults disk.new)) }
         ensures handed { (r : HttpRevision) → revision.entry ≡ Some r
             → IfOk result (λ named. handed (http_value r) ≡ Ok named) }
         ensures refused { IfErr result
@@ -219,8 +221,8 @@ impl SparseIndex {
     ) -> Result<Option<OwnedRevision>, Error>
         ensures named { D.tells → (q : List ℕ)
             → cache_file_of self.now.cache.path (text_of name.entry) ≡ Some q
-            → IfOk result (NamesKept (reads (D.past disk.old q)) (D.faults disk.old)
-            (D.faults disk.new)) }
+            → IfOk result (NamesKept self.now.cache.index (reads (D.past disk.old q))
+            (D.faults disk.old) (D.faults disk.new)) }
         ensures memory { IfErr result (λ e. e ≡ Error.NoMemory) }
         ensures same { D.tells → (q : List ℕ) → D.past disk.new q ≡ D.past disk.old q }
         ensures folders { D.tells → D.folders disk.new ≡ D.folders disk.old }
@@ -255,20 +257,22 @@ impl SparseIndex {
         ensures taken { IsResponseResult response.entry result }
         ensures read { D.tells → response.entry.status ≡ 304 → (q : List ℕ)
             → cache_file_of self.now.cache.path (text_of name.entry) ≡ Some q
-            → IfOk result (λ e. HandsOut e (reads (D.past disk.old q))) }
+            → IfOk result (λ e. HandsOut self.now.cache.index e (reads (D.past disk.old q))) }
         ensures rose { result ≡ Err (Error.Io IoKind.Failed)
             → (response.entry.status ≡ 304) × CountRose (D.faults disk.old) (D.faults disk.new) }
         // what is stored
-        ensures stores { D.tells → Stores self.now.cache.path (text_of name.entry)
-            (came response.entry) write_cache_entry (D.past disk.old) (D.past disk.new) }
+        ensures stores { D.tells → Stores self.now.cache.index self.now.cache.path
+            (text_of name.entry) (came response.entry) write_cache_entry (D.past disk.old)
+            (D.past disk.new) }
         ensures stored { D.tells → CountStayed (D.faults disk.old) (D.faults disk.new)
-            → write_cache_entry ≡ true → IsToStore (came response.entry)
-            → OnOk result (StoresWhole self.now.cache.path (text_of name.entry)
-            (came response.entry) (D.past disk.new)) }
+            → write_cache_entry ≡ true → IsToStore self.now.cache.index (came response.entry)
+            → OnOk result (StoresWhole self.now.cache.index self.now.cache.path
+            (text_of name.entry) (came response.entry) (D.past disk.new)) }
         ensures folders { D.tells → MakesOnly
             (λ q. cache_file_of self.now.cache.path (text_of name.entry) ≡ Some q)
             (D.folders disk.old) (D.folders disk.new) }
-        ensures calls { D.made disk.new ≤ D.made disk.old + 13 }
+        ensures calls { D.made disk.new ≤ D.made disk.old
+            + storing_calls self.now.cache.index (came response.entry) }
         ensures later { D.faults disk.old ≤ D.faults disk.new }
     {
         match response.status {
@@ -298,16 +302,18 @@ impl SparseIndex {
     ) -> Result<Option<IndexEntry<'r, 'l>>, Error>
         requires { response.status ≡ 200 }
         ensures taken { IsBodyResult response.entry.body.now result }
-        ensures stores { D.tells → Stores self.now.cache.path (text_of name.entry)
-            (came response.entry) write_cache_entry (D.past disk.old) (D.past disk.new) }
+        ensures stores { D.tells → Stores self.now.cache.index self.now.cache.path
+            (text_of name.entry) (came response.entry) write_cache_entry (D.past disk.old)
+            (D.past disk.new) }
         ensures stored { D.tells → CountStayed (D.faults disk.old) (D.faults disk.new)
-            → write_cache_entry ≡ true → IsToStore (came response.entry)
-            → OnOk result (StoresWhole self.now.cache.path (text_of name.entry)
-            (came response.entry) (D.past disk.new)) }
+            → write_cache_entry ≡ true → IsToStore self.now.cache.index (came response.entry)
+            → OnOk result (StoresWhole self.now.cache.index self.now.cache.path
+            (text_of name.entry) (came response.entry) (D.past disk.new)) }
         ensures folders { D.tells → MakesOnly
             (λ q. cache_file_of self.now.cache.path (text_of name.entry) ≡ Some q)
             (D.folders disk.old) (D.folders disk.new) }
-        ensures calls { D.made disk.new ≤ D.made disk.old + 13 }
+        ensures calls { D.made disk.new ≤ D.made disk.old
+            + storing_calls self.now.cache.index (came response.entry) }
         ensures later { D.faults disk.old ≤ D.faults disk.new }
     {
         let lines = match JsonLines::validate(response.body) {
@@ -335,14 +341,14 @@ impl SparseIndex {
         disk: &mut D,
     ) -> Result<(), NoMemory>
         ensures stored { D.tells → CountStayed (D.faults disk.old) (D.faults disk.new)
-            → IsTrue (is_storable (revision_value revision.now)
+            → IsTrue (is_storable self.now.cache.index (revision_value revision.now)
             (map pair_of (lines_of lines.entry)))
             → (q : List ℕ) → cache_file_of self.now.cache.path (text_of name.entry) ≡ Some q
             → OnOk result
-            (IsStored (entry (revision_value revision.now) (map pair_of (lines_of lines.entry)))
-            (D.past disk.new q)) }
+            (IsStored (entry self.now.cache.index (revision_value revision.now)
+            (map pair_of (lines_of lines.entry))) (D.past disk.new q)) }
         ensures unstored { D.tells → ¬
-            (IsTrue (is_storable (revision_value revision.now)
+            (IsTrue (is_storable self.now.cache.index (revision_value revision.now)
             (map pair_of (lines_of lines.entry)))) → (q : List ℕ)
             → D.past disk.new q ≡ D.past disk.old q }
         ensures any_moment { D.tells → (q : List ℕ)
@@ -351,7 +357,7 @@ impl SparseIndex {
             → EachMoment (D.past disk.old q) (D.past disk.new q)
             (λ file. may_leave (D.past disk.old q) file
             ⊎ (IsUnreadable file
-            ⊎ (file ≡ Some (entry (revision_value revision.now)
+            ⊎ (file ≡ Some (entry self.now.cache.index (revision_value revision.now)
             (map pair_of (lines_of lines.entry)))))) }
         ensures orderly { D.tells → (q : List ℕ)
             → cache_file_of self.now.cache.path (text_of name.entry) ≡ Some q
@@ -361,15 +367,17 @@ impl SparseIndex {
             → D.past disk.new q ≡ D.past disk.old q }
         ensures kept { D.tells → (m : ServerMap)
             → ((p : List ℕ) → path (text_of name.entry) ≡ Some p
-            → IsTrue (is_storable (revision_value revision.now)
+            → IsTrue (is_storable self.now.cache.index (revision_value revision.now)
             (map pair_of (lines_of lines.entry)))
             → IsWrittenFor m p (revision_value revision.now) (map pair_of (lines_of lines.entry)))
-            → IsKept m self.now.cache.path (D.past disk.old)
-            → Keeps m self.now.cache.path (D.past disk.old) (D.past disk.new) }
+            → IsKept m self.now.cache.index self.now.cache.path (D.past disk.old)
+            → Keeps m self.now.cache.index self.now.cache.path (D.past disk.old) (D.past disk.new) }
         ensures folders { D.tells → MakesOnly
             (λ q. cache_file_of self.now.cache.path (text_of name.entry) ≡ Some q)
             (D.folders disk.old) (D.folders disk.new) }
-        ensures calls { D.made disk.new ≤ D.made disk.old + 13 }
+        ensures calls { D.made disk.new ≤ D.made disk.old
+            + (piece_count (drop 1 (entry self.now.cache.index (revision_value revision.now)
+            (map pair_of (lines_of lines.entry)))) + 12) }
         ensures later { D.faults disk.old ≤ D.faults disk.new }
     {
         match self.cache.write_to_cache(

@@ -9,7 +9,7 @@ use tame_cache::CacheDisk;
 use tame_entry::OwnedRevision;
 
 /// What a run named, was answered and printed.
-fn line_of(alloc: Global, ran: &Ran, answered: u16) -> Result<String, RowFault> {
+pub fn line_of(alloc: Global, ran: &Ran, answered: u16) -> Result<String, RowFault> {
     let Some(exchange) = ran.wire.exchanges().first() else {
         return Ok(String::from_str(alloc, "nothing asked")?);
     };
@@ -21,7 +21,7 @@ fn line_of(alloc: Global, ran: &Ran, answered: u16) -> Result<String, RowFault> 
 
 /// Adds the answer of a server that holds the line with this flag: yanked under `x`, else under
 /// `y`.
-fn serve(alloc: Global, stage: &mut Stage, status: u16, yanked: bool) -> Result<(), RowFault> {
+pub fn serve(alloc: Global, stage: &mut Stage, status: u16, yanked: bool) -> Result<(), RowFault> {
     let body = flagged_body(alloc, yanked)?;
     let tag = RevisionWord::of(alloc, if yanked { "etag:x" } else { "etag:y" })?;
     let answer = answer_of(alloc, status, &tag, body.as_bytes())?;

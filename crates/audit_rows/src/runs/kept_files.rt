@@ -42,6 +42,19 @@ fn whole_file(alloc: Global, disk: &mut MemCacheDisk) -> Result<String, RowFault
     }
 }
 
+/// The file of the crate `a`, of which another one than an entry of a line is told by its length.
+pub fn left_file(alloc: Global, disk: &mut MemCacheDisk) -> Result<String, RowFault> {
+    let Some(bytes) = read(alloc, disk)? else {
+        return Ok(String::from_str(alloc, "no file")?);
+    };
+    let kind = kind_of(alloc, bytes.as_slice())?;
+    if kind.as_str().ends_with("under x") || kind.as_str().ends_with("under y") {
+        return Ok(kind);
+    }
+    let first = first_byte(alloc, disk)?;
+    Ok(format!(in alloc; "{} bytes, {first}", bytes.len())?)
+}
+
 /// `file`: the file of the crate `a`, and its first byte.
 pub fn file(alloc: Global, disk: &mut MemCacheDisk) -> Result<String, RowFault> {
     let first = first_byte(alloc, disk)?;

@@ -3,6 +3,7 @@
 mod crashes;
 mod kept_files;
 mod running;
+mod spoiled_files;
 mod stage;
 mod telling;
 
@@ -39,6 +40,9 @@ pub fn answer(alloc: Global, stage: &mut Stage, row: Row<'_>) -> Result<String, 
         "file" => kept_files::file(alloc, &mut stage.disk),
         "next" => kept_files::next(alloc, &stage.index, &mut stage.disk),
         "crashed" => crashes::crashed_audit(alloc, stage, words),
+        "first-bytes" => spoiled_files::first_bytes(alloc, stage, words),
+        "parts" => spoiled_files::parts(alloc, stage),
+        "older" => spoiled_files::older(alloc, stage, words),
         _ => Err(RowFault::Unread),
     }
 }

@@ -1,7 +1,7 @@
 //! Entries as bytes.
 use crate::cache::revisions::revision_of;
 use crate::cache::sources::{Source, written};
-use row_fixtures::{RevisionWord, Row, RowFault, body_of, entry_of, shown};
+use row_fixtures::{INDEX_URL, RevisionWord, Row, RowFault, body_of, entry_of, shown};
 use std::alloc::{AllocError, Global};
 use tame_entry::{CacheWrite, IndexEntry, JsonLines, Revision, ValidCacheEntry};
 use tame_names::{FileLock, Items, MemSink};
@@ -14,12 +14,12 @@ fn put(
     revision: &Revision<'_>,
     sink: &mut MemSink,
 ) -> Result<u64, RowFault> {
-    Ok(CacheWrite::Remote(lines).write_cache_entry(alloc, sink, revision)?)
+    Ok(CacheWrite::Remote(lines).write_cache_entry(alloc, sink, INDEX_URL, revision)?)
 }
 
 /// What an entry is read back as: whether its revision is this one, and how many bytes follow it.
 fn read_back(alloc: Global, entry: &[u8], revision: &Revision<'_>) -> Result<String, AllocError> {
-    match ValidCacheEntry::read(entry) {
+    match ValidCacheEntry::read(entry, INDEX_URL) {
         Ok(entry) => {
             let is_same = entry.revision == *revision;
             let more = entry.version_entries.len();
@@ -38,7 +38,7 @@ fn entry_line(
 ) -> Result<String, RowFault> {
     let mut sink = MemSink::new(alloc, Items::new(alloc));
     let count = put(alloc, lines, revision, &mut sink)?;
-    let told = CacheWrite::Remote(lines).entry_len(alloc, revision)?;
+    let told = CacheWrite::Remote(lines).entry_len(alloc, INDEX_URL, revision)?;
     let back = read_back(alloc, sink.bytes(), revision)?;
     let bytes = shown(alloc, sink.bytes())?;
     Ok(format!(in alloc; "{count} {told} [{bytes}] {back}")?)
@@ -56,7 +56,7 @@ pub fn entry(alloc: Global, mut words: Row<'_>) -> Result<String, RowFault> {
 
 /// Whether bytes are read as an entry, or why they aren't.
 fn verdict(alloc: Global, bytes: &[u8]) -> Result<String, AllocError> {
-    match ValidCacheEntry::read(bytes) {
+    match ValidCacheEntry::read(bytes, INDEX_URL) {
         Ok(_) => String::from_str(alloc, "read"),
         Err(error) => format!(in alloc; "{error:?}"),
     }
@@ -139,9 +139,9 @@ fn versions_line(
     revision: &Revision<'_>,
 ) -> Result<String, RowFault> {
     let written = CacheWrite::from(krate);
-    let told = written.entry_len(alloc, revision)?;
-    let is_storable = written.is_storable(alloc, revision)?;
-    let is_same = written.entry(alloc, revision)?.as_slice() == lines;
+    let told = written.entry_len(alloc, INDEX_URL, revision)?;
+    let is_storable = written.is_storable(alloc, INDEX_URL, revision)?;
+    let is_same = written.entry(alloc, INDEX_URL, revision)?.as_slice() == lines;
     Ok(format!(in alloc; "as the lines: {is_same}; {told} bytes; storable: {is_storable}")?)
 }
 
@@ -175,7 +175,7 @@ fn storable_line(
     krate: &IndexKrate,
     revision: &Revision<'_>,
 ) -> Result<String, RowFault> {
-    let is_storable = CacheWrite::from(krate).is_storable(alloc, revision)?;
+    let is_storable = CacheWrite::from(krate).is_storable(alloc, INDEX_URL, revision)?;
     Ok(format!(in alloc; "{is_storable}")?)
 }
 

@@ -3,6 +3,7 @@
 //! line of the output.
 mod configs;
 mod entries;
+mod long_entries;
 mod readings;
 mod revisions;
 mod scanning;
@@ -24,6 +25,7 @@ fn answer_of_values(alloc: Global, row: Row<'_>) -> Result<String, RowFault> {
         "order" => configs::order(alloc, words),
         "entry" => entries::entry(alloc, words),
         "valid" => entries::valid(alloc, words),
+        "long" => long_entries::long(alloc, words),
         "cuts" => entries::cuts(alloc, words),
         "firsts" => entries::firsts(alloc, words),
         "versions" => entries::of_versions(alloc, words),

@@ -1,7 +1,7 @@
 //! Index entries read as the versions of a crate, and line by line.
 use crate::cache::revisions::revision_of;
 use crate::cache::sources::{Source, written};
-use row_fixtures::{RevisionWord, Row, RowFault, shown, shown_word};
+use row_fixtures::{INDEX_URL, RevisionWord, Row, RowFault, shown, shown_word};
 use std::alloc::{AllocError, Global};
 use tame_entry::{
     IndexEntry, IndexEntryVersion, LockedMmap, Revision, ValidCacheEntry, entries_read_as_bodies,
@@ -63,7 +63,7 @@ fn kept_line(
     entry: &[u8],
     wanted: Option<&Revision<'_>>,
 ) -> Result<String, RowFault> {
-    match ValidCacheEntry::read(entry) {
+    match ValidCacheEntry::read(entry, INDEX_URL) {
         Ok(entry) => match entry.to_krate(alloc, wanted)? {
             Some(krate) => Ok(versions(alloc, &krate)?),
             None => Ok(String::from_str(alloc, "nothing")?),

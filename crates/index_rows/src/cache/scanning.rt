@@ -1,8 +1,8 @@
 //! The version and the flag of a line, without a record.
-use row_fixtures::{Row, RowFault, shown_word};
+use row_fixtures::{INDEX_URL, Row, RowFault, shown_word};
 use std::alloc::Global;
 use tame_entry::{IndexEntry, IndexEntryVersion, LockedMmap};
-use tame_names::FileLock;
+use tame_names::{FileLock, Text};
 
 fn scanned(alloc: Global, version: IndexEntryVersion<'_>) -> Result<String, RowFault> {
     let (found, flag) = version.yanked(alloc)?;
@@ -17,7 +17,9 @@ pub fn scan(alloc: Global, mut words: Row<'_>) -> Result<String, RowFault> {
 
 /// An entry of one version's text and line.
 fn entry_bytes(alloc: Global, version: &[u8], line: &[u8]) -> Result<Vec<u8>, RowFault> {
-    let mut bytes = b"\x03\x02\x00\x00\x00Unknown\x00".as_slice().to_vec(alloc)?;
+    let mut bytes = b"\x04\x02\x00\x00\x00".as_slice().to_vec(alloc)?;
+    bytes.extend_from_slice(INDEX_URL.as_bytes())?;
+    bytes.extend_from_slice(b"\x00Unknown\x00")?;
     bytes.extend_from_slice(version)?;
     bytes.push(0)?;
     bytes.extend_from_slice(line)?;
@@ -42,7 +44,8 @@ pub fn scan_entry(alloc: Global, mut words: Row<'_>) -> Result<String, RowFault>
     let line = words.bytes(alloc)?;
     let bytes = entry_bytes(alloc, version.as_slice(), line.as_slice())?;
     let lock = FileLock::unlocked();
-    let entry = IndexEntry::Cache(LockedMmap::of(bytes, &lock));
+    let url = Text::of(alloc, INDEX_URL)?;
+    let entry = IndexEntry::Cache(LockedMmap::of(bytes, &lock), url);
     scanned_first(alloc, &entry)
 }
 

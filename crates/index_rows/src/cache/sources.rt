@@ -1,9 +1,9 @@
 //! Index entries as words of a row.
 use crate::cache::revisions::revision_of;
-use row_fixtures::{RevisionWord, Row, RowFault, body_of, entry_of};
+use row_fixtures::{INDEX_URL, RevisionWord, Row, RowFault, body_of, entry_of};
 use std::alloc::Global;
 use tame_entry::{IndexEntry, JsonLines, LockedMmap};
-use tame_names::FileLock;
+use tame_names::{FileLock, Text};
 
 #[derive(Clone, Copy)]
 enum Kind {
@@ -64,7 +64,10 @@ impl Source {
                 Ok(lines) => Ok(IndexEntry::Remote(lines)),
                 Err(_) => Err(RowFault::Unread),
             },
-            Kind::Cache => Ok(IndexEntry::Cache(LockedMmap::of(bytes.to_vec(alloc)?, lock))),
+            Kind::Cache => Ok(IndexEntry::Cache(
+                LockedMmap::of(bytes.to_vec(alloc)?, lock),
+                Text::of(alloc, INDEX_URL)?,
+            )),
             Kind::Local => Ok(IndexEntry::Local(LockedMmap::of(bytes.to_vec(alloc)?, lock))),
         }
     }

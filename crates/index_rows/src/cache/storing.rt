@@ -1,8 +1,8 @@
 //! Entries stored on a disk in memory that fails and crashes.
 use crate::cache::revisions::revision_of;
 use row_fixtures::{
-    FLAGGED_FILE, RevisionWord, Row, RowFault, body_of, crashed, disk_failing, disk_with,
-    flagged_body, flagged_entry, shown_word, stop, told,
+    FLAGGED_FILE, INDEX_URL, RevisionWord, Row, RowFault, body_of, crashed, disk_failing,
+    disk_with, flagged_body, flagged_entry, shown_word, stop, told,
 };
 use std::alloc::{AllocError, Global};
 use tame_cache::{
@@ -14,7 +14,7 @@ use tame_names::{FileLock, KrateName, Text};
 
 /// The cache of an index in the folder of the empty path.
 fn root_cache(alloc: Global) -> Result<IndexCache, RowFault> {
-    Ok(IndexCache::at_path(Text::of(alloc, "")?))
+    Ok(IndexCache::at_path(Text::of(alloc, "")?, Text::of(alloc, INDEX_URL)?))
 }
 
 /// Stores lines under a revision as the entry of the crate `a`.
@@ -63,7 +63,7 @@ fn write(alloc: Global, disk: &mut MemCacheDisk, yanked: bool) -> Result<String,
 
 /// What a file of the crate `a` is.
 fn found(alloc: Global, file: &[u8]) -> Result<&'static str, RowFault> {
-    Ok(if ValidCacheEntry::read(file).is_err() {
+    Ok(if ValidCacheEntry::read(file, INDEX_URL).is_err() {
         "refused"
     } else if file == flagged_entry(alloc, true)?.as_slice() {
         "the yanked entry"
@@ -83,7 +83,7 @@ fn found_in(
     let name = KrateName::try_from("a")?;
     let lock = FileLock::unlocked();
     match cache.read_cache_file(alloc, name, &lock, disk)? {
-        Some(IndexEntry::Cache(file)) => found(alloc, file.as_slice()),
+        Some(IndexEntry::Cache(file, _url)) => found(alloc, file.as_slice()),
         Some(_entry) => Ok("no file"),
         None => Ok("nothing"),
     }

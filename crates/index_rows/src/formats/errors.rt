@@ -121,6 +121,7 @@ fn of_entries(alloc: Global, variant: &str) -> Result<String, RowFault> {
         "OutdatedCacheVersion" => CacheError::OutdatedCacheVersion,
         "UnknownCacheVersion" => CacheError::UnknownCacheVersion,
         "UnknownIndexVersion" => CacheError::UnknownIndexVersion,
+        "OtherIndex" => CacheError::OtherIndex,
         "OutdatedRevision" => CacheError::OutdatedRevision,
         "InvalidCrateVersion" => CacheError::InvalidCrateVersion,
         _ => return Err(RowFault::Unread),

@@ -5,6 +5,7 @@ mod krates;
 mod lockfiles;
 mod names;
 mod records;
+mod sharing;
 mod stage;
 mod values;
 mod written;
@@ -50,6 +51,7 @@ fn answer_of_records(alloc: Global, row: Row<'_>) -> Result<String, RowFault> {
         "body" => written::body(alloc, words),
         "krate" => krates::krate(alloc, words),
         "same" => krates::same(alloc, words),
+        "shared" => sharing::shared(alloc, words),
         "kind" => krates::kind(alloc),
         "lock" => lockfiles::lock(alloc, words),
         "package" => lockfiles::package(alloc, words),

@@ -1,6 +1,8 @@
 //! What an index makes of answers, and what it stores of them.
 use http::{HeaderValue, Response as HttpResponse};
-use row_fixtures::{RevisionWord, Row, RowFault, body_of, disk_failing, shown, shown_word, told};
+use row_fixtures::{
+    INDEX_URL, RevisionWord, Row, RowFault, body_of, disk_failing, shown, shown_word, told,
+};
 use std::alloc::Global;
 use tame_cache::MemCacheDisk;
 use tame_entry::{HttpRevision, IndexEntry, Revision, ValidCacheEntry};
@@ -36,7 +38,7 @@ fn revision_text(alloc: Global, revision: &Revision<'_>) -> Result<String, RowFa
 
 /// What an entry is kept under.
 fn kept_under(alloc: Global, entry: &[u8]) -> Result<String, RowFault> {
-    match ValidCacheEntry::read(entry) {
+    match ValidCacheEntry::read(entry, INDEX_URL) {
         Ok(entry) => revision_text(alloc, &entry.revision),
         Err(_) => Ok(String::from_str(alloc, "refused")?),
     }
@@ -47,7 +49,7 @@ fn kept(alloc: Global, index: &SparseIndex, disk: &mut MemCacheDisk) -> Result<S
     let lock = FileLock::unlocked();
     let name = KrateName::try_from("a")?;
     match index.cached_krate(alloc, name, &lock, disk)? {
-        Some(IndexEntry::Cache(file)) => kept_under(alloc, file.as_slice()),
+        Some(IndexEntry::Cache(file, _url)) => kept_under(alloc, file.as_slice()),
         _ => Ok(String::from_str(alloc, "nothing")?),
     }
 }

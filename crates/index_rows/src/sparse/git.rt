@@ -63,9 +63,10 @@ pub fn store(
     stored(alloc, git, &krate, blob, disk)
 }
 
-/// The bytes of an entry behind its five first, up to the end of its version's text.
+/// The bytes of an entry behind the url of the index, of 44 bytes, and the zero byte behind that, up
+/// to the end of its version's text.
 fn front_of(alloc: Global, entry: &[u8]) -> Result<String, RowFault> {
-    match entry.get(5..51) {
+    match entry.get(50..96) {
         Some(bytes) => Ok(shown(alloc, bytes)?),
         None => Ok(String::from_str(alloc, "short")?),
     }
@@ -80,13 +81,13 @@ fn kept_front(
 ) -> Result<String, RowFault> {
     let lock = FileLock::unlocked();
     match git.cached_krate(alloc, name, &lock, disk)? {
-        Some(IndexEntry::Cache(file)) => front_of(alloc, file.as_slice()),
+        Some(IndexEntry::Cache(file, _url)) => front_of(alloc, file.as_slice()),
         _ => Ok(String::from_str(alloc, "nothing")?),
     }
 }
 
-/// `front NAME`: the bytes of a crate's file behind the five first, up to the end of its version's
-/// text, and the path of the cache.
+/// `front NAME`: the bytes of a crate's file behind the url of the index, up to the end of its
+/// version's text, and the path of the cache.
 pub fn front(
     alloc: Global,
     git: &GitIndex,

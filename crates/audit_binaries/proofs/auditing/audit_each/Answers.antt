@@ -17,6 +17,7 @@ loop-path-init g c =
       refused = λ none. (refl, refl);
       unasked = λ other. refl;
       unchanged = λ other told q. refl;
+      unmade = λ other told. refl;
       off = λ is. refl;
     }
 
@@ -50,6 +51,7 @@ loop-path-preserved g c =
       refused = uncalled_more c.loop-path.answers c.in_ok-answer.answer _ _ _ _ _ _ inv.refused (λ x is. does.refused x (ap (λ (a : BinaryAnswer). Ok a) is));
       unasked = λ other. does.unasked other ∙ inv.unasked other;
       unchanged = λ other told q. does.unchanged other told q ∙ inv.unchanged other told q;
+      unmade = λ other told. does.unmade other told ∙ inv.unmade other told;
       off = λ is. does.off is ∙ inv.off is;
     }
 

@@ -32,5 +32,6 @@ invariant-loop-path g l = record {
   refused : AreRefused l.answers → (l.wire ≡ l.initial.wire) × (l.disk ≡ l.initial.disk);
   unasked : l.auditor.checks ≢ Checks.Online → l.wire ≡ l.initial.wire;
   unchanged : l.auditor.checks ≢ Checks.Online → g.D.CacheDisk.tells → (q : List ℕ) → g.D.CacheDisk.past l.disk q ≡ g.D.CacheDisk.past l.initial.disk q;
+  unmade : l.auditor.checks ≢ Checks.Online → g.D.CacheDisk.tells → g.D.CacheDisk.folders l.disk ≡ g.D.CacheDisk.folders l.initial.disk;
   off : l.auditor.checks ≡ Checks.Off → l.disk ≡ l.initial.disk;
 }

@@ -11,9 +11,9 @@ returns-clause-answer g c told q place =
     let past = g.D.CacheDisk.past in
     let r = c.response_of-response in
     let t = c.parse_remote_response-taken in
-    let there : cache_file_of c.args.index.now.cache.path (text_of c.args.name) ≡ Some q = ap (λ root. cache_file_of root (text_of c.args.name)) c.requires ∙ place in
+    let there : cache_file_of c.args.index.now.cache.path (text_of c.args.name) ≡ Some q = ap (λ root. cache_file_of root (text_of c.args.name)) c.requires.root ∙ place in
     if_ok c.answer_taken.result
-    (λ a h. taken_answer (reads (past c.args.disk.now q)) r.result t.result c.args.answer.now a r.ensures.status r.ensures.body t.ensures.taken (λ same. t.ensures.read (told (sym r.ensures.status ∙ same)) same q there) h)
+    (λ a h. taken_answer (reads (past c.args.disk.now q)) r.result t.result c.args.answer.now a r.ensures.status r.ensures.body t.ensures.taken (λ same. rw c.requires.url at (t.ensures.read (told (sym r.ensures.status ∙ same)) same q there)) h)
     c.answer_taken.ensures
 
 pub returns-clause-leaves : goal.returns-clause-leaves
@@ -24,15 +24,15 @@ returns-clause-leaves g c told q place =
     let t = c.parse_remote_response-taken in
     on_if_ok c.answer_taken.result
     (λ a h. left_file (text_of c.args.name) q r.result t.result c.args.answer.now a (faults c.args.disk.now) (faults t.new.disk) (past c.args.disk.now) (past t.new.disk)
-    (came_is r.result c.args.answer.now r.ensures.status r.ensures.revision r.ensures.body) t.ensures.taken h (rw c.requires at (t.ensures.stores told)) (λ quiet store. (rw c.requires at (t.ensures.stored told)) quiet refl store) place)
+    (came_is r.result c.args.answer.now r.ensures.status r.ensures.revision r.ensures.body) t.ensures.taken h (rw (c.requires.root, c.requires.url) at (t.ensures.stores told)) (λ quiet store. (rw (c.requires.root, c.requires.url) at (t.ensures.stored told)) quiet refl store) place)
     c.answer_taken.ensures
 
 pub returns-clause-kept : goal.returns-clause-kept
 returns-clause-kept g c told m held kept =
     let r = c.response_of-response in
     let t = c.parse_remote_response-taken in
-    let stores = rw c.requires at (t.ensures.stores told) in
+    let stores = rw (c.requires.root, c.requires.url) at (t.ensures.stores told) in
     stores.kept m (λ p named. held_body m p r.result c.args.answer.now (came_is r.result c.args.answer.now r.ensures.status r.ensures.revision r.ensures.body) (held p named)) kept
 
 pub returns-clause-folders : goal.returns-clause-folders
-returns-clause-folders g c told = rw c.requires at (c.parse_remote_response-taken.ensures.folders told)
+returns-clause-folders g c told = rw c.requires.root at (c.parse_remote_response-taken.ensures.folders told)

@@ -55,7 +55,7 @@ returns-clause-said g c told_wire =
           place = subst IsIndexPath (sym x.2) c.in-Ok.ensures.index_path;
           url = x.4;
           path = x.2;
-          named = λ told. rw (x.2, x.3, c.disk_faults-disk_before.ensures, c.disk_faults-disk_asked.ensures) (c.in-Ok.ensures.kept_named told refl _ there);
+          named = λ told. rw (x.2, x.3, c.disk_faults-disk_before.ensures, c.disk_faults-disk_asked.ensures) (rw c.requires.url at (c.in-Ok.ensures.kept_named told refl _ there));
           exchanged = rw (c.disk_faults-disk_asked.ensures, c.disk_faults.ensures)
               (exchanged_from g.D.CacheDisk.tells (faults c.make_remote_request.new.disk) (faults c.exchange_answer.new.disk) (past c.args.disk.now) (past c.make_remote_request.new.disk) (past c.exchange_answer.new.disk) e c.in_ok-answer.answer
               c.make_remote_request.ensures.same x.5);

@@ -1,4 +1,4 @@
-use Rattle.std.proofs.Common.{◌≡◌, Ok, sym, add-one, ap, ◌∙◌}
+use Rattle.std.proofs.Common.{sym, add-one, ap, ◌∙◌}
 use Rattle.audit_lock.proofs.Steps.{drop_at, read_more}
 use Rattle.audit_advisory.specs.Advisories.{advisory_of}
 use Rattle.audit_core.specs.Auditors.{at_text}

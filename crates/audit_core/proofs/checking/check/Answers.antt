@@ -1,4 +1,4 @@
-use Rattle.std.proofs.Common.{◌≡◌, ℕ, List, refl, sym}
+use Rattle.std.proofs.Common.{refl}
 use Rattle.tame_cache.proofs.FolderLemmas.{none_made}
 use Rattle.audit_core.proofs.Exchanged.{keeps_nothing, keeps_unchanged, part_none}
 use Rattle.audit_core.proofs.Unasked.{says_off}

@@ -1,4 +1,4 @@
-use Rattle.std.proofs.Common.{◌≡◌, List, ℕ, Some, map, ap, ◌∙◌, refl}
+use Rattle.std.proofs.Common.{◌≡◌, Some, map, ap, ◌∙◌, refl}
 use Rattle.audit_core.specs.declared.asking.AnsweredTurn.{AnsweredTurn}
 use Rattle.tame_names.specs.Names.{path}
 use Rattle.audit_core.proofs.Apart.{asked_distinct}

@@ -1,4 +1,4 @@
-use Rattle.std.proofs.Common.{List, ◌≡◌, ◌+◌, ◌≤◌, length, refl, subst, sym, arith}
+use Rattle.std.proofs.Common.{List, ◌+◌, ◌≤◌, length, refl, subst, sym, arith}
 use Rattle.audit_core.proofs.PlanLemmas.{IsFront, front_more, front_same, front_whole, planned_at, planned_length}
 use Rattle.audit_core.proofs.judging.judge.Goals as goal
 use Rattle.audit_core.proofs.judging.judge.Goals.{in-Some+in_ok-add, in_default}

@@ -1,4 +1,4 @@
-use Rattle.std.proofs.Common.{◌≡◌, List, ℕ, Some, map, sym, ◌∙◌, subst, refl}
+use Rattle.std.proofs.Common.{◌≡◌, Some, map, sym, ◌∙◌, subst}
 use Rattle.audit_core.specs.AnsweredTurns.{answered_turn_of}
 use Rattle.audit_core.specs.Plans.{IsPlanned}
 use Rattle.audit_core.specs.declared.asking.AnsweredTurn.{AnsweredTurn}

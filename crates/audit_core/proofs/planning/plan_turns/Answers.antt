@@ -1,8 +1,7 @@
-use Rattle.std.proofs.Common.{◌≡◌, List, ℕ, ◌+◌, ◌++◌, ◌∷◌, [], suc, take, drop, ap, sym, ◌∙◌, subst, arith}
+use Rattle.std.proofs.Common.{◌≡◌, List, ℕ, ◌+◌, ◌++◌, ◌∷◌, [], suc, take, drop, ap, sym, ◌∙◌, arith}
 use Rattle.std.proofs.Math.Seq.{take-suc}
 use Rattle.audit_lock.specs.declared.resolving.Package.{Package}
 use Rattle.audit_core.specs.Paths.{default_path, default_paths, distinct_after}
-use Rattle.audit_core.specs.Plans.{ArePlanned, with_each}
 use Rattle.audit_core.proofs.Lists.{drop_at}
 use Rattle.audit_core.proofs.PlanLemmas.{distinct_next, planned_more, planned_with}
 use Rattle.audit_core.proofs.planning.plan_turns.Goals as goal

@@ -10,7 +10,7 @@ pub returns-clause-answer : goal.returns-clause-answer
 returns-clause-answer g c told q place =
     let past = g.D.CacheDisk.past in
     let t = c.cached_krate-taken in
-    let there : cache_file_of c.args.index.now.cache.path (text_of c.args.name) ≡ Some q = ap (λ root. cache_file_of root (text_of c.args.name)) c.requires ∙ place in
+    let there : cache_file_of c.args.index.now.cache.path (text_of c.args.name) ≡ Some q = ap (λ root. cache_file_of root (text_of c.args.name)) c.requires.root ∙ place in
     if_ok c.answer_taken.result
-    (λ a h. same_answer (reads (past c.args.disk.now q)) t.result a (t.ensures.read told q there) t.ensures.only h)
+    (λ a h. same_answer (reads (past c.args.disk.now q)) t.result a (rw c.requires.url at (t.ensures.read told q there)) t.ensures.only h)
     c.answer_taken.ensures

@@ -1,4 +1,4 @@
-use Rattle.std.proofs.Common.{◌≡◌, ◌⊎◌, [], inl, inr, Some, option_map, ap, ◌∙◌, sym, refl}
+use Rattle.std.proofs.Common.{◌≡◌, [], inl, inr, Some, option_map, ap, refl}
 use Rattle.tame_names.specs.KrateNames.{text_of}
 use Rattle.tame_names.specs.Names.{path}
 use Rattle.tame_cache.specs.Kept.{cache_file, cache_file_of}

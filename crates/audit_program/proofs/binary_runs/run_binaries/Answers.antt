@@ -25,6 +25,11 @@ returns-in-Ok-clause-unchanged g c told_files told config settles off q =
     let same : c.in-Ok.given.config ≡ config = binaries_config c.args.command.now (g.F.Files.host c.args.files.now) c.in-Ok.given config (c.in-Ok.ensures.gives told_files).ok settles in
     c.run_given.ensures.unchanged (λ on. off (ap (λ (x : AuditConfig). checks_of x) (sym same) ∙ on)) told q
 
+pub returns-in-Ok-clause-unmade : goal.returns-in-Ok-clause-unmade
+returns-in-Ok-clause-unmade g c told_files told config settles off =
+    let same : c.in-Ok.given.config ≡ config = binaries_config c.args.command.now (g.F.Files.host c.args.files.now) c.in-Ok.given config (c.in-Ok.ensures.gives told_files).ok settles in
+    c.run_given.ensures.unmade (λ on. off (ap (λ (x : AuditConfig). checks_of x) (sym same) ∙ on)) told
+
 pub returns-in-Ok-clause-off : goal.returns-in-Ok-clause-off
 returns-in-Ok-clause-off g c told config settles off =
     let same : c.in-Ok.given.config ≡ config = binaries_config c.args.command.now (g.F.Files.host c.args.files.now) c.in-Ok.given config (c.in-Ok.ensures.gives told).ok settles in

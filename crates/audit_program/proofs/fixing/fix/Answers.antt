@@ -1,7 +1,7 @@
 use Rattle.std.proofs.Common.{◌≡◌, [], Err, rules, arith}
 use Rattle.std.proofs.lemmas.Grind.{common_steps}
 use Rattle.audit_asked.specs.declared.faults.RunFault.TheVariants as fault
-use Rattle.audit_output.proofs.Puts.{part_none}
+use Rattle.audit_report.proofs.Puts.{part_none}
 use Rattle.audit_program.proofs.Finishing.{part_nothing, partly_started}
 use Rattle.audit_program.proofs.Putting.{put_memory}
 use Rattle.audit_program.proofs.fixing.fix.Goals as goal

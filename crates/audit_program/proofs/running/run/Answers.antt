@@ -7,7 +7,7 @@ use Rattle.audit_core.proofs.Exchanged.{keeps_nothing, part_none}
 use Rattle.audit_program.specs.Outputs.{AsksForNoAudit, words_place}
 use Rattle.audit_program.specs.Tasks.{AsksForBinaries, fix_task, task_of}
 use Rattle.audit_program.specs.declared.tasks.Remedy.TheVariants.{Report}
-use Rattle.audit_program.proofs.Commands.{accepted_by, if_none, if_none_then, no_memory_called, plain_none, plain_put, task_cause}
+use Rattle.audit_program.proofs.Commands.{accepted_by, if_none, if_none_then, no_memory_called, not_both, plain_none, plain_put, task_cause}
 use Rattle.audit_program.proofs.Completing.{task_complete}
 use Rattle.audit_program.proofs.Ended.{ended_by}
 use Rattle.audit_program.proofs.Putting.{put_nothing}
@@ -40,6 +40,23 @@ returns-in-Ok-Audit-clause-others g c told_files told given packages accepts q o
     let mine = rw c.in-Ok-Audit.field-0-is at c.in-Ok-Audit.ensures.ok in
     c.run_task.ensures.others told_files told given packages (accepted_by (map string_bytes c.args.words.now) (g.F.Files.host c.args.files.now) (record { command = c.in-Ok-Audit.command; remedy = Report }) given packages (ap task_of mine) accepts) accepts.lockfile q other
 
+pub returns-in-Ok-Audit-clause-unaccepted : goal.returns-in-Ok-Audit-clause-unaccepted
+returns-in-Ok-Audit-clause-unaccepted g c told task is none =
+    let mine = rw c.in-Ok-Audit.field-0-is at c.in-Ok-Audit.ensures.ok in
+    c.run_task.ensures.unaccepted told (λ given packages gives lock. none given packages
+    (record { task = record { command = c.in-Ok-Audit.command; remedy = Report }; is_task = ap task_of mine; gives = gives; lockfile = lock }))
+
+pub returns-in-Ok-Fix-clause-unaccepted : goal.returns-in-Ok-Fix-clause-unaccepted
+returns-in-Ok-Fix-clause-unaccepted g c told task is none =
+    let mine = rw c.in-Ok-Fix.field-0-is at c.in-Ok-Fix.ensures.ok in
+    c.run_task-in-Ok-Fix.ensures.unaccepted told (λ given packages gives lock. none given packages
+    (record { task = fix_task c.in-Ok-Fix.command c.in-Ok-Fix.more; is_task = ap task_of mine; gives = rw c.fix_task-task.ensures at gives; lockfile = lock }))
+
+pub returns-in-Ok-Bin-clause-unaccepted : goal.returns-in-Ok-Bin-clause-unaccepted
+returns-in-Ok-Bin-clause-unaccepted g c told task is none =
+    let mine = rw c.in-Ok-Bin.field-0-is at c.in-Ok-Bin.ensures.ok in
+    absurd (not_both _ task (ap task_of mine) is)
+
 pub returns-in-Ok-Fix-clause-complete : goal.returns-in-Ok-Fix-clause-complete
 returns-in-Ok-Fix-clause-complete g c told ready quiet =
     let mine = rw c.in-Ok-Fix.field-0-is at c.in-Ok-Fix.ensures.ok in
@@ -51,6 +68,18 @@ returns-in-Ok-Fix-clause-others g c told_files told given packages accepts q oth
     let mine = rw c.in-Ok-Fix.field-0-is at c.in-Ok-Fix.ensures.ok in
     c.run_task-in-Ok-Fix.ensures.others told_files told given packages
     (rw c.fix_task-task.ensures (accepted_by (map string_bytes c.args.words.now) (g.F.Files.host c.args.files.now) (fix_task c.in-Ok-Fix.command c.in-Ok-Fix.more) given packages (ap task_of mine) accepts)) accepts.lockfile q other
+
+pub returns-in-Ok-Fix-clause-part : goal.returns-in-Ok-Fix-clause-part
+returns-in-Ok-Fix-clause-part g c told_files told given packages accepts =
+    let mine = rw c.in-Ok-Fix.field-0-is at c.in-Ok-Fix.ensures.ok in
+    c.run_task-in-Ok-Fix.ensures.part told_files told given packages
+    (rw c.fix_task-task.ensures (accepted_by (map string_bytes c.args.words.now) (g.F.Files.host c.args.files.now) (fix_task c.in-Ok-Fix.command c.in-Ok-Fix.more) given packages (ap task_of mine) accepts)) accepts.lockfile
+
+pub returns-in-Ok-Fix-clause-folders : goal.returns-in-Ok-Fix-clause-folders
+returns-in-Ok-Fix-clause-folders g c told_files told given packages accepts =
+    let mine = rw c.in-Ok-Fix.field-0-is at c.in-Ok-Fix.ensures.ok in
+    c.run_task-in-Ok-Fix.ensures.folders told_files told given packages
+    (rw c.fix_task-task.ensures (accepted_by (map string_bytes c.args.words.now) (g.F.Files.host c.args.files.now) (fix_task c.in-Ok-Fix.command c.in-Ok-Fix.more) given packages (ap task_of mine) accepts)) accepts.lockfile
 
 pub returns-in-Ok-Bin-clause-unaudited_out : goal.returns-in-Ok-Bin-clause-unaudited_out
 returns-in-Ok-Bin-clause-unaudited_out g c told =
@@ -67,6 +96,11 @@ pub returns-in-Ok-Help-clause-unaudited_out : goal.returns-in-Ok-Help-clause-una
 returns-in-Ok-Help-clause-unaudited_out g c told =
     if_none c.run_text.result.audited _ (if_none c.run_text.result.binaries _
     (plain_put _ (Ok command.Help) _ _ c.run_text.result.fault (rw c.in-Ok-Help.field-0-is at c.in-Ok-Help.ensures.ok) (c.run_text.ensures.out told)))
+
+pub returns-in-Ok-Version-clause-unaudited_out : goal.returns-in-Ok-Version-clause-unaudited_out
+returns-in-Ok-Version-clause-unaudited_out g c told =
+    if_none c.run_text-in-Ok-Version.result.audited _ (if_none c.run_text-in-Ok-Version.result.binaries _
+    (plain_put _ (Ok command.Version) _ _ c.run_text-in-Ok-Version.result.fault (rw c.in-Ok-Version.field-0-is at c.in-Ok-Version.ensures.ok) (c.run_text-in-Ok-Version.ensures.out told)))
 
 pub returns-in-Ok-Help-clause-kept : goal.returns-in-Ok-Help-clause-kept
 returns-in-Ok-Help-clause-kept g c told_wire told = keeps_nothing (g.W.Wire.exchanges c.args.wire.now) (g.W.Wire.exchanges c.args.wire.now) (g.D.CacheDisk.past c.args.disk.now)

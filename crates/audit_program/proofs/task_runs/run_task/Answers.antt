@@ -7,7 +7,7 @@ use Rattle.audit_settings.specs.declared.configs.AuditConfig.{AuditConfig}
 use Rattle.audit_core.specs.Audits.{KeepsOthers}
 use Rattle.audit_core.specs.Checks.{asked_of, checks_of}
 use Rattle.audit_core.proofs.Exchanged.{keeps_nothing, part_none}
-use Rattle.audit_program.proofs.Asking.{asked_config, call_told, generated_as, if_some, rose_from}
+use Rattle.audit_program.proofs.Asking.{asked_config, call_told, generated_as, if_some, lockfile_or_fault, rose_from}
 use Rattle.audit_program.proofs.Commands.{if_none, if_none_then}
 use Rattle.audit_program.proofs.Starting.{asked_one, audited_some, failed_starts, unaudited_starts}
 use Rattle.audit_program.proofs.task_runs.run_task.Goals as goal
@@ -52,6 +52,17 @@ pub returns-in-Ok-clause-unchanged : goal.returns-in-Ok-clause-unchanged
 returns-in-Ok-clause-unchanged g c told_files told config settles off q =
     let same : c.in-Ok.given.config ≡ config = asked_config c.args.task.now.command (g.F.Files.host c.args.files.now) c.in-Ok.given config (c.in-Ok.ensures.gives told_files).ok settles in
     c.run_given.ensures.unchanged (λ on. off (ap (λ (x : AuditConfig). checks_of x) (sym same) ∙ on)) told q
+
+pub returns-in-Ok-clause-unmade : goal.returns-in-Ok-clause-unmade
+returns-in-Ok-clause-unmade g c told_files told config settles off =
+    let same : c.in-Ok.given.config ≡ config = asked_config c.args.task.now.command (g.F.Files.host c.args.files.now) c.in-Ok.given config (c.in-Ok.ensures.gives told_files).ok settles in
+    c.run_given.ensures.unmade (λ on. off (ap (λ (x : AuditConfig). checks_of x) (sym same) ∙ on)) told
+
+pub returns-in-Ok-clause-unaccepted : goal.returns-in-Ok-clause-unaccepted
+returns-in-Ok-clause-unaccepted g c told none =
+    lockfile_or_fault (locked c.in-Ok.given.text)
+    (λ packages is. absurd (none c.in-Ok.given packages (c.in-Ok.ensures.gives told).ok is))
+    (λ fault is. c.run_given.ensures.refused fault is)
 
 pub returns-in-Ok-clause-off : goal.returns-in-Ok-clause-off
 returns-in-Ok-clause-off g c told config settles off =

@@ -10,3 +10,11 @@ returns-clause-bytes c = refl
 pub returns-clause-version : goal.returns-clause-version
 unfolding chars is_utf8 encode
 returns-clause-version c = refl
+
+pub returns-clause-count : goal.returns-clause-count
+unfolding chars is_utf8 encode
+returns-clause-count c = refl
+
+pub returns-clause-revision : goal.returns-clause-revision
+unfolding chars is_utf8 encode
+returns-clause-revision c = refl

@@ -19,16 +19,16 @@ loop-call-init c = record {
 
 pub loop-call-preserved : goal.loop-call-preserved
 loop-call-preserved c =
-    let calls = c.args.self.calls.items in
+    let calls = c.args.self.changes in
     let i = c.loop-call.call-index in
     let item = c.call-item.result in
-    let here = c.deref-call-items.ensures.value in
+    let here = c.as_slice-call-items.ensures in
     let read : item ≡ get_or calls i item = c.call-item.is ∙ ap (λ (l : List Call). get_or l i item) here in
     let within : i < length calls = omega (arith, c.loop-call-test.true, ap (λ (l : List Call). length l) here) in
     let more : take (i + 1) calls ≡ take i calls ++ item ∷ [] = take_more calls i item within ∙ ap (λ (x : Call). take i calls ++ x ∷ []) (sym read) in
-    let is = subst (λ (l : List Call). file_of c.in_ok-file.file ≡ picked c.args.pick (past_of c.as_str-path.result.now [] l)) c.deref.ensures.value c.in_ok-file.ensures in
+    let is = subst (λ (l : List Call). file_of c.in_ok-file.file ≡ picked c.args.pick (past_of c.as_str-path.result.now [] l)) c.as_slice.ensures c.in_ok-file.ensures in
     record {
-      copied = λ q. copied_more c.args.pick q c.as_str-path.result.now _ _ _ _ calls item (file_of c.in_ok-file.file) c.as_str-path.ensures.value (c.in_ok-add_call.ensures.noted q) (ap (λ l. past_of q [] l) more ∙ past_more q [] (take i calls) item) is (c.loop-call.invariant.copied q);
+      copied = λ q. copied_more c.args.pick q c.as_str-path.result.now _ _ _ _ calls item (file_of c.in_ok-file.file) c.as_str-path.ensures.value (c.in_ok-add.ensures.noted q) (ap (λ l. past_of q [] l) more ∙ past_more q [] (take i calls) item) is (c.loop-call.invariant.copied q);
       folders = c.loop-call.invariant.folders;
       tears = c.loop-call.invariant.tears;
       counts = c.loop-call.invariant.counts;
@@ -36,10 +36,10 @@ loop-call-preserved c =
 
 pub returns-clause-crashed : goal.returns-clause-crashed
 returns-clause-crashed c q =
-    let calls = c.args.self.calls.items in
-    let here = c.deref-call-items.ensures.value in
+    let calls = c.args.self.changes in
+    let here = c.as_slice-call-items.ensures in
     let all : take c.loop-call.call-index calls ≡ calls = take_all c.loop-call.call-index calls (omega (arith, c.loop-call-test.false, ap (λ (l : List Call). length l) here)) in
-    let new = past_of q [] c.loop-call.next.calls.items in
+    let new = past_of q [] c.loop-call.next.changes in
     let past = past_of q [] calls in
     let copied = subst (λ (l : List Call). IsCopied c.args.pick q new (past_of q [] l) past) all (c.loop-call.invariant.copied q) in
     let is = copied_reads c.args.pick q new past copied in

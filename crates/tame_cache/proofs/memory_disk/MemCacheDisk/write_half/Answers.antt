@@ -11,12 +11,12 @@ returns-in-Ok-clause-step c =
     let path = c.args.path.now in
     let n = length c.args.piece.now in
     let front = take (n / 2) c.args.piece.now in
-    let old = past_of path [] c.args.self.now.calls.items in
+    let old = past_of path [] c.args.self.now.changes in
     let now = c.in-Ok.now.items in
-    let bytes : c.current_content-old.result.now ≡ content (reads old) = c.current_content-old.ensures ∙ ap (λ l. content (reads (past_of path [] l))) c.deref.ensures.value in
+    let bytes : c.content_of-old.result.now ≡ content (reads old) = c.content_of-old.ensures ∙ ap content c.current.ensures in
     let whole : now ≡ with_piece (content (reads old)) c.args.at front = c.in-Ok.ensures ∙ ap (λ (l : List ℕ). with_piece l c.args.at front) bytes in
     let within : c.args.at ≤ length (content (reads old)) = omega (arith, ap length bytes) in
-    noted_write c.add_call-noted.result old (past_of path [] c.add_call-noted.new.calls.items) c.args.at n (Some now)
-    (on_ok_weaker c.add_call-noted.result (λ noted. noted path ∙ after_same path old (Write c.args.at n) (Some now)) c.add_call-noted.ensures.noted)
-    (on_err_weaker c.add_call-noted.result (λ same. ap (λ l. past_of path [] l) same) c.add_call-noted.ensures.same)
+    noted_write c.add-noted.result old (past_of path [] c.add-noted.new.self) c.args.at n (Some now)
+    (on_ok_weaker c.add-noted.result (λ noted. noted path ∙ after_same path old (Write c.args.at n) (Some now)) c.add-noted.ensures.noted)
+    (on_err_weaker c.add-noted.result (λ same. ap (λ l. past_of path [] l) same) c.add-noted.ensures.same)
     (subst (λ (l : List ℕ). TornFile c.args.at n (reads old) (Some l)) (sym whole) (part_torn_file (reads old) front c.args.at n within (omega (arith, length-take (n / 2) c.args.piece.now))))

@@ -6,10 +6,10 @@ use Rattle.tame_sparse.specs.Git.{first_name}
 use Rattle.tame_sparse.proofs.git.GitIndex.write_to_cache.Goals as goal
 
 pub returns-in_default-clause-kept : goal.returns-in_default-clause-kept
-returns-in_default-clause-kept g c told m kept = keeps_none m c.args.self.now.cache.path (g.D.CacheDisk.past c.args.disk.now) kept
+returns-in_default-clause-kept g c told m kept = keeps_none m c.args.self.now.cache.index c.args.self.now.cache.path (g.D.CacheDisk.past c.args.disk.now) kept
 
 pub returns-in-Err-clause-kept : goal.returns-in-Err-clause-kept
-returns-in-Err-clause-kept g c told m kept = keeps_none m c.args.self.now.cache.path (g.D.CacheDisk.past c.args.disk.now) kept
+returns-in-Err-clause-kept g c told m kept = keeps_none m c.args.self.now.cache.index c.args.self.now.cache.path (g.D.CacheDisk.past c.args.disk.now) kept
 
 pub returns-in-Ok-write_to_cache-clause-any_moment : goal.returns-in-Ok-write_to_cache-clause-any_moment
 returns-in-Ok-write_to_cache-clause-any_moment g c told id known q is ordered =

@@ -10,13 +10,13 @@ use Rattle.tame_sparse.proofs.sparse.SparseIndex.take_body.Goals.{then-write_cac
 pub returns-in-Err-clause-stores : goal.returns-in-Err-clause-stores
 returns-in-Err-clause-stores g c told =
     let past = g.D.CacheDisk.past in
-    stores_same c.args.self.now.cache.path (text_of c.args.name) (came c.args.response) c.args.write_cache_entry (past c.args.disk.now) (past c.args.disk.now) (λ q. refl)
+    stores_same c.args.self.now.cache.index c.args.self.now.cache.path (text_of c.args.name) (came c.args.response) c.args.write_cache_entry (past c.args.disk.now) (past c.args.disk.now) (λ q. refl)
 
 pub returns-in-Err-keep-clause-stores : goal.returns-in-Err-keep-clause-stores
 returns-in-Err-keep-clause-stores g c told =
     let past = g.D.CacheDisk.past in
     let same : map pair_of (lines_of c.in-Ok.lines) ≡ pairs c.args.response.body.now = ap (map pair_of) c.in-Ok.ensures.ok.0 in
-    stores_written c.args.self.now.cache.path (text_of c.args.name) (came c.args.response) c.args.write_cache_entry (past c.args.disk.now) (past c.keep.new.disk)
+    stores_written c.args.self.now.cache.index c.args.self.now.cache.path (text_of c.args.name) (came c.args.response) c.args.write_cache_entry (past c.args.disk.now) (past c.keep.new.disk)
     c.requires c.if-write_cache_entry.true c.in-Ok.ensures.ok.1
     (rw (c.stored_under-revision.ensures, same) at (c.keep.ensures.unstored told))
     (c.keep.ensures.others told)
@@ -31,7 +31,7 @@ returns-clause-stores g c told =
     elim c.if-write_cache_entry.branch [
       | then-write_cache_entry+in-Ok-keep w ↦
           rw w.disk-is
-          (stores_written c.args.self.now.cache.path (text_of c.args.name) (came c.args.response) c.args.write_cache_entry (past c.args.disk.now) (past w.keep.new.disk)
+          (stores_written c.args.self.now.cache.index c.args.self.now.cache.path (text_of c.args.name) (came c.args.response) c.args.write_cache_entry (past c.args.disk.now) (past w.keep.new.disk)
           c.requires w.if-write_cache_entry.true c.in-Ok.ensures.ok.1
           (rw (w.stored_under-revision.ensures, same) at (w.keep.ensures.unstored told))
           (w.keep.ensures.others told)
@@ -40,7 +40,7 @@ returns-clause-stores g c told =
           (rw (w.stored_under-revision.ensures, same) at (w.keep.ensures.kept told)))
       | else-write_cache_entry w ↦
           rw w.disk-is
-          (stores_same c.args.self.now.cache.path (text_of c.args.name) (came c.args.response) c.args.write_cache_entry (past c.args.disk.now) (past c.args.disk.now) (λ q. refl))
+          (stores_same c.args.self.now.cache.index c.args.self.now.cache.path (text_of c.args.name) (came c.args.response) c.args.write_cache_entry (past c.args.disk.now) (past c.args.disk.now) (λ q. refl))
     ]
 
 pub returns-clause-stored : goal.returns-clause-stored
@@ -49,6 +49,6 @@ returns-clause-stored g c told quiet asked is q file =
     elim c.if-write_cache_entry.branch [
       | then-write_cache_entry+in-Ok-keep w ↦
           let stored = rw (w.stored_under-revision.ensures, same) at (w.keep.ensures.stored told) in
-          rw w.disk-is (rw w.in-Ok-keep.is at (stored (rw w.disk-is at quiet) (passes (came c.args.response) is) q file))
+          rw w.disk-is (rw w.in-Ok-keep.is at (stored (rw w.disk-is at quiet) (passes c.args.self.now.cache.index (came c.args.response) is) q file))
       | else-write_cache_entry w ↦ absurd (let no = w.if-write_cache_entry.false in cc (asked, no))
     ]
