@@ -6,8 +6,8 @@
 //! - `reports`: printed reports and status lines;
 //! - `trees`: the inverse dependency trees of lockfiles.
 //!
-//! `advice_rows reports ADVISORIES LOCKFILE N` and `advice_rows trees LOCKFILE [NAME]` count instead
-//! what is found and rendered, to be timed.
+//! `advice_rows reports ADVISORIES LOCKFILE N` and `advice_rows trees LOCKFILE [NAME]` count
+//! instead what is found and rendered, to be timed.
 #![tactic(auto)]
 
 mod advisories;

@@ -1,7 +1,7 @@
 -- What a fault says of the starts.
 use Rattle.std.proofs.Common.{◌≡◌, ◌≤◌, ℕ, Bool, true, false, IsTrue, List, Result, Ok, Err, IfErr, refl, inl, inr}
 use Rattle.audit_asked.specs.Refusals.{IsReadFault, is_told}
-use Rattle.audit_asked.specs.Starts.{HasRunStartCause, RunStartsWhere}
+use Rattle.audit_asked.specs.Starts.{HasRunStartCause, IsPlaced, RunStartsWhere}
 use Rattle.audit_asked.specs.declared.faults.RunFault.{RunFault}
 use Rattle.audit_asked.specs.declared.faults.RunFault.TheVariants as fault
 use Rattle.audit_asked.specs.declared.runners.Started.{Started}
@@ -43,6 +43,12 @@ late true before now s (Err fault.Print) k h = absurd k
 late true before now s (Err (fault.Generate status)) k h = absurd k
 late true before now s (Err (fault.Start failed)) k h = absurd k
 late true before now s (Err fault.NoMemory) k h = inr h
+
+-- the place is known once the start succeeded
+pub placed : {S : Type 0} (b : Bool) (before now : List Started) (s : S)
+    → RunStartsWhere b before now (Ok s) → IsPlaced b before now
+placed true before now s h = h
+placed false before now s h = h
 
 -- it is no failed start
 unstarted : (e : RunFault) (failed : ℕ) → IsReadFault e → e ≡ fault.Start failed → ⊥

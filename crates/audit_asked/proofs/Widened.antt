@@ -1,5 +1,5 @@
 -- A call that may fail for one reason may fail for a wider one.
-use Rattle.std.proofs.Common.{◌≡◌, ℕ, List, codes, bytes_eq, true, false, Result, Ok, Err}
+use Rattle.std.proofs.Common.{◌≡◌, ℕ, List, codes, bytes_eq, true, false, Result, Ok, Err, refl}
 use Rattle.tame_names.specs.declared.host.FailedCall.{FailedCall}
 use Rattle.tame_names.specs.declared.host.FileCall.TheVariants.{Read}
 use Rattle.audit_asked.specs.Calls.{AddsBy, AddsFailed, IsCallOn, IsInputCall, IsLockfileCall}
@@ -20,6 +20,22 @@ widen_by one wider before now fault.Print w h = h
 widen_by one wider before now (fault.Generate status) w h = h
 widen_by one wider before now (fault.Start failed) w h = h
 widen_by one wider before now fault.NoMemory w h = h
+
+-- a call that failed, with what holds where one did
+pub beside : (S : Type 0) (one : List ℕ → FailedCall → Type 0) (before now : List FailedCall) (e : RunFault)
+    → ((path : List ℕ) → e ≡ fault.File path → S) → AddsBy one before now e → AddsBy (λ path call. one path call × S) before now e
+beside S one before now (fault.Usage place) s h = h
+beside S one before now (fault.Settings reason) s h = h
+beside S one before now (fault.Missing path) s h = h
+beside S one before now (fault.NotUtf8 path) s h = h
+beside S one before now (fault.TooLarge path len) s h = h
+beside S one before now (fault.File path) s h = (h.0, h.1, (h.2, s path refl))
+beside S one before now (fault.Lockfile reason) s h = h
+beside S one before now (fault.Advisory n reason) s h = h
+beside S one before now fault.Print s h = h
+beside S one before now (fault.Generate status) s h = h
+beside S one before now (fault.Start failed) s h = h
+beside S one before now fault.NoMemory s h = h
 
 pub widen : {T : Type 0} (one wider : List ℕ → FailedCall → Type 0) (before now : List FailedCall) (r : Result T RunFault)
     → ((path : List ℕ) (call : FailedCall) → one path call → wider path call) → AddsFailed one before now r → AddsFailed wider before now r

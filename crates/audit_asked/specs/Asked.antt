@@ -11,10 +11,12 @@ use Rattle.audit_asked.specs.Databases.{database_asked, database_path}
 use Rattle.audit_asked.specs.Places.{is_to_generate, place_asked, place_of}
 use Rattle.audit_asked.specs.Refusals.{Refused}
 use Rattle.audit_asked.specs.Settings.{settled}
+use Rattle.audit_asked.specs.Starts.{IsPlaced}
 use Rattle.audit_asked.specs.Texts.{go_on, input_or_text}
 use Rattle.audit_asked.specs.declared.asking.Asked.{Asked}
 use Rattle.audit_asked.specs.declared.faults.RunFault.{RunFault}
 use Rattle.audit_asked.specs.declared.faults.RunFault.TheVariants as fault
+use Rattle.audit_asked.specs.declared.runners.Started.{Started}
 
 -- under these settings, with the lockfile at this place: the database, the advisories, and the
 -- lockfile's text, or the first refusal
@@ -87,3 +89,14 @@ IsAskedCall command host told call =
     IsSettingsCall host told call
     ⊎ ((config : AuditConfig) × (settled command host ≡ Ok config)
     × IsLaterCall command host config told call)
+
+-- a call that failed, and what was started until then: nothing before the lockfile's place is
+-- known, and behind it the start that generates a lockfile, where one has to be generated
+abbrev pub IsOrderedCall : AuditCommand → Host → List Started → List Started → List ℕ → FailedCall
+    → Type 0
+IsOrderedCall command host before now told call =
+    (IsSettingsCall host told call × (now ≡ before))
+    ⊎ ((config : AuditConfig) × (settled command host ≡ Ok config)
+    × ((IsPlaceCall command.file host told call × (now ≡ before))
+    ⊎ (IsTextsCall host config (place_of command.file) told call
+    × IsPlaced (is_to_generate command.file host) before now)))

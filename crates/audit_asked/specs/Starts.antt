@@ -89,6 +89,12 @@ abbrev pub RunStartsWhere : {T : Type 0} → Bool → List Started → List Star
 RunStartsWhere true before now result = RunStarts before now result
 RunStartsWhere false before now result = now ≡ before
 
+-- the lockfile's place is known: the start that generates a lockfile ended with 0, where one has to
+-- be generated
+abbrev pub IsPlaced : Bool → List Started → List Started → Type 0
+IsPlaced true before now = AddsStart (Some (pos 0)) before now
+IsPlaced false before now = now ≡ before
+
 -- the count never falls, and a failed start raised it
 pub record HasRunStartCause {T : Type 0} (before now : ℕ)
     (result : Result T RunFault) : Type 0 where

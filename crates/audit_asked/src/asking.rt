@@ -1,7 +1,7 @@
 //! What a run asks of its host.
 ghost use Rattle.std.specs.Prelude.{◌≡◌, Ok, Err, IfOk, IfErr, IsTrue, option_map};
 ghost use Rattle.tame_names.specs.Standing.{IsInput, StaysButInput};
-ghost use Rattle.audit_asked.specs.Asked.{IsAskedCall, IsTextsCall, asked, generates, status_told, texts_asked};
+ghost use Rattle.audit_asked.specs.Asked.{IsAskedCall, IsOrderedCall, IsTextsCall, asked, generates, status_told, texts_asked};
 ghost use Rattle.audit_asked.specs.Calls.{AddsFailed, HasFileCause};
 ghost use Rattle.audit_asked.specs.Places.{place_of};
 ghost use Rattle.audit_asked.specs.Refusals.{Gives, IsAskFault, IsReadFault, is_told, refused};
@@ -101,6 +101,10 @@ pub fn ask<F: Files, R: Runner>(
     ensures cause { HasFileCause (F.faults files.old) (F.faults files.new) result }
     ensures failed { F.tells → AddsFailed (IsAskedCall command.now (F.host files.old))
         (F.failed files.old) (F.failed files.new) result }
+    // and what was started until then
+    ensures ordered { F.tells → R.tells → AddsFailed (IsOrderedCall command.now (F.host files.old)
+        (R.starts runner.old) (R.starts runner.new)) (F.failed files.old) (F.failed files.new)
+        result }
     ensures same { F.tells → StaysButInput (IsInput (place_of command.now.file))
         (F.host files.old) (F.host files.new) }
 {

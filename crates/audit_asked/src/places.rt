@@ -1,5 +1,5 @@
 //! The lockfile's place.
-ghost use Rattle.std.specs.Prelude.{◌≡◌, ◌⊎◌, pos, true, false, Ok, Err, Some, None, IfOk, IfErr, IsTrue, option_map};
+ghost use Rattle.std.specs.Prelude.{◌≡◌, ◌⊎◌, ℕ, List, pos, true, false, Ok, Err, Some, None, IfOk, IfErr, IsTrue, option_map};
 ghost use Rattle.audit_asked.specs.Calls.{AddsFailed, AddsLook, HasFileCause, HasLookCause, IsLookError, IsPlaceCall, LookedAt};
 ghost use Rattle.audit_asked.specs.Places.{place_asked, place_of};
 ghost use Rattle.audit_asked.specs.Places as spec;
@@ -175,6 +175,8 @@ pub(crate) fn place<F: Files, R: Runner>(
     ensures failed { F.tells → AddsFailed
         (IsPlaceCall (option_map (λ p. p.now) path.entry) (F.host files.old))
         (F.failed files.old) (F.failed files.new) result }
+    ensures unstarted { F.tells → R.tells → (told : List ℕ) → result ≡ Err (RunFault.File told)
+        → R.starts runner.new ≡ R.starts runner.old }
     ensures same { F.tells → F.host files.new ≡ F.host files.old }
 {
     let lockfile = Text::of(alloc, LOCKFILE_NAME)?;

@@ -39,7 +39,7 @@ pub enum BinaryAnswer {
 }
 
 /// What the answers for binaries come to.
-#[derive(Clone, Copy, Debug, PartialEq, Eq)]
+#[derive(Clone, Copy, Debug, Default, PartialEq, Eq)]
 pub struct MultiFileReportSummary {
     /// A binary that was audited has a vulnerability, or a warning that is denied.
     pub vulnerabilities_found: bool,

@@ -26,8 +26,8 @@ pub fn audit_histories_keep()
         → IsKept m crates_io_index [] now }
 {}
 
-/// The headline for each audit in such a history: an online audit whose exchanges are honest for the
-/// same map judges each package as the table says over what the server held when asked.
+/// The headline for each audit in such a history: an online audit whose exchanges are honest for
+/// the same map judges each package as the table says over what the server held when asked.
 pub fn audits_in_histories_match_the_server()
     ensures { (m : ServerMap) (began : Disk) (auditor : Auditor) (entry exit : Moment)
         (added : List Exchange) (text : List ℕ) (audited : Audited)

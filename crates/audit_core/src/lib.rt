@@ -26,6 +26,10 @@ mod recalling;
 mod verdicts;
 
 pub use asking::Turn;
+pub use audit_settings::{
+    AdvisoryConfig, AuditCommand, AuditConfig, Color, DatabaseConfig, FilterList, SettingsFault,
+    TargetConfig, YankedConfig,
+};
 pub use auditing::{AuditError, Audited};
 pub use auditors::Auditor;
 pub use checking::Checks;

@@ -1,6 +1,6 @@
 //! What lies below a folder. No link is followed there, and nothing but a plain file is opened.
 use crate::calls::{look, look_at_opened, open};
-use crate::reading::{is_absent, made, read_within};
+use crate::reading::{ReadBuffer, is_absent, made};
 use std::alloc::Global;
 use std::fs::{Metadata, OpenOptions};
 use std::io::{self, ErrorKind};
@@ -91,6 +91,13 @@ pub fn open_found<R: Files>(
     }
 }
 
+/// A file that was opened to be read, and how many bytes it had then.
+#[derive(Drop)]
+pub struct OpenedToRead<F: Drop> {
+    pub file: F,
+    pub len: u64,
+}
+
 /// Opens the file at a path below a folder to be read, if there is one. One of more than `limit`
 /// bytes is an error.
 pub fn open_below<R: Files + AllocGlobal>(
@@ -98,7 +105,7 @@ pub fn open_below<R: Files + AllocGlobal>(
     folder: &str,
     path: &str,
     limit: u64,
-) -> io::Result<Option<R::File>> {
+) -> io::Result<Option<OpenedToRead<R::File>>> {
     let below = file_below(rt, folder, path)?;
     let Some(found) = below.file else {
         return Ok(None);
@@ -106,7 +113,10 @@ pub fn open_below<R: Files + AllocGlobal>(
     let mut how = OpenOptions::new();
     how.read(true);
     let file = open_found(rt, below.place.as_str(), &found, &how, limit)?;
-    Ok(Some(file))
+    Ok(Some(OpenedToRead {
+        file,
+        len: found.len(),
+    }))
 }
 
 /// The bytes of the file at a path below a folder, if there is one. One of more than `limit`
@@ -114,14 +124,15 @@ pub fn open_below<R: Files + AllocGlobal>(
 pub fn read_below<R: Files + AllocGlobal>(
     rt: &R,
     alloc: Global,
+    buffer: &mut ReadBuffer,
     folder: &str,
     path: &str,
     limit: u64,
 ) -> io::Result<Option<Vec<u8>>> {
-    let Some(mut file) = open_below(rt, folder, path, limit)? else {
+    let Some(mut opened) = open_below(rt, folder, path, limit)? else {
         return Ok(None);
     };
-    match read_within(alloc, &mut file, limit)? {
+    match buffer.read_within(alloc, &mut opened.file, opened.len, limit)? {
         ReadAnswer::Whole(bytes) => Ok(Some(bytes)),
         ReadAnswer::Absent => Ok(None),
         ReadAnswer::Over(_) => Err(io::Error::from(ErrorKind::FileTooLarge)),

@@ -8,7 +8,7 @@ use crate::below::{
 use crate::calls::{
     go_to, look_at_opened, look_through, make_folder, next_byte, open, set_len, sync,
 };
-use crate::reading::made;
+use crate::reading::{ReadBuffer, made};
 use std::alloc::Global;
 use std::fs::{OpenFile, OpenOptions};
 use std::io::{self, ErrorKind, Read, Seek, Write};
@@ -41,6 +41,7 @@ pub struct CacheFolder<'a, R: Files + AllocGlobal> {
     /// That a sync has failed: of the file that is open, or of its folders. Nothing is written
     /// from then on, and that file isn't read.
     has_failed: bool,
+    buffer: ReadBuffer,
 }
 
 /// The folder that a place lies in.
@@ -79,6 +80,7 @@ impl<'a, R: Files + AllocGlobal> CacheFolder<'a, R> {
             opened: None,
             unsynced: Items::new(rt.alloc()),
             has_failed: false,
+            buffer: ReadBuffer::new(),
         }
     }
 
@@ -101,19 +103,26 @@ impl<'a, R: Files + AllocGlobal> CacheFolder<'a, R> {
     /// The first byte of a file.
     pub fn first_byte(&self, path: &str) -> io::Result<Peek> {
         self.may_read(path)?;
-        let Some(mut file) = open_below(self.rt, self.folder, path, CACHE_LIMIT)? else {
+        let Some(mut opened) = open_below(self.rt, self.folder, path, CACHE_LIMIT)? else {
             return Ok(Peek::Absent);
         };
-        match next_byte(&mut file)? {
+        match next_byte(&mut opened.file)? {
             None => Ok(Peek::Empty),
             Some(first) => Ok(Peek::Byte(first)),
         }
     }
 
     /// The bytes of a file, if there is one.
-    pub fn whole(&self, alloc: Global, path: &str) -> io::Result<Option<Vec<u8>>> {
+    pub fn whole(&mut self, alloc: Global, path: &str) -> io::Result<Option<Vec<u8>>> {
         self.may_read(path)?;
-        read_below(self.rt, alloc, self.folder, path, CACHE_LIMIT)
+        read_below(
+            self.rt,
+            alloc,
+            &mut self.buffer,
+            self.folder,
+            path,
+            CACHE_LIMIT,
+        )
     }
 
     /// Notes that something is to be made at a place: its folder has to be synced.

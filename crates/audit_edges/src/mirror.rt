@@ -2,7 +2,7 @@
 ghost use Rattle.std.specs.Prelude.{◌≡◌, [], ⊤};
 
 use crate::below::read_below;
-use crate::reading::made;
+use crate::reading::{ReadBuffer, made};
 use std::alloc::Global;
 use std::io::{self, ErrorKind};
 use std::rt;
@@ -15,15 +15,16 @@ pub const MIRROR_LIMIT: u64 = 67108864;
 
 /// Answers a path by the file there in a folder: 404 where it is absent, 304 where its entity
 /// tag is the named one, else 200. The tag is the text of the file with `.etag` added, without
-/// a newline at its end; a text that no request can name as it is, as an empty one, is no tag. Where
-/// the tag isn't the same before and after the file is read, the exchange fails. Below the folder no
-/// link is followed, and nothing but plain files is opened. It tells
-/// nothing of its exchanges.
+/// a newline at its end; a text that no request can name as it is, as an empty one, is no tag.
+/// Where the tag isn't the same before and after the file is read, the exchange fails. Below the
+/// folder no link is followed, and nothing but plain files is opened. It tells nothing of its
+/// exchanges.
 #[derive(Drop)]
 pub struct MirrorWire<'a, R: rt::Files + AllocGlobal> {
     rt: &'a R,
     folder: &'a str,
     faults: u64,
+    buffer: ReadBuffer,
 }
 
 impl<'a, R: rt::Files + AllocGlobal> MirrorWire<'a, R> {
@@ -36,12 +37,13 @@ impl<'a, R: rt::Files + AllocGlobal> MirrorWire<'a, R> {
             rt,
             folder,
             faults: 0,
+            buffer: ReadBuffer::new(),
         }
     }
 }
 
-/// Whether a request can name a tag as it is: it has a byte, only those from 32 to 126, and no blank
-/// at its beginning or end.
+/// Whether a request can name a tag as it is: it has a byte, only those from 32 to 126, and no
+/// blank at its beginning or end.
 fn is_nameable(text: &str) -> bool {
     for byte in text.as_bytes() {
         if !matches!(*byte, 32..=126) {
@@ -55,11 +57,12 @@ fn is_nameable(text: &str) -> bool {
 fn read_etag<R: rt::Files + AllocGlobal>(
     rt: &R,
     alloc: Global,
+    buffer: &mut ReadBuffer,
     folder: &str,
     path: &str,
 ) -> io::Result<Option<Text>> {
     let tag = format!(in alloc; "{path}.etag")?;
-    let Some(bytes) = read_below(rt, alloc, folder, tag.as_str(), MIRROR_LIMIT)? else {
+    let Some(bytes) = read_below(rt, alloc, buffer, folder, tag.as_str(), MIRROR_LIMIT)? else {
         return Ok(None);
     };
     let line = match bytes.as_slice() {
@@ -82,19 +85,20 @@ fn is_named(named: &Option<OwnedRevision>, etag: &Option<Text>) -> bool {
 fn answer<R: rt::Files + AllocGlobal>(
     rt: &R,
     alloc: Global,
+    buffer: &mut ReadBuffer,
     folder: &str,
     request: &Request,
 ) -> io::Result<WireAnswer> {
     let path = request.path.as_str();
-    let etag = read_etag(rt, alloc, folder, path)?;
-    let Some(bytes) = read_below(rt, alloc, folder, path, MIRROR_LIMIT)? else {
+    let etag = read_etag(rt, alloc, buffer, folder, path)?;
+    let Some(bytes) = read_below(rt, alloc, buffer, folder, path, MIRROR_LIMIT)? else {
         return Ok(WireAnswer {
             status: 404,
             revision: None,
             body: Items::new(alloc),
         });
     };
-    if read_etag(rt, alloc, folder, path)? != etag {
+    if read_etag(rt, alloc, buffer, folder, path)? != etag {
         return Err(io::Error::from(ErrorKind::ResourceBusy));
     }
     let is_named = is_named(&request.named, &etag);
@@ -128,7 +132,7 @@ impl<'a, R: rt::Files + AllocGlobal> Wire for MirrorWire<'a, R> {
     }
 
     fn exchange(&mut self, alloc: Global, request: &Request) -> Result<WireAnswer, WireFault> {
-        match answer(self.rt, alloc, self.folder, request) {
+        match answer(self.rt, alloc, &mut self.buffer, self.folder, request) {
             Ok(answer) => Ok(answer),
             Err(error) => {
                 if error.kind() == ErrorKind::OutOfMemory {

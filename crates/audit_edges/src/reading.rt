@@ -26,29 +26,47 @@ pub fn is_absent(kind: ErrorKind) -> bool {
     )
 }
 
-/// The bytes of a reader, or that they are more than the limit.
-pub fn read_within<R: Read>(alloc: Global, reader: &mut R, limit: u64) -> io::Result<ReadAnswer>
-    ensures above { IfOk result (IsAbove limit) }
-    ensures there { IfOk result (λ answer. answer ≢ ReadAnswer.Absent) }
-{
-    let mut bytes = Vec::new(alloc);
-    let mut buffer = [0u8; 8192];
-    for _ in 0..u64::MAX {
-        let count = match reader.read(&mut buffer) {
-            Ok(count) => count,
-            Err(error) if error.kind() == ErrorKind::Interrupted => continue,
-            Err(error) => return Err(error),
-        };
-        if count == 0 {
-            return Ok(ReadAnswer::Whole(bytes));
-        }
-        bytes.extend_from_slice(&buffer[..count])?;
-        let len = bytes.len() as u64;
-        if len > limit {
-            return Ok(ReadAnswer::Over(len));
-        }
+/// What pieces are read into. It is kept from file to file, so that it is cleared once.
+#[derive(Drop)]
+pub struct ReadBuffer {
+    bytes: [u8; 8192],
+}
+
+impl ReadBuffer {
+    pub fn new() -> ReadBuffer {
+        ReadBuffer { bytes: [0; 8192] }
     }
-    Err(io::Error::from(ErrorKind::Other))
+
+    /// The bytes of a reader, of which `expected` should come, or that they are more than the
+    /// limit.
+    pub fn read_within<R: Read>(
+        &mut self,
+        alloc: Global,
+        reader: &mut R,
+        expected: u64,
+        limit: u64,
+    ) -> io::Result<ReadAnswer>
+        ensures above { IfOk result (IsAbove limit) }
+        ensures there { IfOk result (λ answer. answer ≢ ReadAnswer.Absent) }
+    {
+        let mut bytes = Vec::with_capacity(alloc, expected.min(limit) as usize)?;
+        for _ in 0..u64::MAX {
+            let count = match reader.read(&mut self.bytes) {
+                Ok(count) => count,
+                Err(error) if error.kind() == ErrorKind::Interrupted => continue,
+                Err(error) => return Err(error),
+            };
+            if count == 0 {
+                return Ok(ReadAnswer::Whole(bytes));
+            }
+            bytes.extend_from_slice(&self.bytes[..count])?;
+            let len = bytes.len() as u64;
+            if len > limit {
+                return Ok(ReadAnswer::Over(len));
+            }
+        }
+        Err(io::Error::from(ErrorKind::Other))
+    }
 }
 
 /// The path without slashes at its end; one that is nothing but slashes stays.
@@ -63,6 +81,7 @@ pub fn without_last_slashes(path: &str) -> &str {
 pub fn read_file<R: Files + AllocGlobal>(
     rt: &R,
     alloc: Global,
+    buffer: &mut ReadBuffer,
     path: &str,
     limit: u64,
 ) -> io::Result<ReadAnswer>
@@ -89,5 +108,5 @@ pub fn read_file<R: Files + AllocGlobal>(
     let mut how = OpenOptions::new();
     how.read(true);
     let mut file = open(rt, &how, path)?;
-    read_within(alloc, &mut file, limit)
+    buffer.read_within(alloc, &mut file, len, limit)
 }

@@ -13,10 +13,17 @@ use Rattle.audit_asked.specs.declared.faults.RunFault.{RunFault}
 use Rattle.audit_asked.specs.declared.faults.RunFault.TheVariants as fault
 use Rattle.audit_lock.specs.declared.resolving.Package.{Package}
 use Rattle.audit_program.specs.Calls.{AddsCalls}
-use Rattle.audit_program.specs.Causes.{Accepts, CauseOf, CommandCause}
+use Rattle.audit_settings.specs.declared.commands.AuditCommand.{AuditCommand}
+use Rattle.audit_words.specs.declared.commands.BinCommand.{BinCommand}
+use Rattle.audit_generator.specs.Moments.{IsGenerated}
+use Rattle.audit_generator.specs.declared.generating.Generated.{Generated}
+use Rattle.audit_output.specs.Outputs.{IsPrintFault}
+use Rattle.audit_program.specs.Causes.{Accepts, BinariesCause, CauseOf, CommandCause}
+use Rattle.audit_program.specs.GeneratedRuns.{IsGeneratedRun}
 use Rattle.audit_program.specs.Outputs.{IsPutBy, plain_text}
 use Rattle.audit_program.specs.Tasks.{task_of}
 use Rattle.audit_program.specs.declared.tasks.Task.{Task}
+use Rattle.audit_program.proofs.Faults.{print_case}
 use Rattle.audit_program.proofs.Putting.{put_nothing}
 use Rattle.audit_program.proofs.Readings.{none_added}
 
@@ -46,6 +53,7 @@ none_called (Ok (command.Fix audit more)) host before = inl refl
 none_called (Ok (command.Bin audit more)) host before = inr (none_added more.binary_paths before)
 none_called (Ok command.Help) host before = refl
 none_called (Ok command.Version) host before = refl
+none_called (Ok (command.Generate n)) host before = refl
 none_called (Err reason) host before = refl
 
 pub no_memory_called : (r : Result Command WordsFault) (host : Host) (before : List FailedCall) (o : Option RunFault) → (o ≡ Some fault.NoMemory) ⊎ (o ≡ Some fault.NoMemory) → AddsCalls r host before before o
@@ -68,6 +76,35 @@ task_cause told words host task (Some (fault.Lockfile reason)) is h = inl (task,
 task_cause told words host task (Some (fault.Advisory n reason)) is h = inl (task, is, h)
 task_cause told words host task (Some (fault.Generate status)) is h = inl (task, is, h)
 task_cause told words host task (Some (fault.Start failed)) is h = inl (task, is, h)
+
+-- a put that failed, and want of memory, need no other cause
+pub made_cause : (told : Type 0) (words : List (List ℕ)) (host : Host) (o : Option RunFault) → IfSome o IsPrintFault → IfSome o (CauseOf told words host)
+made_cause told words host None only = tt
+made_cause told words host (Some f) only = let P : RunFault → Type 0 = λ e. CauseOf told words host e in print_case P f only tt tt
+
+-- the cause in audits of binaries
+pub bin_cause : (told : Type 0) (words : List (List ℕ)) (host : Host) (audit : AuditCommand) (more : BinCommand) (o : Option RunFault) → command_of words ≡ Ok (command.Bin audit more)
+    → IfSome o (BinariesCause told audit host) → IfSome o (CauseOf told words host)
+bin_cause told words host audit more None is h = tt
+bin_cause told words host audit more (Some fault.Print) is h = tt
+bin_cause told words host audit more (Some fault.NoMemory) is h = tt
+bin_cause told words host audit more (Some (fault.Usage place)) is h = absurd h.only
+bin_cause told words host audit more (Some (fault.Settings reason)) is h = inr (audit, more, is, h)
+bin_cause told words host audit more (Some (fault.Missing path)) is h = inr (audit, more, is, h)
+bin_cause told words host audit more (Some (fault.NotUtf8 path)) is h = inr (audit, more, is, h)
+bin_cause told words host audit more (Some (fault.TooLarge path len)) is h = inr (audit, more, is, h)
+bin_cause told words host audit more (Some (fault.File path)) is h = inr (audit, more, is, h)
+bin_cause told words host audit more (Some (fault.Lockfile reason)) is h = inr (audit, more, is, h)
+bin_cause told words host audit more (Some (fault.Advisory n reason)) is h = inr (audit, more, is, h)
+bin_cause told words host audit more (Some (fault.Generate status)) is h = inr (audit, more, is, h)
+bin_cause told words host audit more (Some (fault.Start failed)) is h = inr (audit, more, is, h)
+
+-- two audits of made packages
+pub made_run : (words : List (List ℕ)) (n : ℕ) (o : Option Generated) → command_of words ≡ Ok (command.Generate n) → IfSome o (IsGenerated n)
+    → IfSome o (IsGeneratedRun (command_of words))
+made_run words n o is h =
+    let P : Result Command WordsFault → Type 0 = λ r. IfSome o (IsGeneratedRun r) in
+    subst P (sym is) h
 
 -- what was accepted is what this audit asked for
 pub accepted_by : (words : List (List ℕ)) (host : Host) (task : Task) (given : Asked) (packages : List Package) → task_of (command_of words) ≡ Some task → Accepts words host given packages

@@ -11,6 +11,9 @@ use Rattle.audit_asked.specs.Refusals.{is_told}
 use Rattle.audit_asked.specs.declared.binaries.AskedForBinaries.{AskedForBinaries}
 use Rattle.audit_asked.specs.declared.faults.RunFault.{RunFault}
 use Rattle.audit_asked.specs.declared.faults.RunFault.TheVariants as fault
+use Rattle.audit_words.specs.declared.commands.BinCommand.{BinCommand}
+use Rattle.audit_words.specs.declared.commands.Command.TheVariants.{Bin}
+use Rattle.audit_output.specs.Outputs.{IsPrintFault}
 use Rattle.audit_program.specs.Causes.{BinariesCause, CommandCause, HasNoLockfile, Refuses, RefusesBinaries}
 use Rattle.audit_words.specs.Reading.{command_of}
 use Rattle.audit_program.specs.Completes.{AllStayed, FaultCounts, IsReady, IsTaskReady}
@@ -106,6 +109,62 @@ task_complete told words host task before now o mine (inl ready) here cause rose
     let other = ready.is_task in
     let same : ready.task ≡ task = cc (mine, other) in
     complete_by told words host task.command before now o ready (ap (λ (t : Task). t.command) same) here cause rose quiet
-task_complete told words host task before now o mine (inr ready) here cause rose quiet =
+task_complete told words host task before now o mine (inr (inl ready)) here cause rose quiet =
     let none : task_of (command_of words) ≡ None = ap task_of ready.is_bin in
     absurd (cc (mine, none))
+task_complete told words host task before now o mine (inr (inr ready)) here cause rose quiet =
+    let none : task_of (command_of words) ≡ None = ap task_of ready.1 in
+    absurd (cc (mine, none))
+
+-- the words ask for audits of binaries
+pub bin_complete : (told : Type 0) (words : List (List ℕ)) (host : Host) (command : AuditCommand) (more : BinCommand) (before now : FaultCounts) (o : Option RunFault)
+    → command_of words ≡ Ok (Bin command more)
+    → IsReady words host → told → IfSome o (BinariesCause told command host) → HasRose before now o → AllStayed before now → IsComplete o
+bin_complete told words host command more before now o mine (inl ready) here cause rose quiet =
+    let none : task_of (command_of words) ≡ None = ap task_of mine in
+    let other = ready.is_task in
+    absurd (cc (other, none))
+bin_complete told words host command more before now o mine (inr (inl ready)) here cause rose quiet =
+    let other = ready.is_bin in
+    let same : ready.command ≡ command = cc (mine, other) in
+    let P : AuditCommand → Type 0 = λ c. asked_for_binaries c host ≡ Ok ready.given in
+    binaries_complete told command host ready.given before now o (subst P same ready.gives) here cause rose quiet
+bin_complete told words host command more before now o mine (inr (inr ready)) here cause rose quiet =
+    let other = ready.1 in
+    absurd (cc (mine, other))
+
+-- the words ask for made packages
+made_by_fault : (before now : FaultCounts) (o : Option RunFault) → IfSome o IsPrintFault → HasRose before now o → AllStayed before now → IsComplete o
+made_by_fault before now None only rose quiet = inl refl
+made_by_fault before now (Some fault.NoMemory) only rose quiet = inr refl
+made_by_fault before now (Some fault.Print) only rose quiet =
+    absurd (neither before.out now.out before.err now.err quiet.out quiet.err (rose.print refl))
+made_by_fault before now (Some (fault.Advisory place reason)) only rose quiet = absurd only
+made_by_fault before now (Some (fault.Usage place)) only rose quiet = absurd only
+made_by_fault before now (Some (fault.Settings reason)) only rose quiet = absurd only
+made_by_fault before now (Some (fault.Missing path)) only rose quiet = absurd only
+made_by_fault before now (Some (fault.NotUtf8 path)) only rose quiet = absurd only
+made_by_fault before now (Some (fault.TooLarge path len)) only rose quiet = absurd only
+made_by_fault before now (Some (fault.File path)) only rose quiet = absurd only
+made_by_fault before now (Some (fault.Lockfile reason)) only rose quiet = absurd only
+made_by_fault before now (Some (fault.Generate status)) only rose quiet = absurd only
+made_by_fault before now (Some (fault.Start failed)) only rose quiet = absurd only
+
+-- nothing but the output failed
+by_print : (before now : FaultCounts) (o : Option RunFault) → IfSome o IsPrintFault → (o ≡ Some fault.Print → CountRose before.out now.out) → HasRose before now o
+by_print before now None only rose = record { print = λ is. cc; file = λ path is. cc; start = λ failed is. cc }
+by_print before now (Some fault.Print) only rose = record { print = λ is. inl (rose refl); file = λ path is. cc; start = λ failed is. cc }
+by_print before now (Some fault.NoMemory) only rose = record { print = λ is. cc; file = λ path is. cc; start = λ failed is. cc }
+by_print before now (Some (fault.Advisory place reason)) only rose = absurd only
+by_print before now (Some (fault.Usage place)) only rose = absurd only
+by_print before now (Some (fault.Settings reason)) only rose = absurd only
+by_print before now (Some (fault.Missing path)) only rose = absurd only
+by_print before now (Some (fault.NotUtf8 path)) only rose = absurd only
+by_print before now (Some (fault.TooLarge path len)) only rose = absurd only
+by_print before now (Some (fault.File path)) only rose = absurd only
+by_print before now (Some (fault.Lockfile reason)) only rose = absurd only
+by_print before now (Some (fault.Generate status)) only rose = absurd only
+by_print before now (Some (fault.Start failed)) only rose = absurd only
+
+pub made_complete : (before now : FaultCounts) (o : Option RunFault) → IfSome o IsPrintFault → (o ≡ Some fault.Print → CountRose before.out now.out) → AllStayed before now → IsComplete o
+made_complete before now o only rose quiet = made_by_fault before now o only (by_print before now o only rose) quiet

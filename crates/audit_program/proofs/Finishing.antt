@@ -1,6 +1,8 @@
 -- The steps of `fix` by how a run ended.
-use Rattle.std.proofs.Common.{◌≡◌, ◌⊎◌, inl, inr, ℕ, ℤ, zero, suc, Bool, true, false, List, [], ◌∷◌, take, length, Option, Some, None, refl, sym, subst, append-nil, arith}
+use Rattle.std.proofs.Common.{◌≡◌, ◌⊎◌, inl, inr, ℕ, ℤ, zero, suc, Bool, true, false, List, [], ◌∷◌, take, length, Option, Some, None, cond, refl, sym, ap, subst, ◌∙◌, append-nil, arith, rules}
 use Rattle.std.proofs.Math.Seq.{take-length}
+use Rattle.std.proofs.lemmas.Bool.Decides.{nat_tests}
+use Rattle.std.specs.Prelude.{nat_eq}
 use Rattle.audit_asked.specs.declared.faults.RunFault.{RunFault}
 use Rattle.audit_asked.specs.declared.faults.RunFault.TheVariants as fault
 use Rattle.audit_asked.specs.declared.runners.Started.{Started}
@@ -9,7 +11,7 @@ use Rattle.audit_fix.specs.declared.plans.FixStep.{FixStep}
 use Rattle.audit_output.specs.Outputs.{IsPrintFault}
 use Rattle.audit_advisory.specs.declared.advisories.Advisory.{Advisory}
 use Rattle.audit_core.specs.declared.auditing.Audited.{Audited}
-use Rattle.audit_program.specs.Outputs.{IsWhole, remedy_lines_in}
+use Rattle.audit_program.specs.Outputs.{IsPutBy, IsWhole, lines_behind, remedy_lines_in}
 use Rattle.audit_program.specs.declared.tasks.Remedy.TheVariants.{Report}
 use Rattle.audit_program.specs.Steps.{AreStarted, FailedBy}
 use Rattle.audit_program.proofs.Faults.{print_case}
@@ -81,6 +83,20 @@ all_started told steps before now statuses reason is each failed = record {
 pub all_printing : (told : Type 0) (steps : List FixStep) (before now : List Started) (statuses : List (Option ℤ)) (f : RunFault) → IsPrintFault f
     → length statuses ≡ length steps → (told → StartsEach steps statuses before now) → AreStarted told steps before now statuses (Some f)
 all_printing told steps before now statuses f only is each = all_started told steps before now statuses (Some f) is each (unfailed statuses f only)
+
+-- the lines are put once each step has a status
+same_number : (n : ℕ) → nat_eq n n ≡ true
+same_number n = search (rules, nat_tests)
+
+pub lines_begun : (steps : List FixStep) (statuses : List (Option ℤ)) (lines : List ℕ) → length statuses ≡ length steps → lines_behind steps statuses lines ≡ lines
+lines_begun steps statuses lines is =
+    ap (λ (n : ℕ). cond (nat_eq n (length steps)) lines []) is ∙ ap (λ (b : Bool). cond b lines []) (same_number (length steps))
+
+pub lines_put : (steps : List FixStep) (statuses : List (Option ℤ)) (before lines now : List ℕ) (reason : Option RunFault) → length statuses ≡ length steps → IsPutBy before lines reason now
+    → IsPutBy before (lines_behind steps statuses lines) reason now
+lines_put steps statuses before lines now reason is h =
+    let P : List ℕ → Type 0 = λ x. IsPutBy before x reason now in
+    subst P (sym (lines_begun steps statuses lines is)) h
 
 -- no step is planned
 pub no_steps : (told : Type 0) (before : List Started) → AreStarted told [] before before [] None

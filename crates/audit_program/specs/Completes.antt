@@ -7,7 +7,7 @@ use Rattle.audit_lock.specs.declared.resolving.Package.{Package}
 use Rattle.audit_settings.specs.declared.commands.AuditCommand.{AuditCommand}
 use Rattle.audit_words.specs.Reading.{command_of}
 use Rattle.audit_words.specs.declared.commands.BinCommand.{BinCommand}
-use Rattle.audit_words.specs.declared.commands.Command.TheVariants.{Bin}
+use Rattle.audit_words.specs.declared.commands.Command.TheVariants.{Bin, Generate}
 use Rattle.audit_asked.specs.Asked.{asked}
 use Rattle.audit_asked.specs.ForBinaries.{asked_for_binaries}
 use Rattle.audit_asked.specs.declared.asking.Asked.{Asked}
@@ -33,8 +33,13 @@ pub record AreBinariesReady (words : List (List ℕ)) (host : Host) : Type 0 whe
   pub given : AskedForBinaries
   pub gives : asked_for_binaries command host ≡ Ok given
 
+-- the words are those for made packages, which need nothing else
+abbrev pub IsMadeReady : List (List ℕ) → Type 0
+IsMadeReady words = (n : ℕ) × (command_of words ≡ Ok (Generate n))
+
 abbrev pub IsReady : List (List ℕ) → Host → Type 0
-IsReady words host = IsTaskReady words host ⊎ AreBinariesReady words host
+IsReady words host =
+    IsTaskReady words host ⊎ (AreBinariesReady words host ⊎ IsMadeReady words)
 
 -- how often the host's files, its starts of programs, and the two outputs have failed
 pub record FaultCounts : Type 0 where

@@ -6,7 +6,7 @@ use Rattle.audit_asked.specs.declared.faults.RunFault.{RunFault}
 use Rattle.audit_asked.specs.declared.faults.RunFault.TheVariants as fault
 use Rattle.audit_asked.specs.declared.runners.Started.{Started}
 use Rattle.audit_core.specs.declared.auditing.Audited.{Audited}
-use Rattle.audit_program.specs.Outputs.{IsPutBy, remedy_lines_in}
+use Rattle.audit_program.specs.Outputs.{IsPutBy, lines_behind, remedy_lines_in}
 use Rattle.audit_program.specs.Statuses.{steps_of}
 use Rattle.audit_program.specs.Steps.{AreStarted}
 use Rattle.audit_program.specs.declared.tasks.Remedy.{Remedy}
@@ -30,7 +30,9 @@ pub record Finish : Type 0 where
   pub audited : Audited
 
 abbrev pub lines_in : Finish → List (Option ℤ) → List ℕ
-lines_in f statuses = remedy_lines_in f.verdicts f.remedy f.advisories f.audited statuses
+lines_in f statuses =
+    lines_behind (steps_of f.remedy f.advisories f.audited) statuses
+    (remedy_lines_in f.verdicts f.remedy f.advisories f.audited statuses)
 
 -- the steps were started, and behind a text on err stand the lines of `fix` by how they ended
 pub record IsFinished (runner_tells err_tells : Type 0) (f : Finish)

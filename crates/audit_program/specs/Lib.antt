@@ -3,6 +3,8 @@ pub mod Calls
 pub mod Causes
 pub mod Completes
 pub mod Finishes
+pub mod GeneratedRuns
+pub mod Moments
 pub mod Outputs
 pub mod Runs
 pub mod Statuses

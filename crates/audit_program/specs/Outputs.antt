@@ -1,5 +1,5 @@
 -- What a run puts on its two outputs (this project).
-use Rattle.std.specs.Prelude.{◌≡◌, ◌++◌, ℕ, ℤ, codes, List, [], Bool, true, false, Option, Some, None, Result, Ok, Err}
+use Rattle.std.specs.Prelude.{◌≡◌, ◌++◌, ℕ, ℤ, codes, nat_eq, List, [], length, Bool, true, false, Option, Some, None, if◌then◌else◌, Result, Ok, Err}
 use Rattle.tame_names.specs.Counts.{CountStayed}
 use Rattle.tame_names.specs.Output.{AddsPrefix}
 use Rattle.audit_advisory.specs.declared.advisories.Advisory.{Advisory}
@@ -12,6 +12,8 @@ use Rattle.audit_asked.specs.declared.faults.RunFault.{RunFault}
 use Rattle.audit_asked.specs.declared.faults.RunFault.TheVariants as fault
 use Rattle.audit_core.specs.declared.auditing.Audited.{Audited}
 use Rattle.audit_fix.specs.Lines.{fix_lines}
+use Rattle.audit_generator.specs.Summaries.{summary_for}
+use Rattle.audit_fix.specs.declared.plans.FixStep.{FixStep}
 use Rattle.audit_output.specs.FaultLines.{fault_line}
 use Rattle.audit_program.specs.Tasks.{fix_command}
 use Rattle.audit_program.specs.declared.tasks.Remedy.{Remedy}
@@ -19,19 +21,21 @@ use Rattle.audit_program.specs.declared.tasks.Remedy.TheVariants.{Report, Fix}
 
 -- ---- the output without an audit
 
--- the text for help or of the version, with a newline; any other words print nothing without an
--- audit
+-- the text for help or of the version, with a newline, and the lines for made packages; any other
+-- words print nothing without an audit of what the host has
 abbrev pub plain_text : Result Command WordsFault → List ℕ
 plain_text (Ok command.Help) = HELP_TEXT.now ++ codes "\n"
 plain_text (Ok command.Version) = codes "cargo-audit 0.22.2\n"
+plain_text (Ok (command.Generate n)) = summary_for n
 plain_text _ = []
 
--- the words are those for help or of the version, or they break a rule
-abbrev pub AsksForNoAudit : Result Command WordsFault → Type 0
-AsksForNoAudit (Ok command.Help) = Unit {0}
-AsksForNoAudit (Ok command.Version) = Unit {0}
-AsksForNoAudit (Ok _) = ⊥
-AsksForNoAudit (Err reason) = Unit {0}
+-- the words are those for help, of the version or for made packages, or they break a rule
+abbrev pub NeedsNoHost : Result Command WordsFault → Type 0
+NeedsNoHost (Ok command.Help) = Unit {0}
+NeedsNoHost (Ok command.Version) = Unit {0}
+NeedsNoHost (Ok (command.Generate n)) = Unit {0}
+NeedsNoHost (Ok _) = ⊥
+NeedsNoHost (Err reason) = Unit {0}
 
 -- the lockfile's place by the words, for a fault that tells it
 abbrev pub words_place : Result Command WordsFault → List ℕ
@@ -52,6 +56,11 @@ abbrev pub remedy_lines_in : Bool → Remedy → List Advisory → Audited → L
 remedy_lines_in true remedy advisories audited statuses = []
 remedy_lines_in false remedy advisories audited statuses =
     remedy_lines remedy advisories audited statuses
+
+-- they begin once each step was started: where there isn't a status for each, there are none
+abbrev pub lines_behind : List FixStep → List (Option ℤ) → List ℕ → List ℕ
+lines_behind steps statuses lines =
+    if nat_eq (length statuses) (length steps) then lines else []
 
 -- ---- what the outputs hold
 

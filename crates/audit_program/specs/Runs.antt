@@ -13,7 +13,7 @@ use Rattle.audit_core.specs.Auditors.{auditor_of}
 use Rattle.audit_core.specs.Audits.{IsAuditOf, Moment}
 use Rattle.audit_core.specs.declared.auditing.Audited.{Audited}
 use Rattle.audit_output.specs.Outputs.{Output, output_of, shown_of}
-use Rattle.audit_program.specs.Outputs.{IsEnded, IsPutBy, remedy_lines_in}
+use Rattle.audit_program.specs.Outputs.{IsEnded, IsPutBy, lines_behind, remedy_lines_in}
 use Rattle.audit_program.specs.Statuses.{steps_of, task_status}
 use Rattle.audit_program.specs.Steps.{AreStarted}
 use Rattle.audit_program.specs.Tasks.{task_of}
@@ -47,9 +47,10 @@ pub record Ending : Type 0 where
   pub fault : Option RunFault
   pub status : ℕ
 
--- the lockfile was generated where that was to be
-abbrev pub IsGenerated : Task → Host → List Started → List Started → Type 0
-IsGenerated task host before now =
+-- the lockfile was generated where that was to be; over a runner that starts nothing, as the
+-- program's, no run has an audit where one is to be generated
+abbrev pub IsLockfileGenerated : Task → Host → List Started → List Started → Type 0
+IsLockfileGenerated task host before now =
     RunStartsWhere {T = Unit {0}} (generates task.command host (settled task.command host))
     before now (Ok tt)
 
@@ -61,7 +62,8 @@ task_output task given audited =
 -- the lines of `fix`
 abbrev pub task_lines : Task → Asked → Audited → List (Option ℤ) → List ℕ
 task_lines task given audited statuses =
-    remedy_lines_in task.command.verdicts task.remedy given.advisories audited statuses
+    lines_behind (steps_of task.remedy given.advisories audited) statuses
+    (remedy_lines_in task.command.verdicts task.remedy given.advisories audited statuses)
 
 -- the same but for the files
 pub record GivenTelling : Type 1 where
@@ -71,8 +73,8 @@ pub record GivenTelling : Type 1 where
   pub out : Type 0
   pub err : Type 0
 
-abbrev pub given_telling : Telling → GivenTelling
-given_telling tells = record {
+abbrev pub but_files : Telling → GivenTelling
+but_files tells = record {
   runner = tells.runner;
   wire = tells.wire;
   disk = tells.disk;
@@ -106,8 +108,8 @@ pub record IsRunOf (tells : Telling) (task : Task) (host : Host) (began ended : 
   pub gives : tells.files → asked task.command host (pos 0) ≡ Ok given
   pub generated : List Started
   pub at_most : tells.runner → StartsAtMost starts.before generated
-  pub is_generated : tells.files → tells.runner → IsGenerated task host starts.before generated
-  pub run : IsGivenRun (given_telling tells) task given began ended
+  pub is_generated : tells.files → tells.runner → IsLockfileGenerated task host starts.before generated
+  pub run : IsGivenRun (but_files tells) task given began ended
       (record { before = generated; now = starts.now }) sinks ending audited
 
 -- and the words are those of this audit

@@ -9,6 +9,7 @@ ghost use Rattle.audit_core.specs.Checks.{asked_of};
 ghost use Rattle.audit_core.specs.Turns.{AddsPart, StaysKept};
 ghost use Rattle.audit_core.specs.declared.checking.Checks.TheVariants as Checks;
 ghost use Rattle.audit_program.specs.Causes.{IsAuditFault};
+ghost use Rattle.audit_program.specs.Moments.{moment};
 
 use audit_asked::RunFault;
 use audit_core::{AuditError, Audited, Auditor};
@@ -27,18 +28,8 @@ pub fn audit<W: Wire, D: CacheDisk>(
     disk: &mut D,
 ) -> Result<Audited, RunFault>
     ensures audited { IfOk result (IsAuditOf auditor.now W.tells D.tells
-        (record {
-          exchanges = W.exchanges wire.old;
-          files = D.past disk.old;
-          wire_faults = W.faults wire.old;
-          disk_faults = D.faults disk.old;
-        })
-        (record {
-          exchanges = W.exchanges wire.new;
-          files = D.past disk.new;
-          wire_faults = W.faults wire.new;
-          disk_faults = D.faults disk.new;
-        })
+        (moment (W.exchanges wire.old) (D.past disk.old) (W.faults wire.old) (D.faults disk.old))
+        (moment (W.exchanges wire.new) (D.past disk.new) (W.faults wire.new) (D.faults disk.new))
         text.now) }
     ensures report { IfOk result (IsReportOf auditor.now.database) }
     ensures refused { (f : LockfileFault) → result ≡ Err (RunFault.Lockfile f)

@@ -11,6 +11,7 @@ ghost use Rattle.audit_binaries.specs.Binaries.{ArePartly};
 ghost use Rattle.audit_program.specs.BinaryRuns.{ArePartlyRun, IsBinariesRunOf, IsGivenBinariesRun, scan_of};
 ghost use Rattle.audit_program.specs.Calls.{AddsBinCalls};
 ghost use Rattle.audit_program.specs.Causes.{BinariesCause};
+ghost use Rattle.audit_program.specs.Moments.{binaries_telling, ending, moment, outside, sinks};
 ghost use Rattle.audit_program.specs.Outputs.{IsEnded, IsPutBy};
 ghost use Rattle.audit_program.specs.Statuses.{fault_status, is_early};
 ghost use Rattle.audit_program.specs.Statuses as spec;
@@ -57,49 +58,19 @@ fn run_given<F: Files, P: Decoder, W: Wire, D: CacheDisk, O: Sink, E: Sink>(
     err: &mut E,
 ) -> Outcome
     ensures binaries { IfSome result.binaries (IsGivenBinariesRun
-        (record {
-          files = F.tells;
-          decoder = P.tells;
-          wire = W.tells;
-          disk = D.tells;
-          out = O.tells;
-          err = E.tells;
-        })
+        (binaries_telling F.tells P.tells W.tells D.tells O.tells E.tells)
         command.now more.now given (F.host files.old) (P.answers decoder.old)
-        (record {
-          moment = record {
-            exchanges = W.exchanges wire.old;
-            files = D.past disk.old;
-            wire_faults = W.faults wire.old;
-            disk_faults = D.faults disk.old;
-          };
-          folders = D.folders disk.old;
-          failed = F.failed files.old;
-          file_faults = F.faults files.old;
-          decode_faults = P.faults decoder.old;
-        })
-        (record {
-          moment = record {
-            exchanges = W.exchanges wire.new;
-            files = D.past disk.new;
-            wire_faults = W.faults wire.new;
-            disk_faults = D.faults disk.new;
-          };
-          folders = D.folders disk.new;
-          failed = F.failed files.new;
-          file_faults = F.faults files.new;
-          decode_faults = P.faults decoder.new;
-        })
-        (record {
-          out_before = O.holds out.old;
-          out_now = O.holds out.new;
-          err_before = E.holds err.old;
-          err_now = E.holds err.new;
-          err_faults = E.faults err.old;
-          err_faults_now = E.faults err.new;
-        })
-        (record { fault = result.fault; status = result.status })) }
+        (outside
+        (moment (W.exchanges wire.old) (D.past disk.old) (W.faults wire.old) (D.faults disk.old))
+        (D.folders disk.old) (F.failed files.old) (F.faults files.old) (P.faults decoder.old))
+        (outside
+        (moment (W.exchanges wire.new) (D.past disk.new) (W.faults wire.new) (D.faults disk.new))
+        (D.folders disk.new) (F.failed files.new) (F.faults files.new) (P.faults decoder.new))
+        (sinks (O.holds out.old) (O.holds out.new) (E.holds err.old) (E.holds err.new)
+        (E.faults err.old) (E.faults err.new))
+        (ending result.fault result.status)) }
     ensures audited { result.audited ≡ None }
+    ensures generated { result.generated ≡ None }
     ensures fault { IfSome result.fault IsPrintFault }
     ensures status { (f : RunFault) → result.fault ≡ Some f → result.status ≡ fault_status f }
     ensures has_binaries { (result.fault ≡ None) ⊎ (result.fault ≡ Some RunFault.Print)
@@ -110,30 +81,12 @@ fn run_given<F: Files, P: Decoder, W: Wire, D: CacheDisk, O: Sink, E: Sink>(
     ensures partly { IfNone result.binaries (ArePartly
         (record { files = F.tells; decoder = P.tells; wire = W.tells; disk = D.tells })
         (scan_of given more.now (F.host files.old) (P.answers decoder.old))
-        (record {
-          moment = record {
-            exchanges = W.exchanges wire.old;
-            files = D.past disk.old;
-            wire_faults = W.faults wire.old;
-            disk_faults = D.faults disk.old;
-          };
-          folders = D.folders disk.old;
-          failed = F.failed files.old;
-          file_faults = F.faults files.old;
-          decode_faults = P.faults decoder.old;
-        })
-        (record {
-          moment = record {
-            exchanges = W.exchanges wire.new;
-            files = D.past disk.new;
-            wire_faults = W.faults wire.new;
-            disk_faults = D.faults disk.new;
-          };
-          folders = D.folders disk.new;
-          failed = F.failed files.new;
-          file_faults = F.faults files.new;
-          decode_faults = P.faults decoder.new;
-        })
+        (outside
+        (moment (W.exchanges wire.old) (D.past disk.old) (W.faults wire.old) (D.faults disk.old))
+        (D.folders disk.old) (F.failed files.old) (F.faults files.old) (P.faults decoder.old))
+        (outside
+        (moment (W.exchanges wire.new) (D.past disk.new) (W.faults wire.new) (D.faults disk.new))
+        (D.folders disk.new) (F.failed files.new) (F.faults files.new) (P.faults decoder.new))
         more.now.binary_paths) }
     ensures rose { result.fault ≡ Some RunFault.Print
         → CountRose (O.faults out.old) (O.faults out.new)
@@ -183,6 +136,7 @@ fn run_given<F: Files, P: Decoder, W: Wire, D: CacheDisk, O: Sink, E: Sink>(
             status: summary_status(binaries.summary),
             audited: None,
             binaries: Some(binaries),
+            generated: None,
             fault: None,
         },
         Err(fault) => failed(alloc, err, "", fault, None, Some(binaries)),
@@ -203,49 +157,19 @@ pub fn run_binaries<F: Files, P: Decoder, W: Wire, D: CacheDisk, O: Sink, E: Sin
     err: &mut E,
 ) -> Outcome
     ensures binaries { IfSome result.binaries (IsBinariesRunOf
-        (record {
-          files = F.tells;
-          decoder = P.tells;
-          wire = W.tells;
-          disk = D.tells;
-          out = O.tells;
-          err = E.tells;
-        })
+        (binaries_telling F.tells P.tells W.tells D.tells O.tells E.tells)
         command.now more.now (F.host files.old) (P.answers decoder.old)
-        (record {
-          moment = record {
-            exchanges = W.exchanges wire.old;
-            files = D.past disk.old;
-            wire_faults = W.faults wire.old;
-            disk_faults = D.faults disk.old;
-          };
-          folders = D.folders disk.old;
-          failed = F.failed files.old;
-          file_faults = F.faults files.old;
-          decode_faults = P.faults decoder.old;
-        })
-        (record {
-          moment = record {
-            exchanges = W.exchanges wire.new;
-            files = D.past disk.new;
-            wire_faults = W.faults wire.new;
-            disk_faults = D.faults disk.new;
-          };
-          folders = D.folders disk.new;
-          failed = F.failed files.new;
-          file_faults = F.faults files.new;
-          decode_faults = P.faults decoder.new;
-        })
-        (record {
-          out_before = O.holds out.old;
-          out_now = O.holds out.new;
-          err_before = E.holds err.old;
-          err_now = E.holds err.new;
-          err_faults = E.faults err.old;
-          err_faults_now = E.faults err.new;
-        })
-        (record { fault = result.fault; status = result.status })) }
+        (outside
+        (moment (W.exchanges wire.old) (D.past disk.old) (W.faults wire.old) (D.faults disk.old))
+        (D.folders disk.old) (F.failed files.old) (F.faults files.old) (P.faults decoder.old))
+        (outside
+        (moment (W.exchanges wire.new) (D.past disk.new) (W.faults wire.new) (D.faults disk.new))
+        (D.folders disk.new) (F.failed files.new) (F.faults files.new) (P.faults decoder.new))
+        (sinks (O.holds out.old) (O.holds out.new) (E.holds err.old) (E.holds err.new)
+        (E.faults err.old) (E.faults err.new))
+        (ending result.fault result.status)) }
     ensures audited { result.audited ≡ None }
+    ensures generated { result.generated ≡ None }
     ensures has_binaries { (result.fault ≡ None) ⊎ (result.fault ≡ Some RunFault.Print)
         → IsSome result.binaries }
     ensures no_binaries { IfSome result.fault (λ f. IsTrue (is_early f) → result.binaries ≡ None) }
@@ -255,39 +179,14 @@ pub fn run_binaries<F: Files, P: Decoder, W: Wire, D: CacheDisk, O: Sink, E: Sin
         result.fault (E.holds err.new) (E.faults err.old) (E.faults err.new)) }
     ensures partly { result.fault ≡ Some RunFault.NoMemory
         → IfNone result.binaries (((wire.new ≡ wire.old) × (disk.new ≡ disk.old)) ⊎ ArePartlyRun
-        (record {
-          files = F.tells;
-          decoder = P.tells;
-          wire = W.tells;
-          disk = D.tells;
-          out = O.tells;
-          err = E.tells;
-        })
+        (binaries_telling F.tells P.tells W.tells D.tells O.tells E.tells)
         command.now more.now (F.host files.old) (P.answers decoder.old)
-        (record {
-          moment = record {
-            exchanges = W.exchanges wire.old;
-            files = D.past disk.old;
-            wire_faults = W.faults wire.old;
-            disk_faults = D.faults disk.old;
-          };
-          folders = D.folders disk.old;
-          failed = F.failed files.old;
-          file_faults = F.faults files.old;
-          decode_faults = P.faults decoder.old;
-        })
-        (record {
-          moment = record {
-            exchanges = W.exchanges wire.new;
-            files = D.past disk.new;
-            wire_faults = W.faults wire.new;
-            disk_faults = D.faults disk.new;
-          };
-          folders = D.folders disk.new;
-          failed = F.failed files.new;
-          file_faults = F.faults files.new;
-          decode_faults = P.faults decoder.new;
-        })) }
+        (outside
+        (moment (W.exchanges wire.old) (D.past disk.old) (W.faults wire.old) (D.faults disk.old))
+        (D.folders disk.old) (F.failed files.old) (F.faults files.old) (P.faults decoder.old))
+        (outside
+        (moment (W.exchanges wire.new) (D.past disk.new) (W.faults wire.new) (D.faults disk.new))
+        (D.folders disk.new) (F.failed files.new) (F.faults files.new) (P.faults decoder.new))) }
     ensures cause { IfSome result.fault (BinariesCause F.tells command.now (F.host files.old)) }
     ensures rose { result.fault ≡ Some RunFault.Print
         → CountRose (O.faults out.old) (O.faults out.new)

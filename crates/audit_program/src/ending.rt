@@ -1,5 +1,5 @@
 //! How a run ends.
-ghost use Rattle.std.specs.Prelude.{◌≡◌, ◌≤◌, ◌⊎◌, ℕ, List, Some};
+ghost use Rattle.std.specs.Prelude.{◌≡◌, ◌≤◌, ◌⊎◌, ℕ, List, Some, None};
 ghost use Rattle.audit_output.specs.FaultLines.{fault_line};
 ghost use Rattle.audit_program.specs.Outputs.{IsEnded, IsLinePut, IsPutBy};
 ghost use Rattle.audit_program.specs.Statuses as spec;
@@ -7,6 +7,7 @@ ghost use Rattle.audit_program.specs.Statuses as spec;
 use audit_asked::RunFault;
 use audit_binaries::BinariesAudit;
 use audit_core::Audited;
+use audit_generator::Generated;
 use audit_output::fault_line;
 use std::alloc::Global;
 use tame_names::{Sink, put_counted};
@@ -22,6 +23,8 @@ pub struct Outcome {
     pub audited: Option<Audited>,
     /// The audits of binaries, where they were made.
     pub binaries: Option<BinariesAudit>,
+    /// The two audits of made packages, where they were made.
+    pub generated: Option<Generated>,
     pub fault: Option<RunFault>,
 }
 
@@ -76,6 +79,7 @@ pub fn failed<E: Sink>(
     ensures fault { (result.fault ≡ Some fault) ⊎ (result.fault ≡ Some RunFault.NoMemory) }
     ensures audited { result.audited ≡ audited }
     ensures binaries { result.binaries ≡ binaries }
+    ensures generated { result.generated ≡ None }
     ensures status { (f : RunFault) → result.fault ≡ Some f → result.status ≡ spec.fault_status f }
     // the line stands behind what was put before
     ensures ended { E.tells → (before text : List ℕ)
@@ -91,6 +95,7 @@ pub fn failed<E: Sink>(
         status: fault_status(&fault),
         audited,
         binaries,
+        generated: None,
         fault: Some(fault),
     }
 }

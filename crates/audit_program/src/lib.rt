@@ -19,10 +19,12 @@ mod auditing;
 mod binary_runs;
 mod ending;
 mod fixing;
+mod generating;
 mod running;
 mod task_runs;
 mod tasks;
 
 pub use audit_asked::RunFault;
+pub use audit_words::{BinCommand, Command, FixCommand, VERSION, WordsFault, read_words};
 pub use ending::Outcome;
 pub use running::run;

@@ -20,7 +20,9 @@ ghost use Rattle.audit_program.specs.BinaryRuns.{ArePartlyRun, IsBinariesRun};
 ghost use Rattle.audit_program.specs.Calls.{AddsCalls, StartsWhere, words_generate};
 ghost use Rattle.audit_program.specs.Causes.{Accepts, CauseOf, Settles};
 ghost use Rattle.audit_program.specs.Completes.{AllStayed, IsReady};
-ghost use Rattle.audit_program.specs.Outputs.{AsksForNoAudit, IsEnded, IsPutBy, plain_text, words_place};
+ghost use Rattle.audit_program.specs.GeneratedRuns.{IsGeneratedRun};
+ghost use Rattle.audit_program.specs.Moments.{binaries_telling, ending, fault_counts, moment, outside, sinks, starts, telling};
+ghost use Rattle.audit_program.specs.Outputs.{NeedsNoHost, IsEnded, IsPutBy, plain_text, words_place};
 ghost use Rattle.audit_program.specs.Runs.{IsRun};
 ghost use Rattle.audit_program.specs.Statuses.{fault_status, is_early};
 ghost use Rattle.audit_program.specs.Tasks.{AsksForBinaries, task_of};
@@ -28,6 +30,7 @@ ghost use Rattle.audit_program.specs.declared.tasks.Task.{Task};
 
 use crate::binary_runs::run_binaries;
 use crate::ending::{Outcome, failed};
+use crate::generating::run_generated;
 use crate::task_runs::run_task;
 use crate::tasks::{Remedy, Task, fix_task};
 use audit_asked::{RunFault, Runner};
@@ -43,6 +46,7 @@ use tame_sparse::Wire;
 fn run_text<O: Sink, E: Sink>(alloc: Global, text: &str, out: &mut O, err: &mut E) -> Outcome
     ensures audited { result.audited ≡ None }
     ensures binaries { result.binaries ≡ None }
+    ensures generated { result.generated ≡ None }
     ensures fault { IfSome result.fault IsPrintFault }
     ensures rose { result.fault ≡ Some RunFault.Print
         → CountRose (O.faults out.old) (O.faults out.new) }
@@ -58,6 +62,7 @@ fn run_text<O: Sink, E: Sink>(alloc: Global, text: &str, out: &mut O, err: &mut 
             status: 0,
             audited: None,
             binaries: None,
+            generated: None,
             fault: None,
         },
         Err(fault) => failed(alloc, err, "", fault, None, None),
@@ -66,7 +71,8 @@ fn run_text<O: Sink, E: Sink>(alloc: Global, text: &str, out: &mut O, err: &mut 
 
 /// Runs the command: reads the words, asks the host for settings, advisories and a lockfile or
 /// binaries, audits them, and prints the report or the verdicts; `fix` plans updates and starts
-/// them; help and the version are printed alone. A fault is told by a line on `err`.
+/// them; `generate` audits what it makes; help and the version are printed alone. A fault is told
+/// by a line on `err`.
 pub fn run<F: Files, P: Decoder, R: Runner, W: Wire, D: CacheDisk, O: Sink, E: Sink>(
     alloc: Global,
     words: &[String],
@@ -84,91 +90,45 @@ pub fn run<F: Files, P: Decoder, R: Runner, W: Wire, D: CacheDisk, O: Sink, E: S
     // verdicts, what is kept, and its causes); what of its output was put, which steps were
     // started, and the status
     ensures audited { IfSome result.audited (IsRun
-        (record {
-          files = F.tells;
-          runner = R.tells;
-          wire = W.tells;
-          disk = D.tells;
-          out = O.tells;
-          err = E.tells;
-        })
+        (telling F.tells R.tells W.tells D.tells O.tells E.tells)
         (map string_bytes words.now) (F.host files.old)
-        (record {
-          exchanges = W.exchanges wire.old;
-          files = D.past disk.old;
-          wire_faults = W.faults wire.old;
-          disk_faults = D.faults disk.old;
-        })
-        (record {
-          exchanges = W.exchanges wire.new;
-          files = D.past disk.new;
-          wire_faults = W.faults wire.new;
-          disk_faults = D.faults disk.new;
-        })
-        (record { before = R.starts runner.old; now = R.starts runner.new })
-        (record {
-          out_before = O.holds out.old;
-          out_now = O.holds out.new;
-          err_before = E.holds err.old;
-          err_now = E.holds err.new;
-          err_faults = E.faults err.old;
-          err_faults_now = E.faults err.new;
-        })
-        (record { fault = result.fault; status = result.status })) }
+        (moment (W.exchanges wire.old) (D.past disk.old) (W.faults wire.old) (D.faults disk.old))
+        (moment (W.exchanges wire.new) (D.past disk.new) (W.faults wire.new) (D.faults disk.new))
+        (starts (R.starts runner.old) (R.starts runner.new))
+        (sinks (O.holds out.old) (O.holds out.new) (E.holds err.old) (E.holds err.new)
+        (E.faults err.old) (E.faults err.new))
+        (ending result.fault result.status)) }
 
     // the audits of `bin`: of what stands at the paths and is decoded, each with what it says, one
     // after the other, and all together; what of their output was put, and the status
     ensures binaries { IfSome result.binaries (IsBinariesRun
-        (record {
-          files = F.tells;
-          decoder = P.tells;
-          wire = W.tells;
-          disk = D.tells;
-          out = O.tells;
-          err = E.tells;
-        })
+        (binaries_telling F.tells P.tells W.tells D.tells O.tells E.tells)
         (map string_bytes words.now) (F.host files.old) (P.answers decoder.old)
-        (record {
-          moment = record {
-            exchanges = W.exchanges wire.old;
-            files = D.past disk.old;
-            wire_faults = W.faults wire.old;
-            disk_faults = D.faults disk.old;
-          };
-          folders = D.folders disk.old;
-          failed = F.failed files.old;
-          file_faults = F.faults files.old;
-          decode_faults = P.faults decoder.old;
-        })
-        (record {
-          moment = record {
-            exchanges = W.exchanges wire.new;
-            files = D.past disk.new;
-            wire_faults = W.faults wire.new;
-            disk_faults = D.faults disk.new;
-          };
-          folders = D.folders disk.new;
-          failed = F.failed files.new;
-          file_faults = F.faults files.new;
-          decode_faults = P.faults decoder.new;
-        })
-        (record {
-          out_before = O.holds out.old;
-          out_now = O.holds out.new;
-          err_before = E.holds err.old;
-          err_now = E.holds err.new;
-          err_faults = E.faults err.old;
-          err_faults_now = E.faults err.new;
-        })
-        (record { fault = result.fault; status = result.status })) }
+        (outside
+        (moment (W.exchanges wire.old) (D.past disk.old) (W.faults wire.old) (D.faults disk.old))
+        (D.folders disk.old) (F.failed files.old) (F.faults files.old) (P.faults decoder.old))
+        (outside
+        (moment (W.exchanges wire.new) (D.past disk.new) (W.faults wire.new) (D.faults disk.new))
+        (D.folders disk.new) (F.failed files.new) (F.faults files.new) (P.faults decoder.new))
+        (sinks (O.holds out.old) (O.holds out.new) (E.holds err.old) (E.holds err.new)
+        (E.faults err.old) (E.faults err.new))
+        (ending result.fault result.status)) }
 
-    // where there is an audit, and where there are audits of binaries
+    // the two audits of `generate`: of the packages that are made, over a server that is made too
+    // and one cache
+    ensures generated { IfSome result.generated
+        (IsGeneratedRun (command_of (map string_bytes words.now))) }
+
+    // where there is an audit, and where there are audits of binaries or of made packages
     ensures has_audit { (task : Task) → task_of (command_of (map string_bytes words.now))
         ≡ Some task
         → (result.fault ≡ None) ⊎ (result.fault ≡ Some RunFault.Print) → IsSome result.audited }
     ensures has_binaries { (command : AuditCommand) (more : BinCommand)
         → command_of (map string_bytes words.now) ≡ Ok (Command.Bin command more)
         → (result.fault ≡ None) ⊎ (result.fault ≡ Some RunFault.Print) → IsSome result.binaries }
+    ensures has_generated { (n : ℕ) → command_of (map string_bytes words.now)
+        ≡ Ok (Command.Generate n)
+        → (result.fault ≡ None) ⊎ (result.fault ≡ Some RunFault.Print) → IsSome result.generated }
     ensures no_audit { IfSome result.fault (λ f. IsTrue (is_early f)
         → (result.audited ≡ None) × (result.binaries ≡ None)) }
 
@@ -177,7 +137,8 @@ pub fn run<F: Files, P: Decoder, R: Runner, W: Wire, D: CacheDisk, O: Sink, E: S
     ensures plain { result.fault ≡ None → IfNone result.audited (IfNone result.binaries
         (result.status ≡ 0)) }
 
-    // what is printed without an audit: the text that the words ask for, and the fault's line
+    // what is printed without an audit of what the host has: the text that the words ask for, as
+    // the lines for made packages are, and the fault's line
     ensures unaudited_out { O.tells → IfNone result.audited (IfNone result.binaries
         (IsPutBy (O.holds out.old) (plain_text (command_of (map string_bytes words.now)))
         result.fault (O.holds out.new))) }
@@ -207,18 +168,10 @@ pub fn run<F: Files, P: Decoder, R: Runner, W: Wire, D: CacheDisk, O: Sink, E: S
     // without a fault but want of memory
     ensures complete { F.tells → IsReady (map string_bytes words.now) (F.host files.old)
         → AllStayed
-        (record {
-          files = F.faults files.old;
-          starts = R.faults runner.old;
-          out = O.faults out.old;
-          err = E.faults err.old;
-        })
-        (record {
-          files = F.faults files.new;
-          starts = R.faults runner.new;
-          out = O.faults out.new;
-          err = E.faults err.new;
-        })
+        (fault_counts (F.faults files.old) (R.faults runner.old) (O.faults out.old)
+        (E.faults err.old))
+        (fault_counts (F.faults files.new) (R.faults runner.new) (O.faults out.new)
+        (E.faults err.new))
         → (result.fault ≡ None) ⊎ (result.fault ≡ Some RunFault.NoMemory) }
 
     // which calls on the host failed, what was started without an audit, and that what the host has
@@ -238,8 +191,8 @@ pub fn run<F: Files, P: Decoder, R: Runner, W: Wire, D: CacheDisk, O: Sink, E: S
     ensures kept { W.tells → D.tells → StaysKept (W.exchanges wire.old) (W.exchanges wire.new)
         (D.past disk.old) (D.past disk.new) }
 
-    // words that ask for no audit call nothing but the outputs
-    ensures uncalled { AsksForNoAudit (command_of (map string_bytes words.now))
+    // help, the version, made packages and words that break a rule need nothing but the outputs
+    ensures uncalled { NeedsNoHost (command_of (map string_bytes words.now))
         → (files.new ≡ files.old) × (decoder.new ≡ decoder.old) × (runner.new ≡ runner.old)
         × (wire.new ≡ wire.old) × (disk.new ≡ disk.old) }
 
@@ -249,10 +202,10 @@ pub fn run<F: Files, P: Decoder, R: Runner, W: Wire, D: CacheDisk, O: Sink, E: S
     ensures unstarted { AsksForBinaries (command_of (map string_bytes words.now))
         → runner.new ≡ runner.old }
 
-    // where the run ends before the audit, but for want of memory, nothing is decoded, and nothing is
-    // asked of the wire and the cache; nor is it, however the run ends, where what the host has gives
-    // no lockfile; otherwise a part of the paths from the front, no file changes that is that of no
-    // path, and no folders are made but those above such files
+    // where the run ends before the audit, but for want of memory, nothing is decoded, and nothing
+    // is asked of the wire and the cache; nor is it, however the run ends, where what the host has
+    // gives no lockfile; otherwise a part of the paths from the front, no file changes that is that
+    // of no path, and no folders are made but those above such files
     ensures early { IfNone result.audited (IfNone result.binaries
         (result.fault ≢ Some RunFault.NoMemory
         → (wire.new ≡ wire.old) × (disk.new ≡ disk.old))) }
@@ -280,41 +233,16 @@ pub fn run<F: Files, P: Decoder, R: Runner, W: Wire, D: CacheDisk, O: Sink, E: S
         → command_of (map string_bytes words.now) ≡ Ok (Command.Bin command more)
         → result.fault ≡ Some RunFault.NoMemory → IfNone result.binaries
         (((wire.new ≡ wire.old) × (disk.new ≡ disk.old)) ⊎ ArePartlyRun
-        (record {
-          files = F.tells;
-          decoder = P.tells;
-          wire = W.tells;
-          disk = D.tells;
-          out = O.tells;
-          err = E.tells;
-        })
+        (binaries_telling F.tells P.tells W.tells D.tells O.tells E.tells)
         command more (F.host files.old) (P.answers decoder.old)
-        (record {
-          moment = record {
-            exchanges = W.exchanges wire.old;
-            files = D.past disk.old;
-            wire_faults = W.faults wire.old;
-            disk_faults = D.faults disk.old;
-          };
-          folders = D.folders disk.old;
-          failed = F.failed files.old;
-          file_faults = F.faults files.old;
-          decode_faults = P.faults decoder.old;
-        })
-        (record {
-          moment = record {
-            exchanges = W.exchanges wire.new;
-            files = D.past disk.new;
-            wire_faults = W.faults wire.new;
-            disk_faults = D.faults disk.new;
-          };
-          folders = D.folders disk.new;
-          failed = F.failed files.new;
-          file_faults = F.faults files.new;
-          decode_faults = P.faults decoder.new;
-        })) }
-    // the wire isn't called but for online checks, and then alone a file of the cache may change and
-    // folders be made; where checks are off the disk isn't called
+        (outside
+        (moment (W.exchanges wire.old) (D.past disk.old) (W.faults wire.old) (D.faults disk.old))
+        (D.folders disk.old) (F.failed files.old) (F.faults files.old) (P.faults decoder.old))
+        (outside
+        (moment (W.exchanges wire.new) (D.past disk.new) (W.faults wire.new) (D.faults disk.new))
+        (D.folders disk.new) (F.failed files.new) (F.faults files.new) (P.faults decoder.new))) }
+    // the wire isn't called but for online checks, and then alone a file of the cache may change
+    // and folders be made; where checks are off the disk isn't called
     ensures unasked { F.tells → (config : AuditConfig)
         → Settles (map string_bytes words.now) (F.host files.old) config
         → checks_of config ≢ Checks.Online → wire.new ≡ wire.old }
@@ -346,6 +274,7 @@ pub fn run<F: Files, P: Decoder, R: Runner, W: Wire, D: CacheDisk, O: Sink, E: S
         ),
         Ok(Command::Help) => run_text(alloc, HELP_TEXT, out, err),
         Ok(Command::Version) => run_text(alloc, VERSION_TEXT, out, err),
+        Ok(Command::Generate(count)) => run_generated(alloc, count, out, err),
         Err(WordsFault::Usage { place }) => {
             failed(alloc, err, "", RunFault::Usage { place }, None, None)
         }

@@ -18,6 +18,7 @@ ghost use Rattle.audit_core.specs.Turns.{AddsPart, StaysKept};
 ghost use Rattle.audit_core.specs.declared.checking.Checks.TheVariants as Checks;
 ghost use Rattle.audit_program.specs.Calls.{AddsRunCall, StartsWhere};
 ghost use Rattle.audit_program.specs.Causes.{CommandCause, IsAskedFault};
+ghost use Rattle.audit_program.specs.Moments.{ending, given_telling, moment, sinks, starts, telling};
 ghost use Rattle.audit_program.specs.Outputs.{IsEnded, IsPutBy};
 ghost use Rattle.audit_program.specs.Runs.{IsGivenRun, IsRunOf};
 ghost use Rattle.audit_program.specs.Statuses.{fault_status, is_early};
@@ -47,36 +48,14 @@ fn run_given<R: Runner, W: Wire, D: CacheDisk, O: Sink, E: Sink>(
     err: &mut E,
 ) -> Outcome
     ensures audited { IfSome result.audited (IsGivenRun
-        (record {
-          runner = R.tells;
-          wire = W.tells;
-          disk = D.tells;
-          out = O.tells;
-          err = E.tells;
-        })
+        (given_telling R.tells W.tells D.tells O.tells E.tells)
         task.now given
-        (record {
-          exchanges = W.exchanges wire.old;
-          files = D.past disk.old;
-          wire_faults = W.faults wire.old;
-          disk_faults = D.faults disk.old;
-        })
-        (record {
-          exchanges = W.exchanges wire.new;
-          files = D.past disk.new;
-          wire_faults = W.faults wire.new;
-          disk_faults = D.faults disk.new;
-        })
-        (record { before = R.starts runner.old; now = R.starts runner.new })
-        (record {
-          out_before = O.holds out.old;
-          out_now = O.holds out.new;
-          err_before = E.holds err.old;
-          err_now = E.holds err.new;
-          err_faults = E.faults err.old;
-          err_faults_now = E.faults err.new;
-        })
-        (record { fault = result.fault; status = result.status })) }
+        (moment (W.exchanges wire.old) (D.past disk.old) (W.faults wire.old) (D.faults disk.old))
+        (moment (W.exchanges wire.new) (D.past disk.new) (W.faults wire.new) (D.faults disk.new))
+        (starts (R.starts runner.old) (R.starts runner.new))
+        (sinks (O.holds out.old) (O.holds out.new) (E.holds err.old) (E.holds err.new)
+        (E.faults err.old) (E.faults err.new))
+        (ending result.fault result.status)) }
     ensures fault { IfSome result.fault (IsAskedFault given) }
     ensures rose { result.fault ≡ Some RunFault.Print
         → CountRose (O.faults out.old) (O.faults out.new)
@@ -90,6 +69,7 @@ fn run_given<R: Runner, W: Wire, D: CacheDisk, O: Sink, E: Sink>(
     ensures no_audit { IfSome result.fault (λ f. IsTrue (is_early f) → result.audited ≡ None) }
     ensures unstarted { IfNone result.audited (runner.new ≡ runner.old) }
     ensures binaries { result.binaries ≡ None }
+    ensures generated { result.generated ≡ None }
     ensures status { (f : RunFault) → result.fault ≡ Some f → result.status ≡ fault_status f }
     ensures unaudited_out { IfNone result.audited (out.new ≡ out.old) }
     ensures unaudited_err { E.tells → IfNone result.audited
@@ -146,6 +126,7 @@ fn run_given<R: Runner, W: Wire, D: CacheDisk, O: Sink, E: Sink>(
             status,
             audited: Some(audited),
             binaries: None,
+            generated: None,
             fault: None,
         },
         Err(fault) => failed(alloc, err, task.place(), fault, Some(audited), None),
@@ -165,41 +146,19 @@ pub fn run_task<F: Files, R: Runner, W: Wire, D: CacheDisk, O: Sink, E: Sink>(
     err: &mut E,
 ) -> Outcome
     ensures audited { IfSome result.audited (IsRunOf
-        (record {
-          files = F.tells;
-          runner = R.tells;
-          wire = W.tells;
-          disk = D.tells;
-          out = O.tells;
-          err = E.tells;
-        })
+        (telling F.tells R.tells W.tells D.tells O.tells E.tells)
         task.now (F.host files.old)
-        (record {
-          exchanges = W.exchanges wire.old;
-          files = D.past disk.old;
-          wire_faults = W.faults wire.old;
-          disk_faults = D.faults disk.old;
-        })
-        (record {
-          exchanges = W.exchanges wire.new;
-          files = D.past disk.new;
-          wire_faults = W.faults wire.new;
-          disk_faults = D.faults disk.new;
-        })
-        (record { before = R.starts runner.old; now = R.starts runner.new })
-        (record {
-          out_before = O.holds out.old;
-          out_now = O.holds out.new;
-          err_before = E.holds err.old;
-          err_now = E.holds err.new;
-          err_faults = E.faults err.old;
-          err_faults_now = E.faults err.new;
-        })
-        (record { fault = result.fault; status = result.status })) }
+        (moment (W.exchanges wire.old) (D.past disk.old) (W.faults wire.old) (D.faults disk.old))
+        (moment (W.exchanges wire.new) (D.past disk.new) (W.faults wire.new) (D.faults disk.new))
+        (starts (R.starts runner.old) (R.starts runner.new))
+        (sinks (O.holds out.old) (O.holds out.new) (E.holds err.old) (E.holds err.new)
+        (E.faults err.old) (E.faults err.new))
+        (ending result.fault result.status)) }
     ensures has_audit { (result.fault ≡ None) ⊎ (result.fault ≡ Some RunFault.Print)
         → IsSome result.audited }
     ensures no_audit { IfSome result.fault (λ f. IsTrue (is_early f) → result.audited ≡ None) }
     ensures binaries { result.binaries ≡ None }
+    ensures generated { result.generated ≡ None }
     ensures status { (f : RunFault) → result.fault ≡ Some f → result.status ≡ fault_status f }
     ensures unaudited_out { O.tells → IfNone result.audited
         (IsPutBy (O.holds out.old) [] result.fault (O.holds out.new)) }
@@ -228,8 +187,8 @@ pub fn run_task<F: Files, R: Runner, W: Wire, D: CacheDisk, O: Sink, E: Sink>(
         (F.host files.old) (F.host files.new) }
     ensures early { IfNone result.audited (result.fault ≢ Some RunFault.NoMemory
         → (wire.new ≡ wire.old) × (disk.new ≡ disk.old)) }
-    // where what the host has gives no lockfile, nothing is asked of the wire and the cache, however
-    // the run ends
+    // where what the host has gives no lockfile, nothing is asked of the wire and the cache,
+    // however the run ends
     ensures unaccepted { F.tells → ((given : Asked) (packages : List Package)
         → asked task.now.command (F.host files.old) (pos 0) ≡ Ok given
         → locked given.text ≡ Ok packages → ⊥)

@@ -1,4 +1,5 @@
-//! The blocks of a report, each put as soon as it is made, so that one of them at a time is in memory.
+//! The blocks of a report, each put as soon as it is made, so that one of them at a time is in
+//! memory.
 ghost use Rattle.std.specs.Prelude.{◌≡◌, ◌≢◌, ◌≤◌, ◌++◌, [], IfErr, IsErrOf, OnOk};
 ghost use Rattle.std.specs.List.{flat_map};
 ghost use Rattle.tame_names.specs.Counts.{CountRose};

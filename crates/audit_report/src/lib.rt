@@ -45,7 +45,9 @@ mod symbols;
 mod words;
 
 pub use binaries::Found;
-pub use laws::{each_tree_stands_once, kept_paths_are_symbols_with_gaps};
+pub use laws::{
+    each_tree_stands_once, kept_paths_are_symbols_with_gaps, printed_rules_are_those_of_results,
+};
 pub use presenters::Presenter;
 pub use putting::PrintError;
 pub use sarif_logs::{

@@ -127,8 +127,8 @@ impl Presenter {
         put_text(err, line.as_bytes())
     }
 
-    /// Puts the blocks of a report. The sheet has to be empty; the trees that are shown are added to
-    /// it.
+    /// Puts the blocks of a report. The sheet has to be empty; the trees that are shown are added
+    /// to it.
     fn put_blocks<O: Sink>(
         &self,
         alloc: Global,

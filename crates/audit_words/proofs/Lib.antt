@@ -1,6 +1,7 @@
 pub mod Cuts
 pub mod Decimal
 pub mod Letters
+pub mod Makeable
 pub mod Numbers
 pub mod Order
 pub mod Places

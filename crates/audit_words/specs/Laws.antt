@@ -54,13 +54,14 @@ set_by (Many l) v d = given (Many l) v d
 
 -- ---- quiet
 
--- whether a command of `audit` is quiet; help and version have no such option
+-- whether a command of `audit` is quiet; help, version and `generate` have no such option
 abbrev pub was_quiet : Command → Option Bool
 was_quiet command.Help = None
 was_quiet command.Version = None
 was_quiet (command.Audit a) = Some a.quiet
 was_quiet (command.Fix a f) = Some a.quiet
 was_quiet (command.Bin a b) = Some a.quiet
+was_quiet (command.Generate n) = None
 
 -- the same command, quiet
 abbrev pub quieted : Command → Command
@@ -69,3 +70,4 @@ quieted command.Version = command.Version
 quieted (command.Audit a) = command.Audit (record a { quiet = true })
 quieted (command.Fix a f) = command.Fix (record a { quiet = true }) f
 quieted (command.Bin a b) = command.Bin (record a { quiet = true }) b
+quieted (command.Generate n) = command.Generate n

@@ -1,11 +1,12 @@
 -- What a list of words means: they are read from the front into a draft of the command.
-use Rattle.std.specs.Prelude.{◌≡◌, ◌≢◌, ℕ, suc, ◌-◌, codes, List, [], ◌∷◌, ◌++◌, Bool, true, false, not, ◌&&◌, ◌||◌, bytes_eq, Option, Some, None, is_some, option_map, Result, Ok, Err, IfErr, if◌then◌else◌}
+use Rattle.std.specs.Prelude.{◌≡◌, ◌≢◌, ℕ, suc, ◌-◌, codes, List, [], ◌∷◌, ◌++◌, Bool, true, false, not, ◌&&◌, ◌||◌, bytes_eq, Option, Some, None, is_none, is_some, option_map, Result, Ok, Err, IfErr, if◌then◌else◌}
 use Rattle.audit_advisory.specs.Outputs.{deny_option_of, output_format_of}
 use Rattle.audit_settings.specs.Commands.{no_option}
+use Rattle.audit_settings.specs.declared.commands.AuditCommand.{AuditCommand}
 use Rattle.audit_words.specs.Options.{options, by_long, by_letter, is_flag}
-use Rattle.audit_words.specs.Values.{is_empty, color_of, unless_empty, number, after, without_equals, name_part, joined_value}
+use Rattle.audit_words.specs.Values.{is_empty, color_of, unless_empty, number, is_makeable, packages_of, after, without_equals, name_part, joined_value}
 use Rattle.audit_words.specs.declared.options.Phase.{Phase}
-use Rattle.audit_words.specs.declared.options.Phase.TheVariants.{Before, Audit, Fix, Bin, Paths}
+use Rattle.audit_words.specs.declared.options.Phase.TheVariants.{Before, Audit, Fix, Bin, Paths, Generate, Generated}
 use Rattle.audit_words.specs.declared.options.Flag.{Flag}
 use Rattle.audit_words.specs.declared.options.Flag.TheVariants.{Help, Version, Verbose, NoYanked, NoFetch, Stale, Quiet, Json, Verdicts, DryRun, PathsFollow}
 use Rattle.audit_words.specs.declared.options.Single.{Single}
@@ -180,6 +181,19 @@ abbrev pub with_path : List ℕ → Draft → Draft
 with_path word d =
     record d { bin = record d.bin { binary_paths = d.bin.binary_paths ++ word ∷ [] } }
 
+-- no option of `audit` was given
+abbrev pub is_bare : AuditCommand → Bool
+is_bare a =
+    is_none a.color && (is_none a.db && (is_empty a.deny && (is_none a.file && (is_empty a.ignore
+    && (not a.no_yanked && (not a.no_fetch && (not a.stale && (is_empty a.target_arch
+    && (is_empty a.target_os && (is_none a.url && (not a.quiet && (is_none a.output_format
+    && (not a.output_json && not a.verdicts)))))))))))))
+
+-- `generate` follows `audit` directly
+abbrev pub begun_generate : Bool → Draft → Result Draft Stop
+begun_generate true d = Ok (record d { phase = Generate })
+begun_generate false d = Err stop.Wrong
+
 -- a word that is no option
 abbrev pub read_plain : Phase → List ℕ → Draft → Result Draft Stop
 read_plain Before word d =
@@ -187,18 +201,24 @@ read_plain Before word d =
 read_plain Audit word d =
     if bytes_eq word (codes "fix") then Ok (record d { phase = Fix })
     else if bytes_eq word (codes "bin") then Ok (record d { phase = Bin })
+    else if bytes_eq word (codes "generate") then begun_generate (is_bare d.audit) d
     else Err stop.Wrong
 read_plain Fix word d = Err stop.Wrong
 read_plain Bin word d = Ok (with_path word d)
 read_plain Paths word d = Ok (with_path word d)
+read_plain Generate word d =
+    or_wrong (option_map (λ n. record d { phase = Generated n }) (packages_of word))
+read_plain (Generated n) word d = Err stop.Wrong
 
--- behind the `--` of `bin` no word is an option
+-- behind the `--` of `bin`, and behind `generate`, no word is an option
 abbrev pub has_options : Phase → Bool
 has_options Before = true
 has_options Audit = true
 has_options Fix = true
 has_options Bin = true
 has_options Paths = false
+has_options Generate = false
+has_options (Generated n) = false
 
 -- a word that is an option, or another
 abbrev pub read_fresh : List ℕ → Draft → Result Draft Stop
@@ -224,6 +244,9 @@ finish_phase Bin d =
     if is_empty d.bin.binary_paths then Err stop.Wrong else Ok (command.Bin d.audit d.bin)
 finish_phase Paths d =
     if is_empty d.bin.binary_paths then Err stop.Wrong else Ok (command.Bin d.audit d.bin)
+finish_phase Generate d = Err stop.Wrong
+finish_phase (Generated n) d =
+    if is_makeable n then Ok (command.Generate n) else Err stop.Wrong
 
 abbrev pub finish_awaited : Option Meaning → Draft → Result Command Stop
 finish_awaited None d = finish_phase d.phase d

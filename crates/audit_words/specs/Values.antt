@@ -1,5 +1,5 @@
 -- The values of options, and how words are cut.
-use Rattle.std.specs.Prelude.{ℕ, codes, List, [], ◌∷◌, Bool, true, false, ◌&&◌, ◌==◌, ◌+◌, ◌-◌, ◌*◌, ◌^◌, nat_lt, bytes_eq, Option, Some, None, unwrap_or, if◌then◌else◌}
+use Rattle.std.specs.Prelude.{ℕ, codes, List, [], ◌∷◌, Bool, true, false, ◌&&◌, ◌==◌, ◌+◌, ◌-◌, ◌*◌, ◌^◌, nat_le, nat_lt, bytes_eq, Option, Some, None, option_and_then, unwrap_or, if◌then◌else◌}
 use Rattle.std.specs.Str.{all_ascii_digits}
 use Rattle.audit_settings.specs.declared.commands.Color.{Color}
 use Rattle.audit_settings.specs.declared.commands.Color.TheVariants.{Always, Auto, Never}
@@ -27,6 +27,13 @@ number (c ∷ cs) =
     if all_ascii_digits (c ∷ cs) && nat_lt (value_from 0 (c ∷ cs)) (2 ^ 64)
     then Some (value_from 0 (c ∷ cs))
     else None
+
+-- so many packages are made: 1 to 5,000
+abbrev pub is_makeable : ℕ → Bool
+is_makeable n = nat_le 1 n && nat_le n 5000
+
+abbrev pub packages_of : List ℕ → Option ℕ
+packages_of word = option_and_then (λ n. if is_makeable n then Some n else None) (number word)
 
 -- ---- how words are cut
 

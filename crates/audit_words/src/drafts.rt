@@ -6,7 +6,9 @@ ghost use Rattle.audit_words.specs.Reading as spec;
 
 use crate::commands::{BinCommand, Command, FixCommand};
 use crate::options::{Flag, Listed, Meaning, Phase, Single, by_letter, by_long};
-use crate::values::{after, color_of, cut_equals, number, unless_empty, without_equals};
+use crate::values::{
+    after, color_of, cut_equals, is_makeable, number, packages_of, unless_empty, without_equals,
+};
 use audit_advisory::{DenyOption, OutputFormat};
 use audit_settings::AuditCommand;
 use std::alloc::Global;
@@ -50,6 +52,27 @@ fn is_option(word: &str) -> bool
     ensures { result ≡ spec.is_option word.now }
 {
     after(word, "-").is_some() && word != "-"
+}
+
+/// Whether no option of `audit` was given.
+fn is_bare(audit: &AuditCommand) -> bool
+    ensures { result ≡ spec.is_bare audit.now }
+{
+    audit.color.is_none()
+        && audit.db.is_none()
+        && audit.deny.as_slice().is_empty()
+        && audit.file.is_none()
+        && audit.ignore.as_slice().is_empty()
+        && !audit.no_yanked
+        && !audit.no_fetch
+        && !audit.stale
+        && audit.target_arch.as_slice().is_empty()
+        && audit.target_os.as_slice().is_empty()
+        && audit.url.is_none()
+        && !audit.quiet
+        && audit.output_format.is_none()
+        && !audit.output_json
+        && !audit.verdicts
 }
 
 /// The meaning of the first letter, and what is left behind it.
@@ -295,7 +318,18 @@ impl Draft {
             (Phase::Before, "audit") => self.phase = Phase::Audit,
             (Phase::Audit, "fix") => self.phase = Phase::Fix,
             (Phase::Audit, "bin") => self.phase = Phase::Bin,
-            (Phase::Before | Phase::Audit | Phase::Fix, _) => return Err(Stop::Wrong),
+            (Phase::Audit, "generate") => {
+                if !is_bare(&self.audit) {
+                    return Err(Stop::Wrong);
+                }
+                self.phase = Phase::Generate;
+            }
+            (Phase::Generate, _) => {
+                self.phase = Phase::Generated(packages_of(word).ok_or(Stop::Wrong)?);
+            }
+            (Phase::Before | Phase::Audit | Phase::Fix | Phase::Generated(_), _) => {
+                return Err(Stop::Wrong);
+            }
             (Phase::Bin | Phase::Paths, _) => return self.add_path(alloc, word),
         }
         Ok(())
@@ -306,7 +340,7 @@ impl Draft {
     {
         match self.phase {
             Phase::Before | Phase::Audit | Phase::Fix | Phase::Bin => true,
-            Phase::Paths => false,
+            Phase::Paths | Phase::Generate | Phase::Generated(_) => false,
         }
     }
 
@@ -344,7 +378,14 @@ impl Draft {
             return Err(Stop::Missing);
         }
         match self.phase {
-            Phase::Before => Err(Stop::Wrong),
+            Phase::Before | Phase::Generate => Err(Stop::Wrong),
+            Phase::Generated(count) => {
+                if is_makeable(count) {
+                    Ok(Command::Generate(count))
+                } else {
+                    Err(Stop::Wrong)
+                }
+            }
             Phase::Audit => Ok(Command::Audit(self.audit)),
             Phase::Fix => Ok(Command::Fix(self.audit, self.fix)),
             Phase::Bin | Phase::Paths => {

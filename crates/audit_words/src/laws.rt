@@ -1,11 +1,12 @@
 //! What holds of the meaning of words.
-ghost use Rattle.std.specs.Prelude.{◌≡◌, ◌≢◌, ◌<◌, ◌+◌, ◌-◌, ◌*◌, ◌^◌, ℕ, codes, List, [], ◌∷◌, ◌++◌, true, false, Some, None, Ok, Err, length, take};
+ghost use Rattle.std.specs.Prelude.{◌≡◌, ◌≢◌, ◌<◌, ◌≤◌, ◌+◌, ◌-◌, ◌*◌, ◌^◌, ℕ, codes, List, [], ◌∷◌, ◌++◌, true, false, Some, None, Ok, Err, length, take};
 ghost use Rattle.audit_advisory.specs.declared.outputs.TheConstants.{VERSION};
 ghost use Rattle.std.specs.Fmt.{decimal};
 ghost use Rattle.audit_words.specs.Laws.{CanJoin, IsLettered, IsNamed, drafted, given, is_setting, quieted, set_by, was_quiet};
 ghost use Rattle.audit_words.specs.Reading.{and_then, command_of, ended, finish, is_option, read_word, start, unless_ended};
 ghost use Rattle.audit_words.specs.Values.{number, value_from};
 ghost use Rattle.audit_words.specs.declared.commands.Command.{Command};
+ghost use Rattle.audit_words.specs.declared.commands.Command.TheVariants.{Generate};
 ghost use Rattle.audit_words.specs.declared.drafts.Draft.{Draft};
 ghost use Rattle.audit_words.specs.declared.drafts.Stop.{Stop};
 ghost use Rattle.audit_words.specs.declared.options.Meaning.{Meaning};
@@ -28,6 +29,12 @@ pub fn reading_ends_at_its_word()
         → command_of (front ++ word ∷ back) ≡ ended (length front) s }
     ensures behind { (words : List (List ℕ)) (d : Draft) → drafted words start ≡ Ok d
         → command_of words ≡ unless_ended (length words) (λ c. Ok c) (finish d) }
+{}
+
+/// What is generated has 1 to 5,000 packages.
+pub fn generated_packages_are_bounded()
+    ensures { (words : List (List ℕ)) (n : ℕ) → command_of words ≡ Ok (Generate n)
+        → (1 ≤ n) × (n ≤ 5000) }
 {}
 
 /// The five spellings of a value mean the same: `--x=v`, `--x v`, `-xv`, `-x=v` and `-x v`.

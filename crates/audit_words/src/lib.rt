@@ -22,8 +22,8 @@ mod words;
 pub use audit_advisory::VERSION;
 pub use commands::{BinCommand, Command, FixCommand, WordsFault};
 pub use laws::{
-    either_order, numbers_are_decimal, quiet_is_accepted, reading_ends_at_its_word,
-    same_drafts_same_command, spellings_agree, texts_name_the_version,
+    either_order, generated_packages_are_bounded, numbers_are_decimal, quiet_is_accepted,
+    reading_ends_at_its_word, same_drafts_same_command, spellings_agree, texts_name_the_version,
 };
 pub use rows::{accepted, refused};
 pub use texts::{HELP_TEXT, VERSION_TEXT};

@@ -2,7 +2,7 @@
 ghost use Rattle.std.specs.Prelude.{◌≡◌, codes, [], ◌∷◌, true, Some, None, Ok, Err};
 ghost use Rattle.audit_words.specs.Reading.{command_of, start};
 ghost use Rattle.audit_words.specs.Values.{number};
-ghost use Rattle.audit_words.specs.declared.commands.Command.TheVariants.{Audit, Bin, Fix, Help};
+ghost use Rattle.audit_words.specs.declared.commands.Command.TheVariants.{Audit, Bin, Fix, Generate, Help};
 ghost use Rattle.audit_advisory.specs.declared.outputs.DenyOption.TheVariants.{Yanked};
 ghost use Rattle.audit_words.specs.declared.commands.WordsFault.TheVariants.{Usage};
 
@@ -19,6 +19,8 @@ pub fn accepted()
     ensures paths { command_of
         (codes "audit" ∷ codes "bin" ∷ codes "a" ∷ codes "--" ∷ codes "-h" ∷ [])
         ≡ Ok (Bin start.audit (record start.bin { binary_paths = codes "a" ∷ codes "-h" ∷ [] })) }
+    ensures made_packages { command_of (codes "audit" ∷ codes "generate" ∷ codes "5000" ∷ [])
+        ≡ Ok (Generate 5000) }
     ensures largest { number (codes "18446744073709551615") ≡ Some 18446744073709551615 }
     ensures above { number (codes "18446744073709551616") ≡ None }
 {}
@@ -37,6 +39,15 @@ pub fn refused()
     ensures bad_joined { command_of (codes "audit" ∷ codes "-c=blue" ∷ []) ≡ Err (Usage 1) }
     ensures repeated { command_of (codes "audit" ∷ codes "-qq" ∷ []) ≡ Err (Usage 1) }
     ensures no_paths { command_of (codes "audit" ∷ codes "bin" ∷ []) ≡ Err (Usage 2) }
+    ensures no_number { command_of (codes "audit" ∷ codes "generate" ∷ []) ≡ Err (Usage 2) }
+    ensures no_package { command_of (codes "audit" ∷ codes "generate" ∷ codes "0" ∷ [])
+        ≡ Err (Usage 2) }
+    ensures too_many { command_of (codes "audit" ∷ codes "generate" ∷ codes "5001" ∷ [])
+        ≡ Err (Usage 2) }
+    ensures behind_an_option { command_of
+        (codes "audit" ∷ codes "-q" ∷ codes "generate" ∷ codes "5" ∷ []) ≡ Err (Usage 2) }
+    ensures word_behind_number { command_of
+        (codes "audit" ∷ codes "generate" ∷ codes "5" ∷ codes "-h" ∷ []) ≡ Err (Usage 3) }
     ensures no_version_behind_fix { command_of (codes "audit" ∷ codes "fix" ∷ codes "-V" ∷ [])
         ≡ Err (Usage 2) }
 {}

@@ -16,6 +16,8 @@ Usage:
   cargo audit [OPTION].. bin [BIN OPTION].. PATH..
                                               files that hold a lockfile between the lines
                                               `#cargo-lock begin` and `#cargo-lock end`
+  cargo audit generate N                      N made packages, 1 to 5000, audited twice in
+                                              memory, without files or an index
 
 Before audit may stand:
   -v, --verbose            read, but not used

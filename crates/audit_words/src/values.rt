@@ -50,6 +50,29 @@ pub fn number(value: &str) -> Option<u64>
     }
 }
 
+/// Whether so many packages are made: 1 to 5,000.
+pub fn is_makeable(count: u64) -> bool
+    ensures { result ≡ spec.is_makeable count }
+{
+    1 <= count && count <= 5000
+}
+
+/// The number of packages that are to be made.
+pub fn packages_of(word: &str) -> Option<u64>
+    ensures { result ≡ spec.packages_of word.now }
+{
+    match number(word) {
+        None => None,
+        Some(count) => {
+            if is_makeable(count) {
+                Some(count)
+            } else {
+                None
+            }
+        }
+    }
+}
+
 /// What stands behind a text's beginning.
 pub fn after<'t>(text: &'t str, beginning: &str) -> Option<&'t str>
     ensures { option_map (λ t. t.now) result ≡ spec.after beginning.now text.now }

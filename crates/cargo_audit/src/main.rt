@@ -1,8 +1,10 @@
 //! The program `cargo_audit`: makes the real outside and runs the command over it.
 #![tactic(auto)]
 
+mod locking;
 mod starting;
 
+use crate::locking::cache_lock;
 use crate::starting::{StartFault, folder, words};
 use audit_asked::NoRunner;
 use audit_binaries::PlainDecoder;
@@ -10,7 +12,6 @@ use audit_edges::{FileCacheDisk, MirrorWire, StdFiles, StdSink};
 use audit_program::run;
 use std::io;
 use std::process::ExitCode;
-use tame_names::FileLock;
 
 /// The folder of the mirror, where `CARGO_AUDIT_MIRROR` is unset or empty.
 const DEFAULT_MIRROR: &str = "index-mirror";
@@ -22,7 +23,7 @@ fn audit(rt: &HostRuntime) -> Result<u8, StartFault> {
     let words = words(rt)?;
     let mirror = folder(rt, "CARGO_AUDIT_MIRROR", DEFAULT_MIRROR)?;
     let cache = folder(rt, "CARGO_AUDIT_INDEX", DEFAULT_CACHE)?;
-    let lock = FileLock::unlocked();
+    let lock = cache_lock(rt, words.as_slice(), cache.as_str())?;
     let mut files = StdFiles::new(rt);
     let mut decoder = PlainDecoder;
     let mut runner = NoRunner::new();

@@ -9,11 +9,12 @@
 //! `ask PATH` and `ask PATH naming TAG` on the mirror; `text PATH LIMIT`, `list PATH` and
 //! `kind PATH` on the host's files, `input LIMIT` on its input, `env NAME` on its environment,
 //! `here` on its current folder; `dirs PATH` and `create PATH TEXT`, which make folders and a file;
-//! `lock exclusive PATH` and `lock shared PATH`, which open a file and take its lock, `try-lock` the
-//! same without waiting, `try-lock-beside HOLDER exclusive PATH` while another opening of the file
-//! holds its lock so, `try-lock-nothing PATH` of what isn't open; `put TEXT` and `put-closed TEXT` on an output. `fault N` is a
-//! fault, with the edge's count. After `real` the host is the system itself, for `list`, `kind`,
-//! `env` and `kind-here`, which tells what is at the path of the current folder.
+//! `lock exclusive PATH` and `lock shared PATH`, which open a file and take its lock, `try-lock`
+//! the same without waiting, `try-lock-beside HOLDER exclusive PATH` while another opening of the
+//! file holds its lock so, `try-lock-nothing PATH` of what isn't open; `put TEXT` and
+//! `put-closed TEXT` on an output. `fault N` is a fault, with the edge's count. After `real` the
+//! host is the system itself, for `list`, `kind`, `env` and `kind-here`, which tells what is at the
+//! path of the current folder.
 //!
 //! The host's input is the file `elsewhere/input`, its variables are the files of the folder
 //! `variables`, and its current folder is told by the file `elsewhere/current`, if there is one.

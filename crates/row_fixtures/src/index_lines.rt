@@ -30,7 +30,8 @@ pub fn flagged_body(alloc: Global, yanked: bool) -> Result<String, AllocError> {
     Ok(body)
 }
 
-/// The cache entry of a body under a revision, in the index at `INDEX_URL`. `Unread` where the body's lines aren't objects.
+/// The cache entry of a body under a revision, in the index at `INDEX_URL`. `Unread` where the
+/// body's lines aren't objects.
 pub fn entry_of(alloc: Global, body: &[u8], revision: &Revision<'_>) -> Result<Vec<u8>, RowFault> {
     match JsonLines::validate(body) {
         Ok(lines) => Ok(CacheWrite::Remote(lines).entry(alloc, INDEX_URL, revision)?),

@@ -29,8 +29,8 @@ pub fn refused_is_kept()
 {}
 
 /// Two indices that share a folder never believe each other: a file that is kept for the one stays
-/// so at each moment of a write of the other, of which each file is one that a crash could have left
-/// before, refused, or the whole entry of the other, which the one refuses.
+/// so at each moment of a write of the other, of which each file is one that a crash could have
+/// left before, refused, or the whole entry of the other, which the one refuses.
 pub fn shared_folders_stay_kept()
     ensures kept { (m : ServerMap) (one other p : List ℕ) (r : EntryRevision) (ps : List Pair)
         (old new : List Step) → IsTrue (has_no_zero other) → other ≢ one → IsFileKept m one p old
@@ -42,8 +42,8 @@ pub fn shared_folders_stay_kept()
 {}
 
 /// A disk that begins without files, or with nothing pending and files that are all refused for the
-/// url of the index, and is used by calls that keep it at each of their moments, is kept whenever it
-/// crashes.
+/// url of the index, and is used by calls that keep it at each of their moments, is kept whenever
+/// it crashes.
 pub fn histories_keep()
     ensures { (m : ServerMap) (index : List ℕ) (root : List ℕ) (began : Disk) (now : Disk)
         → History m index root began now → IsKept m index root now }

@@ -39,9 +39,9 @@ pub fn entries_read_back()
 {}
 
 /// Nothing is believed that isn't of the index and of this version: the entry of another index is
-/// refused; so is a file in which another text stands first, as a revision's does where an entry was
-/// of the version before, whatever became of its first byte; and so is each file with another first
-/// byte.
+/// refused; so is a file in which another text stands first, as a revision's does where an entry
+/// was of the version before, whatever became of its first byte; and so is each file with another
+/// first byte.
 pub fn other_entries_are_refused()
     ensures index { (index url : List ℕ) (r : EntryRevision) (ps : List Pair)
         → IsTrue (has_no_zero url) → url ≢ index

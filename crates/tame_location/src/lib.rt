@@ -1,17 +1,46 @@
-//! Where cargo keeps what it has: the folder of its home.
+//! Where cargo keeps what it has: its home, the folders of indices, which index a registry has, and
+//! the locks of files.
 //!
-//! Promises: the folder is what the variables `CARGO_HOME` and `HOME` and the current folder give,
-//! or the exact reason why it can't be told.
-//! Stands on the host `Files`, the paths and the errors of `tame_names`.
+//! Promises: a folder, a url and an index are what a url, the variables, the settings and the
+//! current folder give, or the exact reason why they can't be told; a lock is held exactly where
+//! the last step on it took it.
+//! Stands on the host `Files`, the paths and the errors of `tame_names`, on `toml_tables`, and on
+//! `toml`, `semver` and `hex`.
 //!
 //! ```text
-//! CARGO_HOME=/c            /c
-//! CARGO_HOME=c             c in the current folder
-//! HOME=/home/me            /home/me/.cargo
-//! neither                  Error::Io, with IoKind::NoHome
+//! CARGO_HOME=/c            cargo_home          /c
+//! neither is set           cargo_home          Error::Io, with IoKind::NoHome
+//! https://github.com/A/b/  canonicalize_url    https://github.com/a/b
+//! https://x.example/a      url_to_local_dir    x.example- and 16 digits
 //! ```
 #![tactic(auto)]
 
+mod configs;
+mod examples;
+mod folders;
 mod homes;
+mod idents;
+mod index_urls;
+mod locations;
+mod lock_options;
+mod locks;
+mod lookups;
+mod places;
+mod registries;
+mod settings;
+mod sip_hash;
+mod texts;
+mod urls;
+mod versions;
+mod walks;
 
+pub use examples::{folder_examples, sip_hash_examples, url_examples};
+pub use folders::{UrlDir, get_index_details, url_to_local_dir};
 pub use homes::cargo_home;
+pub use idents::{Ident, KnownIdent, TableIdent};
+pub use index_urls::{CRATES_IO_HTTP_INDEX, CRATES_IO_INDEX, IndexUrl, is_sparse_url};
+pub use locations::{IndexLocation, IndexPath};
+pub use lock_options::LockOptions;
+pub use sip_hash::sip_hash_2_4;
+pub use urls::{canonicalize_url, refused_url};
+pub use versions::parse_cargo_semver;

@@ -1,6 +1,5 @@
 -- The addresses of an index and of its files (Cargo Book, "Registry Index", sparse protocol).
-use Rattle.std.specs.Prelude.{◌≡◌, ◌⊎◌, ℕ, codes, List, ◌++◌, nat_eq, Bool, Option, Some, None, option_map, unwrap_or, Result, Ok, Err}
-use Rattle.std.specs.List.{starts_with}
+use Rattle.std.specs.Prelude.{◌≡◌, ◌⊎◌, ℕ, codes, List, ◌++◌, Option, Some, None, option_map, unwrap_or, Result, Ok, Err}
 use Rattle.tame_names.specs.Names.{path}
 use Rattle.tame_names.specs.Paths.{join}
 use Rattle.tame_names.specs.Standing.{Standing, File, Nothing}
@@ -10,10 +9,7 @@ use Rattle.tame_names.specs.declared.errors.IoKind.TheVariants as io_kind
 use Rattle.tame_entry.specs.Config.{config_of}
 use Rattle.tame_entry.specs.Prefixes.{without_prefix}
 use Rattle.tame_entry.specs.declared.config.IndexConfig.{IndexConfig}
-
--- the url is one of a sparse index
-abbrev pub is_sparse_url : List ℕ → Bool
-is_sparse_url url = starts_with nat_eq url (codes "sparse+http")
+pub use Rattle.tame_location.specs.IndexUrls.{is_sparse_url}
 
 -- a url without what marks it as one of a sparse index
 abbrev pub http_url : List ℕ → List ℕ

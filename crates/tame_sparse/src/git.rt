@@ -17,21 +17,18 @@ ghost use Rattle.tame_sparse.specs.Git.{version_pairs};
 ghost use Rattle.tame_sparse.specs.Git as spec;
 ghost use Rattle.tame_sparse.specs.Urls.{is_sparse_url};
 
-use crate::urls::is_sparse_url;
 use std::alloc::Global;
 use tame_cache::{CacheDisk, CacheFault, IndexCache, Kept};
 use tame_entry::{CacheWrite, GitRevision, IndexEntry, Revision, Sha1Hex};
+use tame_location::is_sparse_url;
 use tame_names::{Error, FileLock, InvalidUrl, InvalidUrlError, IoKind, KrateName, Text};
 use tame_records::IndexKrate;
-
-/// The address of the git index of crates.io.
-pub const CRATES_IO_INDEX: &str = "https://github.com/rust-lang/crates.io-index";
 
 /// A registry's git index: where its cache is, and its head, where that is known.
 #[derive(Drop)]
 pub struct GitIndex {
-    cache: IndexCache,
-    head: Option<Sha1Hex>,
+    pub(crate) cache: IndexCache,
+    pub(crate) head: Option<Sha1Hex>,
 }
 
 impl GitIndex {

@@ -3,9 +3,10 @@
 //!
 //! Promises: a request asks for the file of a crate at the url of the index, and names the revision
 //! that the cache holds; an answer gives the lines that it sent, or at 304 those of the cache; over
-//! an honest server a kept cache stays kept.
-//! Stands on `tame_names`, `tame_records`, `tame_entry` and the cache of `tame_cache`, the requests
-//! of `http`, and a wire that its caller brings, of which `MemWire` is one in memory.
+//! an honest server a kept cache stays kept; an index of a location has its folder and its url.
+//! Stands on `tame_names`, the locations of `tame_location`, `tame_records`, `tame_entry` and the
+//! cache of `tame_cache`, the requests of `http`, and a wire that its caller brings, of which
+//! `MemWire` is one in memory.
 //!
 //! ```ignore
 //! let index = SparseIndex::at(alloc, path, "sparse+https://index.crates.io/")?;
@@ -19,6 +20,7 @@ mod etags;
 mod git;
 mod headers;
 mod laws;
+mod located;
 mod memory_wire;
 mod naming;
 mod network;
@@ -28,13 +30,13 @@ mod sparse;
 mod urls;
 
 pub use etags::EtagCache;
-pub use git::{CRATES_IO_INDEX, GitIndex};
+pub use git::GitIndex;
 pub use laws::{cases_share_places, served_exchanges_are_honest};
 pub use memory_wire::{MemWire, Scripted};
 pub use network::{
-    CRATES_IO_HTTP_INDEX, Exchange, Representation, Request, Wire, WireAnswer, WireFault,
-    crates_io_request,
+    Exchange, Representation, Request, Wire, WireAnswer, WireFault, crates_io_request,
 };
 pub use responses::Response;
 pub use serving::{Held, ServeWire};
 pub use sparse::SparseIndex;
+pub use tame_location::{CRATES_IO_HTTP_INDEX, CRATES_IO_INDEX};

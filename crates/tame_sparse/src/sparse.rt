@@ -23,12 +23,13 @@ use crate::configs::config_of;
 use crate::naming::{named_entry, named_handed};
 use crate::network::Request;
 use crate::responses::{Response, stored_under};
-use crate::urls::{http_url, is_sparse_url};
+use crate::urls::http_url;
 use std::alloc::Global;
 use tame_cache::{CacheDisk, CacheFault, IndexCache};
 use tame_entry::{
     CacheWrite, HttpRevision, IndexConfig, IndexEntry, JsonLines, OwnedRevision, Revision,
 };
+use tame_location::is_sparse_url;
 use tame_names::{
     Error, FileFault, FileLock, Files, HttpError, InvalidUrl, InvalidUrlError, IoKind, KrateName,
     NoMemory, ReadAnswer, Text, join,
@@ -37,7 +38,7 @@ use tame_names::{
 /// A registry's sparse index, and the cache of it (Cargo Book, "Registry Index").
 #[derive(Debug, Drop)]
 pub struct SparseIndex {
-    cache: IndexCache,
+    pub(crate) cache: IndexCache,
 }
 
 impl SparseIndex {

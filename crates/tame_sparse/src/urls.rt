@@ -4,13 +4,6 @@ ghost use Rattle.tame_sparse.specs.Urls as spec;
 
 use tame_entry::without_prefix;
 
-/// Whether a url is one of a sparse index.
-pub fn is_sparse_url(url: &str) -> bool
-    ensures { result ≡ spec.is_sparse_url url.now }
-{
-    url.starts_with("sparse+http")
-}
-
 /// A url without what marks it as one of a sparse index.
 pub fn http_url(url: &str) -> &str
     ensures { result.now ≡ spec.http_url url.now }

@@ -1,4 +1,5 @@
-//! Rows of words and of settings. `TEXT` is a text of settings in one line, `WORD ..` the words of a command:
+//! Rows of words and of settings. `TEXT` is a text of settings in one line, `WORD ..` the words of
+//! a command:
 //!
 //! - `words WORD ..`: the command, or the place of the first word that breaks a rule;
 //! - `lock WORD ..`: the lockfile that is named behind `fix`;

@@ -1,5 +1,5 @@
-//! Runs over a cache file with another first byte, over a part of one, and over one of the version of
-//! entries before this one.
+//! Runs over a cache file with another first byte, over a part of one, and over one of the version
+//! of entries before this one.
 use crate::runs::crashes::{line_of, serve};
 use crate::runs::kept_files::left_file;
 use crate::runs::running::audited;
@@ -97,7 +97,8 @@ fn stop_of(words: &mut Row<'_>) -> Result<Option<u64>, RowFault> {
     }
 }
 
-/// `first-bytes STOP`: audits over the entry of the yanked line with each first byte, answered by 200.
+/// `first-bytes STOP`: audits over the entry of the yanked line with each first byte, answered by
+/// 200.
 pub fn first_bytes(
     alloc: Global,
     stage: &mut Stage,
@@ -131,8 +132,8 @@ pub fn parts(alloc: Global, stage: &mut Stage) -> Result<String, RowFault> {
     Ok(ranges.into_text()?)
 }
 
-/// `older FIRST STOP`: an audit over the entry of the yanked line as version 3 had it, without the url
-/// of its index, with this first byte, answered by 200.
+/// `older FIRST STOP`: an audit over the entry of the yanked line as version 3 had it, without the
+/// url of its index, with this first byte, answered by 200.
 pub fn older(alloc: Global, stage: &mut Stage, mut words: Row<'_>) -> Result<String, RowFault> {
     let first = words.byte_or_none()?.unwrap_or(3);
     let stopped = stop_of(&mut words)?;

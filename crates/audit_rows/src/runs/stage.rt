@@ -216,7 +216,7 @@ impl Stage {
     }
 
     /// `serve STATUS REVISION BODY`: adds an answer for the next run, of a server that holds the
-    /// body under the revision; the body is sent at 200 alone.
+    /// body under the revision; the body is sent at 200 alone. `serve failed`: a failed exchange.
     pub fn serve(&mut self, alloc: Global, words: Row<'_>) -> Result<String, RowFault> {
         self.script.add(scripted(alloc, words)?)?;
         done(alloc)

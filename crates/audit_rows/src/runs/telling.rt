@@ -124,28 +124,49 @@ fn push_binaries(out: &mut String, binaries: &BinariesAudit) -> Result<(), Alloc
     write!(out, ", found {found}, errors {errors}")
 }
 
+/// Adds the audit, or that there is none.
+fn push_audit(out: &mut String, ran: &Ran) -> Result<(), AllocError> {
+    match &ran.outcome.audited {
+        Some(audited) => push_audited(out, audited),
+        None => out.push_str("; no audit"),
+    }
+}
+
+/// Adds the answers for binaries and how many decodes failed, if binaries were audited.
+fn push_decoded(out: &mut String, ran: &Ran) -> Result<(), AllocError> {
+    let Some(binaries) = &ran.outcome.binaries else {
+        return Ok(());
+    };
+    push_binaries(out, binaries)?;
+    let failed = ran.decoder.decode_faults();
+    write!(out, ", {failed} failed decodes")
+}
+
+/// Adds how many exchanges the audits of made packages had, if packages were made.
+fn push_made(out: &mut String, ran: &Ran) -> Result<(), AllocError> {
+    let Some(made) = &ran.outcome.generated else {
+        return Ok(());
+    };
+    let asked = made.wire.exchanges().len();
+    write!(out, "; made packages, {asked} exchanges")
+}
+
 /// A run as a line: its status, its output and errors, what was asked and named, the audit, the
-/// fault, how many calls of the disk have failed, and, if there are any, the starts and the answers
-/// for binaries.
+/// fault, how many calls of the disk have failed, and, if there are any, the starts, the answers
+/// for binaries, and how many exchanges the audits of made packages had.
 pub fn told(alloc: Global, ran: &Ran, disk: &MemCacheDisk) -> Result<String, RowFault> {
     let status = ran.outcome.status;
     let printed = shown(alloc, ran.out.bytes())?;
     let errors = shown(alloc, ran.err.bytes())?;
     let mut out = format!(in alloc; "{status} [{printed}] [{errors}]")?;
     push_asked(alloc, &mut out, ran)?;
-    match &ran.outcome.audited {
-        Some(audited) => push_audited(&mut out, audited)?,
-        None => out.push_str("; no audit")?,
-    }
+    push_audit(&mut out, ran)?;
     push_fault(&mut out, ran)?;
     let faults = disk.disk_faults();
     write!(out, "; {faults} faults of the disk")?;
     push_starts(&mut out, ran.runner.starts())?;
-    if let Some(binaries) = &ran.outcome.binaries {
-        push_binaries(&mut out, binaries)?;
-        let failed = ran.decoder.decode_faults();
-        write!(out, ", {failed} failed decodes")?;
-    }
+    push_decoded(&mut out, ran)?;
+    push_made(&mut out, ran)?;
     Ok(out)
 }
 

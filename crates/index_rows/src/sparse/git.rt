@@ -63,8 +63,8 @@ pub fn store(
     stored(alloc, git, &krate, blob, disk)
 }
 
-/// The bytes of an entry behind the url of the index, of 44 bytes, and the zero byte behind that, up
-/// to the end of its version's text.
+/// The bytes of an entry behind the url of the index, of 44 bytes, and the zero byte behind that,
+/// up to the end of its version's text.
 fn front_of(alloc: Global, entry: &[u8]) -> Result<String, RowFault> {
     match entry.get(50..96) {
         Some(bytes) => Ok(shown(alloc, bytes)?),

@@ -1,8 +1,10 @@
-use Rattle.std.proofs.Common.{◌≡◌, [], Err, rules, arith}
+use Rattle.std.proofs.Common.{◌≡◌, [], Err, length, rules, arith}
 use Rattle.std.proofs.lemmas.Grind.{common_steps}
 use Rattle.audit_asked.specs.declared.faults.RunFault.TheVariants as fault
 use Rattle.audit_report.proofs.Puts.{part_none}
-use Rattle.audit_program.proofs.Finishing.{part_nothing, partly_started}
+use Rattle.audit_program.specs.Finishes.{end_of}
+use Rattle.audit_program.specs.Statuses.{plan_of}
+use Rattle.audit_program.proofs.Finishing.{lines_put, part_nothing, partly_started}
 use Rattle.audit_program.proofs.Putting.{put_memory}
 use Rattle.audit_program.proofs.fixing.fix.Goals as goal
 
@@ -22,4 +24,16 @@ returns-in_err-statuses-clause-fixed g c =
       statuses = [];
       started = partly_started _ _ _ _ fault.NoMemory tt (λ told. rw (c.in_ok-plan.ensures.plan, c.database.ensures) at (c.in_err-statuses.ensures.part told));
       put = λ told. put_memory _ _ _ (part_none _ _);
+    }
+
+pub returns-clause-fixed : goal.returns-clause-fixed
+returns-clause-fixed g c =
+    let each : length c.in_ok-statuses.statuses ≡ length (plan_of c.args.dry_run c.args.sheet.now.auditor.now.database c.args.sheet.now.audited.now).steps =
+    rw (c.in_ok-plan.ensures.plan, c.database.ensures) at c.in_ok-statuses.ensures.one_each in
+    record {
+      statuses = c.in_ok-statuses.statuses;
+      started = search rules;
+      put = λ told.
+          let h = rw c.as_slice.ensures at (c.in_ok-put_lines.ensures.put told) in
+          lines_put _ c.in_ok-statuses.statuses _ _ _ (end_of c.fix_ended.result) each (record { part = h.part; whole = λ w. h.whole });
     }

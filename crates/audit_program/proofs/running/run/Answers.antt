@@ -1,14 +1,15 @@
 use Rattle.std.proofs.Common.{[], Ok, Some, ap, map, refl, subst, sym}
 use Rattle.std.specs.Prelude.{string_bytes}
+use Rattle.audit_words.proofs.Makeable.{bounded}
 use Rattle.audit_words.specs.Reading.{command_of}
 use Rattle.audit_words.specs.declared.commands.Command.TheVariants as command
 use Rattle.audit_asked.specs.declared.faults.RunFault.TheVariants as fault
 use Rattle.audit_core.proofs.Exchanged.{keeps_nothing, part_none}
-use Rattle.audit_program.specs.Outputs.{AsksForNoAudit, words_place}
+use Rattle.audit_program.specs.Outputs.{NeedsNoHost, words_place}
 use Rattle.audit_program.specs.Tasks.{AsksForBinaries, fix_task, task_of}
 use Rattle.audit_program.specs.declared.tasks.Remedy.TheVariants.{Report}
-use Rattle.audit_program.proofs.Commands.{accepted_by, if_none, if_none_then, no_memory_called, not_both, plain_none, plain_put, task_cause}
-use Rattle.audit_program.proofs.Completing.{task_complete}
+use Rattle.audit_program.proofs.Commands.{accepted_by, bin_cause, if_none, if_none_then, made_cause, made_run, no_memory_called, not_both, plain_none, plain_put, task_cause}
+use Rattle.audit_program.proofs.Completing.{bin_complete, made_complete, task_complete}
 use Rattle.audit_program.proofs.Ended.{ended_by}
 use Rattle.audit_program.proofs.Putting.{put_nothing}
 use Rattle.audit_program.proofs.Starting.{none_started}
@@ -130,17 +131,17 @@ returns-in-Err-NoMemory-clause-part g c told_files told given packages accepts =
 pub returns-in-Ok-Audit-clause-uncalled : goal.returns-in-Ok-Audit-clause-uncalled
 returns-in-Ok-Audit-clause-uncalled g c nothing =
     let mine = rw c.in-Ok-Audit.field-0-is at c.in-Ok-Audit.ensures.ok in
-    absurd (subst AsksForNoAudit mine nothing)
+    absurd (subst NeedsNoHost mine nothing)
 
 pub returns-in-Ok-Fix-clause-uncalled : goal.returns-in-Ok-Fix-clause-uncalled
 returns-in-Ok-Fix-clause-uncalled g c nothing =
     let mine = rw c.in-Ok-Fix.field-0-is at c.in-Ok-Fix.ensures.ok in
-    absurd (subst AsksForNoAudit mine nothing)
+    absurd (subst NeedsNoHost mine nothing)
 
 pub returns-in-Ok-Bin-clause-uncalled : goal.returns-in-Ok-Bin-clause-uncalled
 returns-in-Ok-Bin-clause-uncalled g c nothing =
     let mine = rw c.in-Ok-Bin.field-0-is at c.in-Ok-Bin.ensures.ok in
-    absurd (subst AsksForNoAudit mine nothing)
+    absurd (subst NeedsNoHost mine nothing)
 
 pub returns-in-Ok-Bin-clause-undecoded : goal.returns-in-Ok-Bin-clause-undecoded
 returns-in-Ok-Bin-clause-undecoded g c other =
@@ -156,3 +157,33 @@ pub returns-in-Ok-Fix-clause-unstarted : goal.returns-in-Ok-Fix-clause-unstarted
 returns-in-Ok-Fix-clause-unstarted g c is =
     let mine = rw c.in-Ok-Fix.field-0-is at c.in-Ok-Fix.ensures.ok in
     absurd (subst AsksForBinaries mine is)
+
+pub returns-in-Ok-Bin-clause-cause : goal.returns-in-Ok-Bin-clause-cause
+returns-in-Ok-Bin-clause-cause g c =
+    let mine = rw c.in-Ok-Bin.field-0-is at c.in-Ok-Bin.ensures.ok in
+    bin_cause g.F.Files.tells (map string_bytes c.args.words.now) (g.F.Files.host c.args.files.now) c.in-Ok-Bin.command c.in-Ok-Bin.more c.run_binaries.result.fault mine c.run_binaries.ensures.cause
+
+pub returns-in-Ok-Generate-clause-generated : goal.returns-in-Ok-Generate-clause-generated
+returns-in-Ok-Generate-clause-generated g c =
+    let mine = rw c.in-Ok-Generate.field-0-is at c.in-Ok-Generate.ensures.ok in
+    made_run (map string_bytes c.args.words.now) c.in-Ok-Generate.count c.run_generated.result.generated mine c.run_generated.ensures.generated
+
+pub returns-in-Ok-Generate-clause-cause : goal.returns-in-Ok-Generate-clause-cause
+returns-in-Ok-Generate-clause-cause g c =
+    made_cause g.F.Files.tells (map string_bytes c.args.words.now) (g.F.Files.host c.args.files.now) c.run_generated.result.fault c.run_generated.ensures.fault
+
+pub returns-in-Ok-Generate-clause-complete : goal.returns-in-Ok-Generate-clause-complete
+returns-in-Ok-Generate-clause-complete g c told ready quiet = made_complete _ _ c.run_generated.result.fault c.run_generated.ensures.fault c.run_generated.ensures.rose quiet
+
+pub returns-in-Ok-Generate-clause-unaudited_out : goal.returns-in-Ok-Generate-clause-unaudited_out
+returns-in-Ok-Generate-clause-unaudited_out g c told =
+    if_none c.run_generated.result.audited _ (if_none c.run_generated.result.binaries _
+    (plain_put _ (Ok (command.Generate c.in-Ok-Generate.count)) _ _ c.run_generated.result.fault (rw c.in-Ok-Generate.field-0-is at c.in-Ok-Generate.ensures.ok) (c.run_generated.ensures.out told)))
+
+pub returns-in-Ok-Generate-clause-kept : goal.returns-in-Ok-Generate-clause-kept
+returns-in-Ok-Generate-clause-kept g c told_wire told = keeps_nothing (g.W.Wire.exchanges c.args.wire.now) (g.W.Wire.exchanges c.args.wire.now) (g.D.CacheDisk.past c.args.disk.now)
+
+pub run_generated-requires : goal.run_generated-requires
+run_generated-requires g c =
+    let mine = rw c.in-Ok-Generate.field-0-is at c.in-Ok-Generate.ensures.ok in
+    (bounded (map string_bytes c.args.words.now) c.in-Ok-Generate.count mine).1

@@ -1,0 +1,11 @@
+mod Begun
+mod Kept
+mod Dashes
+mod Pieces
+mod RegistryPaths
+mod Standings
+mod Agreeing
+mod ReadBack
+mod Inserted
+mod Beginnings
+mod Printed

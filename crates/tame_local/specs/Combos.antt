@@ -1,0 +1,102 @@
+-- Where a crate's entry of an index is kept, whatever the index is (this project).
+use Rattle.std.specs.Prelude.{◌≡◌, ℕ, List, Bool, true, false, IsTrue, Option, Some, None, Result, Ok, Err}
+use Rattle.tame_names.specs.Standing.{Host}
+use Rattle.tame_names.specs.declared.errors.Error.{Error}
+use Rattle.tame_names.specs.declared.errors.Error.TheVariants as error
+use Rattle.tame_names.specs.declared.errors.IoKind.TheVariants as io_kind
+use Rattle.tame_location.specs.Homes.{IsTold}
+use Rattle.tame_location.specs.IndexUrls.{is_sparse}
+use Rattle.tame_location.specs.declared.index_urls.IndexUrl.{IndexUrl}
+use Rattle.tame_location.specs.declared.index_urls.IndexUrl.TheVariants as url
+use Rattle.tame_location.specs.declared.locations.IndexLocation.{IndexLocation}
+use Rattle.tame_entry.specs.declared.index_entries.IndexEntry.{IndexEntry}
+use Rattle.tame_cache.specs.CacheFiles.{HandsOut}
+use Rattle.tame_cache.specs.Disk.{File}
+use Rattle.tame_cache.specs.Kept.{cache_file_of}
+use Rattle.tame_sparse.specs.Located.{IsPlaceError, git_place, missing_sparse, sparse_for_git, sparse_place}
+use Rattle.tame_local.specs.Refusals.{IsFolderError, is_told, refused}
+use Rattle.tame_local.specs.Registries.{HandsOutFile, index_at, index_file}
+use Rattle.tame_local.specs.declared.combos.ComboIndexCache.{ComboIndexCache}
+use Rattle.tame_local.specs.declared.combos.ComboIndexCache.TheVariants as combo
+
+-- the file of a crate is in the cache of an index, below this path, or in an index at this path
+pub data Kept : Type 0 where
+  InCache : (root url : List ℕ) → Kept
+  InIndex : (index : List ℕ) → Kept
+
+abbrev pub kept_in : ComboIndexCache → Kept
+kept_in (combo.Git index) = InCache index.cache.path index.cache.index
+kept_in (combo.Sparse index) = InCache index.cache.path index.cache.index
+kept_in (combo.Local index) = InIndex index.path
+kept_in (combo.LocalRegistry registry) = InIndex registry.index.path
+
+-- the path of a crate's file
+abbrev pub file_of : Kept → List ℕ → Option (List ℕ)
+file_of (InCache root url) name = cache_file_of root name
+file_of (InIndex index) name = Some (index_file index name)
+
+-- its path in a cache; none where it is in an index
+abbrev pub cached_file_of : Kept → List ℕ → Option (List ℕ)
+cached_file_of (InCache root url) name = cache_file_of root name
+cached_file_of (InIndex index) name = None
+
+-- what a cache hands out of it, where the disk tells it
+abbrev pub IsCached : Kept → File → Option IndexEntry → Type 0
+IsCached (InCache root url) file entry = HandsOut url entry file
+IsCached (InIndex index) file entry = Unit {0}
+
+-- what an index hands out of it, where the host tells what it has
+abbrev pub IsIndexed : Kept → List ℕ → Host → Option IndexEntry → Type 0
+IsIndexed (InCache root url) name host entry = Unit {0}
+IsIndexed (InIndex index) name host entry = HandsOutFile entry (host.stands (index_file index name))
+
+-- a failed read of a cache, or of a file of an index
+abbrev pub IsCombinedError : Error → Type 0
+IsCombinedError (error.Io io_kind.Failed) = Unit {0}
+IsCombinedError (error.IoPath io_kind.Failed path) = Unit {0}
+IsCombinedError error.NoMemory = Unit {0}
+IsCombinedError e = ⊥
+
+-- ---- which cache there is at a location
+
+-- of which kind the index of a url is: sparse, in a git repository, or in the folder of a path
+pub data IndexKind : Type 0 where
+  OfServer : IndexKind
+  OfRepository : IndexKind
+  OfFolder : (path : List ℕ) → IndexKind
+
+-- the path of a local registry
+abbrev pub local_path : IndexUrl → Option (List ℕ)
+local_path (url.Local path) = Some path
+local_path other = None
+
+abbrev pub kind_by : Option (List ℕ) → Bool → IndexKind
+kind_by (Some path) sparse = OfFolder path
+kind_by None true = OfServer
+kind_by None false = OfRepository
+
+abbrev pub kind_of : IndexUrl → IndexKind
+kind_of address = kind_by (local_path address) (is_sparse address)
+
+-- where an index of a kind stands, or why there is none, where the host tells what it has
+abbrev pub IsOpened : (ℕ → List ℕ → ℕ) → IndexLocation → Host → IndexKind
+    → Result ComboIndexCache Error → Type 0
+IsOpened ident location host OfServer (Ok (combo.Sparse index)) =
+    sparse_place ident location host ≡ Ok (index.cache.path, index.cache.index)
+IsOpened ident location host OfServer (Err e) =
+    IsTold e → sparse_place ident location host ≡ Err e
+IsOpened ident location host OfRepository (Ok (combo.Git index)) =
+    git_place ident location host ≡ Ok (index.cache.path, index.cache.index)
+IsOpened ident location host OfRepository (Err e) =
+    IsTold e → git_place ident location host ≡ Err e
+IsOpened ident location host (OfFolder path) (Ok (combo.Local index)) =
+    index_at host path ≡ Ok index.path
+IsOpened ident location host (OfFolder path) (Err e) =
+    IsTrue (is_told e) → index_at host path ≡ Err (refused e)
+IsOpened ident location host kind result = ⊥
+
+-- the reasons why there is none
+abbrev pub IsOpenError : IndexLocation → IndexKind → Error → Type 0
+IsOpenError location OfServer e = IsPlaceError (missing_sparse location.url) location e
+IsOpenError location OfRepository e = IsPlaceError (sparse_for_git location.url) location e
+IsOpenError location (OfFolder path) e = IsFolderError e

@@ -1,0 +1,50 @@
+-- The names of crate files: `<name>-<version>.crate` (Cargo Book, "Source Replacement", local
+-- registry sources).
+use Rattle.std.specs.Prelude.{◌≡◌, ℕ, suc, ◌-◌, codes, nat_eq, List, [], ◌∷◌, ◌++◌, length, take, drop, Bool, false, Option, Some, None, IsTrue, is_ok, option_and_then, option_map, ◌==◌, if◌then◌else◌}
+use Rattle.std.specs.List.{ends_with}
+use Rattle.std.specs.Str.{IsUtf8}
+use Rattle.semver.specs.Parse.{version_parts}
+use Rattle.tame_names.specs.Names.{is_name}
+
+-- this byte isn't among these
+abbrev pub Lacks : ℕ → List ℕ → Type 0
+Lacks n [] = Unit {0}
+Lacks n (b ∷ bs) = ((b == n) ≡ false) × Lacks n bs
+
+-- what every crate file's name ends with
+abbrev pub ending : List ℕ
+ending = codes ".crate"
+
+-- the name of the file of a version of a crate
+abbrev pub crate_file : List ℕ → List ℕ → List ℕ
+crate_file name version = name ++ 45 ∷ (version ++ ending)
+
+-- what stands in front of the ending
+abbrev pub stem_of : List ℕ → Option (List ℕ)
+stem_of file = if ends_with nat_eq file ending then Some (take (length file - 6) file) else None
+
+-- the place of the last `-` in front of the first `.`, for a text that begins at a place, and the
+-- last one in front of it; none without a `.`
+abbrev pub dash_from : Option ℕ → ℕ → List ℕ → Option ℕ
+dash_from last at [] = None
+dash_from last at (b ∷ bs) =
+    if b == 46 then last else dash_from (if b == 45 then Some at else last) (suc at) bs
+
+-- a text without the byte at a place: what stands in front of it, and what behind
+abbrev pub parted : List ℕ → ℕ → List ℕ × List ℕ
+parted text at = (take at text, drop (suc at) text)
+
+abbrev pub stem_components : List ℕ → Option (List ℕ × List ℕ)
+stem_components stem = option_map (parted stem) (dash_from None 0 stem)
+
+-- name and version of a crate file: what stands in front of the ending, parted at the last `-` in
+-- front of the first `.`
+abbrev pub components : List ℕ → Option (List ℕ × List ℕ)
+components file = option_and_then stem_components (stem_of file)
+
+-- the name of the file of a version gives name and version back
+abbrev pub GivesBack : Type 0
+GivesBack =
+    (name version : List ℕ) → IsUtf8 name → IsTrue (is_name name)
+    → IsTrue (is_ok (version_parts version))
+    → components (crate_file name version) ≡ Some (name, version)

@@ -1,0 +1,7 @@
+pub mod Builders
+pub mod Combos
+pub mod CrateFiles
+pub mod Digests
+pub mod Inserts
+pub mod Refusals
+pub mod Registries

@@ -1,0 +1,33 @@
+//! Local registries: an index in a folder, crate files beside it, and what builds and checks them.
+//!
+//! Promises: a registry is validated exactly where each of its crate files has the digest of its
+//! record; a builder changes the files that it says, and no others; a refusal has its exact reason.
+//! Stands on the files of `tame_names`, the records of `tame_records`, the entries of `tame_entry`,
+//! the caches of `tame_sparse`, and on `sha2` and `bytes`.
+//!
+//! ```ignore
+//! let builder = LocalRegistryBuilder::create(alloc, &mut files, path)?;
+//! builder.insert(alloc, &mut files, &krate, &[ValidKrate::validate(alloc, bytes, version)?])?;
+//! let registry = builder.finalize(alloc, &mut files, true)?;
+//! ```
+#![tactic(auto)]
+
+mod builders;
+mod combos;
+mod crate_files;
+mod digests;
+mod faults;
+mod indexes;
+mod laws;
+mod listings;
+mod reading;
+mod registries;
+mod validating;
+
+pub use builders::LocalRegistryBuilder;
+pub use combos::ComboIndexCache;
+pub use crate_files::crate_file_components;
+pub use digests::{StreamFault, ValidKrate, validate_checksum};
+pub use indexes::LocalIndex;
+pub use laws::{crate_file_names_give_back, inserted_crates_stay_valid, registries_begin_empty};
+pub use registries::LocalRegistry;

@@ -1,0 +1,5 @@
+pub mod ByFiles
+pub mod Cuts
+pub mod Locking
+pub mod Mapped
+pub mod Raised

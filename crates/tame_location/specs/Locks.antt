@@ -1,0 +1,262 @@
+-- The lock of a file, as cargo takes it on its package cache (this project, by what cargo does).
+use Rattle.std.specs.Prelude.{◌≡◌, ◌≢◌, ℕ, zero, suc, codes, List, [], ◌∷◌, take, Bool, true, false, Option, Some, None, IfSome, Result, Ok, Err}
+use Rattle.toml_tables.specs.Results.{and_then}
+use Rattle.tame_names.specs.Changes.{with_folders}
+use Rattle.tame_names.specs.Locks.{AddsStep, HasLockCause, MayMake, open_step, take_step}
+use Rattle.tame_names.specs.Paths.{join, parent, ways_to}
+use Rattle.tame_names.specs.Standing.{Host}
+use Rattle.tame_names.specs.declared.errors.Error.{Error}
+use Rattle.tame_names.specs.declared.errors.Error.TheVariants as fault
+use Rattle.tame_names.specs.declared.errors.LockError.{LockError}
+use Rattle.tame_names.specs.declared.errors.LockError.TheVariants as error
+use Rattle.tame_names.specs.declared.host.LockOpenFault.{LockOpenFault}
+use Rattle.tame_names.specs.declared.host.LockOpenFault.TheVariants as open_fault
+use Rattle.tame_names.specs.declared.host.LockStep.{LockStep}
+use Rattle.tame_names.specs.declared.host.LockTakeFault.{LockTakeFault}
+use Rattle.tame_names.specs.declared.host.LockTakeFault.TheVariants as take_fault
+use Rattle.tame_names.specs.declared.host.OpenedLock.{OpenedLock}
+use Rattle.tame_names.specs.declared.locks.FileLock.{FileLock}
+use Rattle.tame_names.specs.declared.locks.LockState.{LockState}
+use Rattle.tame_names.specs.declared.locks.LockState.TheVariants as state
+use Rattle.tame_location.specs.Folders.{root_of}
+use Rattle.tame_location.specs.declared.locks.Refusal.{Refusal}
+use Rattle.tame_location.specs.declared.locks.Refusal.TheVariants as refusal
+
+-- ---- steps
+
+-- a host at a moment: the steps on locks up to then, what it has, and how often a call failed
+pub record Moment : Type 0 where
+  pub steps : List LockStep
+  pub host : Host
+  pub faults : ℕ
+
+abbrev pub moment : List LockStep → Host → ℕ → Moment
+moment steps host faults = record { steps = steps; host = host; faults = faults }
+
+-- an opening of the file, and why it was refused, if it was: it is a step, a failed one was
+-- counted, and an exclusive one that wasn't refused, or failed, may have made an empty file
+pub record Opens (path : List ℕ) (exclusive : Bool) (why : Option LockOpenFault)
+    (before now : Moment) : Type 0 where
+  pub step : AddsStep (why ≡ Some open_fault.Failed) (open_step path exclusive why)
+      before.steps now.steps
+  pub cause : HasLockCause (why ≡ Some open_fault.Failed) before.faults now.faults
+  pub made : MayMake exclusive path before.host now.host
+  pub refused : IfSome why (λ f. f ≢ open_fault.Failed → now.host ≡ before.host)
+
+-- a taking of its lock, and why it was refused, if it was
+pub record Takes (path : List ℕ) (exclusive block : Bool) (why : Option LockTakeFault)
+    (before now : Moment) : Type 0 where
+  pub step : AddsStep (why ≡ Some take_fault.Failed) (take_step path exclusive block why)
+      before.steps now.steps
+  pub cause : HasLockCause (why ≡ Some take_fault.Failed) before.faults now.faults
+  pub same : now.host ≡ before.host
+
+-- ---- opening
+
+abbrev pub refused_open : LockOpenFault → LockError
+refused_open open_fault.Denied = error.Readonly
+refused_open open_fault.NotFound = error.Open
+refused_open open_fault.Failed = error.Open
+
+abbrev pub by_shared : Option LockOpenFault → Result LockState LockError
+by_shared None = Ok state.Shared
+by_shared (Some why) = Err (refused_open why)
+
+-- a shared opening
+abbrev pub IsShared : List ℕ → Moment → Moment → Result LockState LockError → Type 0
+IsShared path before now result =
+    (why : Option LockOpenFault) × Opens path false why before now × (result ≡ by_shared why)
+
+-- what follows an exclusive opening that was denied: a shared one, where that may take its place
+abbrev pub FallsBack : Bool → List ℕ → Moment → Moment → Result LockState LockError → Type 0
+FallsBack true path before now result = IsShared path before now result
+FallsBack false path before now result = (result ≡ Err error.Readonly) × (now ≡ before)
+
+-- what follows an exclusive opening once the folder is made
+abbrev pub Follows : Bool → List ℕ → Option LockOpenFault → Moment → Moment
+    → Result LockState LockError → Type 0
+Follows fallback path None before now result = (result ≡ Ok state.Exclusive) × (now ≡ before)
+Follows fallback path (Some open_fault.Denied) before now result =
+    FallsBack fallback path before now result
+Follows fallback path (Some open_fault.NotFound) before now result =
+    (result ≡ Err error.Open) × (now ≡ before)
+Follows fallback path (Some open_fault.Failed) before now result =
+    (result ≡ Err error.Open) × (now ≡ before)
+
+-- an exclusive opening once the folder is made
+abbrev pub IsAgain : Bool → List ℕ → Moment → Moment → Result LockState LockError → Type 0
+IsAgain fallback path before now result = (why : Option LockOpenFault)
+    × (middle : Moment) × Opens path true why before middle
+    × Follows fallback path why middle now result
+
+-- all folders on these ways are made, or some of them from the front
+abbrev pub AreMade : Bool → List (List ℕ) → Host → Host → Type 0
+AreMade true ways before now = now ≡ with_folders ways before
+AreMade false ways before now = (n : ℕ) × (now ≡ with_folders (take n ways) before)
+
+-- the making of a folder, which may fail: it is no step, and a failure was counted
+pub record MakesFolder (made : Bool) (folder : List ℕ) (before now : Moment) : Type 0 where
+  pub steps : now.steps ≡ before.steps
+  pub cause : HasLockCause (made ≡ false) before.faults now.faults
+  pub folders : AreMade made (ways_to folder) before.host now.host
+
+-- whether the folder that the file is in is made: it is in none; it is in the current one, which is
+-- there; or it is one that has to be made
+abbrev pub IsMade : Bool → Option (List ℕ) → Moment → Moment → Type 0
+IsMade made None before now = (made ≡ false) × (now ≡ before)
+IsMade made (Some []) before now = (made ≡ true) × (now ≡ before)
+IsMade made (Some (b ∷ bs)) before now = MakesFolder made (b ∷ bs) before now
+
+-- what follows an exclusive opening that found nothing: another one, where the folder is made
+abbrev pub Retries : Bool → Bool → List ℕ → Moment → Moment → Result LockState LockError → Type 0
+Retries true fallback path before now result = IsAgain fallback path before now result
+Retries false fallback path before now result = (result ≡ Err error.CreateDir) × (now ≡ before)
+
+abbrev pub IsBelow : Bool → List ℕ → Moment → Moment → Result LockState LockError → Type 0
+IsBelow fallback path before now result = (made : Bool) × (middle : Moment)
+    × IsMade made (parent path) before middle × Retries made fallback path middle now result
+
+-- what follows the first exclusive opening
+abbrev pub Goes : Bool → List ℕ → Option LockOpenFault → Moment → Moment
+    → Result LockState LockError → Type 0
+Goes fallback path None before now result = (result ≡ Ok state.Exclusive) × (now ≡ before)
+Goes fallback path (Some open_fault.NotFound) before now result =
+    IsBelow fallback path before now result
+Goes fallback path (Some open_fault.Denied) before now result =
+    FallsBack fallback path before now result
+Goes fallback path (Some open_fault.Failed) before now result =
+    (result ≡ Err error.Open) × (now ≡ before)
+
+-- an exclusive opening
+abbrev pub IsExclusive : Bool → List ℕ → Moment → Moment → Result LockState LockError → Type 0
+IsExclusive fallback path before now result = (why : Option LockOpenFault)
+    × (middle : Moment) × Opens path true why before middle
+    × Goes fallback path why middle now result
+
+-- an opening, exclusive or shared
+abbrev pub IsOpening : Bool → Bool → List ℕ → Moment → Moment → Result LockState LockError → Type 0
+IsOpening true fallback path before now result = IsExclusive fallback path before now result
+IsOpening false fallback path before now result = IsShared path before now result
+
+-- ---- taking
+
+abbrev pub is_exclusive : LockState → Bool
+is_exclusive state.Exclusive = true
+is_exclusive state.Shared = false
+is_exclusive state.Unlocked = false
+
+abbrev pub by_taking : Option LockTakeFault → Result Unit LockError
+by_taking None = Ok tt
+by_taking (Some take_fault.Contested) = Err error.Contested
+by_taking (Some take_fault.NotSupported) = Err error.NotSupported
+by_taking (Some take_fault.Failed) = Err error.Lock
+
+-- one taking, which waits for its turn or doesn't
+abbrev pub IsTaking : List ℕ → Bool → Bool → Moment → Moment → Result Unit LockError → Type 0
+IsTaking path exclusive block before now result = (why : Option LockTakeFault)
+    × Takes path exclusive block why before now × (result ≡ by_taking why)
+
+-- a taking was contested, and then this holds; or its answer is the result
+abbrev pub GoesOn : Type 0 → Option LockTakeFault → Moment → Moment → Result Unit LockError → Type 0
+GoesOn more (Some take_fault.Contested) before now result = more
+GoesOn more why before now result = (result ≡ by_taking why) × (now ≡ before)
+
+-- this many tries, until one isn't contested
+abbrev pub AreTries : ℕ → List ℕ → Bool → Moment → Moment → Result Unit LockError → Type 0
+AreTries zero path exclusive before now result = (result ≡ Err error.TimedOut) × (now ≡ before)
+AreTries (suc n) path exclusive before now result = (why : Option LockTakeFault)
+    × (middle : Moment) × Takes path exclusive false why before middle
+    × GoesOn (AreTries n path exclusive middle now result) why middle now result
+
+-- what follows a contested taking, by what the callback says: one that waits for its turn, or this
+-- many tries
+abbrev pub Waits : Option ℕ → List ℕ → Bool → Moment → Moment → Result Unit LockError → Type 0
+Waits None path exclusive before now result = IsTaking path exclusive true before now result
+Waits (Some n) path exclusive before now result = AreTries n path exclusive before now result
+
+-- one taking that doesn't wait, and after a contested one what the callback says
+abbrev pub IsWaiting : (Option ℕ → Type 0) → List ℕ → Bool → Moment → Moment
+    → Result Unit LockError → Type 0
+IsWaiting says path exclusive before now result = (why : Option LockTakeFault)
+    × (middle : Moment) × Takes path exclusive false why before middle
+    × GoesOn ((answer : Option ℕ) × says answer × Waits answer path exclusive middle now result)
+    why middle now result
+
+-- ---- the whole of it
+
+-- a state, where its lock was taken
+abbrev pub with_state : LockState → Result Unit LockError → Result LockState LockError
+with_state s (Ok done) = Ok s
+with_state s (Err e) = Err e
+
+-- an opened file's lock is taken in this way
+abbrev pub IsTaken : (Bool → Moment → Moment → Result Unit LockError → Type 0)
+    → Moment → Moment → Result LockState LockError → Result LockState LockError → Type 0
+IsTaken taking before now (Err e) held = (held ≡ Err e) × (now ≡ before)
+IsTaken taking before now (Ok s) held = (taken : Result Unit LockError)
+    × taking (is_exclusive s) before now taken × (held ≡ with_state s taken)
+
+-- a file is opened in this way, and its lock taken in that
+abbrev pub IsHeld : (Moment → Moment → Result LockState LockError → Type 0)
+    → (Bool → Moment → Moment → Result Unit LockError → Type 0)
+    → Moment → Moment → Result LockState LockError → Type 0
+IsHeld opening taking before now held = (middle : Moment) × (opened : Result LockState LockError)
+    × opening before middle opened × IsTaken taking middle now opened held
+
+-- the lock is taken, if it can be at once
+abbrev pub IsLockedAtOnce : Bool → Bool → List ℕ → Moment → Moment → Result LockState LockError
+    → Type 0
+IsLockedAtOnce exclusive fallback path before now held =
+    IsHeld (IsOpening exclusive fallback path) (λ alone. IsTaking path alone false) before now held
+
+-- the lock is taken; the callback says how long to wait
+abbrev pub IsLockedWaiting : (Option ℕ → Type 0) → Bool → Bool → List ℕ → Moment → Moment
+    → Result LockState LockError → Type 0
+IsLockedWaiting says exclusive fallback path before now held =
+    IsHeld (IsOpening exclusive fallback path) (λ alone. IsWaiting says path alone) before now held
+
+-- ---- what is told
+
+-- what holds of a state or of why there is none; nothing of want of memory
+abbrev pub Tells : (Result LockState LockError → Type 0) → Result (OpenedLock × LockState) Refusal
+    → Type 0
+Tells holds (Ok opened) = holds (Ok opened.1)
+Tells holds (Err (refusal.Lock e)) = holds (Err e)
+Tells holds (Err refusal.NoMemory) = Unit {0}
+
+-- what holds of a held lock's state or of why there is none; nothing of want of memory
+abbrev pub TellsHeld : (Result LockState LockError → Type 0) → Result FileLock Refusal → Type 0
+TellsHeld holds (Ok held) = holds (Ok held.state)
+TellsHeld holds (Err (refusal.Lock e)) = holds (Err e)
+TellsHeld holds (Err refusal.NoMemory) = Unit {0}
+
+-- the same of an answer: an error is one of the lock with its path, or want of memory
+abbrev pub TellsLock : List ℕ → (Result LockState LockError → Type 0) → Result FileLock Error
+    → Type 0
+TellsLock path holds (Ok held) = holds (Ok held.state)
+TellsLock path holds (Err (fault.Lock e)) = (e.path ≡ path) × holds (Err e.source)
+TellsLock path holds (Err fault.NoMemory) = Unit {0}
+TellsLock path holds (Err _) = ⊥
+
+-- the folders on the way to the one that a file is in
+abbrev pub folder_ways : Option (List ℕ) → List (List ℕ)
+folder_ways None = []
+folder_ways (Some folder) = ways_to folder
+
+-- what a host has stays, but that an exclusive opening may make folders on the way to the file,
+-- from the first on, and then an empty file where nothing is
+abbrev pub Leaves : Bool → List ℕ → Host → Host → Type 0
+Leaves false path before now = now ≡ before
+Leaves true path before now = (n : ℕ)
+    × MayMake true path (with_folders (take n (folder_ways (parent path))) before) now
+
+-- the lock of cargo's package cache, in the root that is given or in cargo's home
+abbrev pub package_lock : Option (List ℕ) → Host → Result (List ℕ) Error
+package_lock root host =
+    and_then (λ folder. Ok (join folder (codes ".package-cache"))) (root_of root host)
+
+-- the answer of a call: with the path of the file where its lock isn't held
+abbrev pub answer_of : List ℕ → Result FileLock Refusal → Result FileLock Error
+answer_of path (Ok held) = Ok held
+answer_of path (Err (refusal.Lock why)) = Err (fault.Lock (record { path = path; source = why }))
+answer_of path (Err refusal.NoMemory) = Err fault.NoMemory

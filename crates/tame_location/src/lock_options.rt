@@ -1,0 +1,244 @@
+//! How the lock of a file is to be taken.
+ghost use Rattle.std.specs.Prelude.{◌≡◌, ◌≤◌, ℕ, Option, Ok, Err, IfOk, IfErr, IsSome, true, false, option_map};
+ghost use Rattle.std.specs.Cow.{cow_str_bytes};
+ghost use Rattle.std.specs.Fn.{FnReturnsAt};
+ghost use Rattle.tame_location.specs.Folders.{IsRootError, Told};
+ghost use Rattle.tame_location.specs.Homes.{AddsHomeCall, HasHomeCause, IsHomeCall, IsTold};
+ghost use Rattle.tame_location.specs.Locks.{IsLockedAtOnce, IsLockedWaiting, IsOpening, IsWaiting, Leaves, Tells, TellsHeld, TellsLock, moment, package_lock};
+ghost use Rattle.tame_location.specs.Locks as spec;
+
+use crate::folders::root_of;
+use crate::locks::{Refusal, open_exclusive, open_shared, take, take_tries, taking};
+use crate::places::borrowed;
+use std::alloc::Global;
+use std::borrow::CowStr;
+use tame_names::{
+    Error, FileLock, FileLockError, Files, LockError, LockState, LockTakeFault, OpenedLock, Text,
+    join,
+};
+
+/// The file whose lock is to be taken, and how.
+#[derive(Drop)]
+pub struct LockOptions<'p> {
+    path: CowStr<'p>,
+    exclusive: bool,
+    fallback: bool,
+}
+
+fn is_exclusive(state: LockState) -> bool
+    ensures { result ≡ spec.is_exclusive state }
+{
+    match state {
+        LockState::Exclusive => true,
+        LockState::Shared | LockState::Unlocked => false,
+    }
+}
+
+/// A taking that doesn't wait, and after a contested one what the callback says: one that waits for
+/// its turn, or a number of tries.
+fn take_waiting<F: Files, G: Fn(&str) -> Option<u32>>(
+    files: &mut F,
+    path: &str,
+    opened: &OpenedLock,
+    exclusive: bool,
+    wait: G,
+) -> Result<(), LockError>
+    requires { G.IsAlwaysCallable wait }
+    ensures steps { F.tells → IsWaiting (FnReturnsAt G.Fn wait path.now) path.now exclusive
+        (moment (F.steps files.old) (F.host files.old) (F.faults files.old))
+        (moment (F.steps files.new) (F.host files.new) (F.faults files.new)) result }
+    ensures same { F.tells → F.host files.new ≡ F.host files.old }
+    ensures later { F.faults files.old ≤ F.faults files.new }
+{
+    match taking(files, path, opened, exclusive, false) {
+        Ok(()) => Ok(()),
+        Err(LockTakeFault::Contested) => match wait(path) {
+            None => take(files, path, opened, exclusive, true),
+            Some(times) => take_tries(files, path, opened, exclusive, times),
+        },
+        Err(LockTakeFault::NotSupported) => Err(LockError::NotSupported),
+        Err(LockTakeFault::Failed) => Err(LockError::Lock),
+    }
+}
+
+/// The answer of a call: with the path of the file where its lock isn't held.
+fn told(path: Text, held: Result<FileLock, Refusal>) -> Result<FileLock, Error>
+    ensures { result ≡ spec.answer_of path held }
+{
+    match held {
+        Ok(lock) => Ok(lock),
+        Err(Refusal::Lock(source)) => Err(Error::Lock(FileLockError { path, source })),
+        Err(Refusal::NoMemory) => Err(Error::NoMemory),
+    }
+}
+
+impl<'p> LockOptions<'p> {
+    /// A shared lock of the file at a path.
+    pub fn new(path: &'p str) -> LockOptions<'p>
+        ensures path { cow_str_bytes result.path ≡ path.now }
+        ensures exclusive { result.exclusive ≡ false }
+        ensures fallback { result.fallback ≡ false }
+    {
+        LockOptions {
+            path: CowStr::Borrowed(path),
+            exclusive: false,
+            fallback: false,
+        }
+    }
+
+    /// The lock that cargo takes on its package cache, exclusively: `.package-cache` in the given
+    /// folder or in cargo's home. Errors are those of `cargo_home` where no folder is given.
+    pub fn cargo_package_lock<F: Files>(
+        alloc: Global,
+        files: &mut F,
+        root: Option<Text>,
+    ) -> Result<LockOptions<'static>, Error>
+        ensures ok { Told root F.tells → IfOk result (λ options.
+            package_lock root (F.host files.old) ≡ Ok (cow_str_bytes options.path)) }
+        ensures exclusive { IfOk result (λ options. options.exclusive ≡ true) }
+        ensures fallback { IfOk result (λ options. options.fallback ≡ false) }
+        ensures refused { Told root F.tells → IfErr result (λ e. IsTold e
+            → package_lock root (F.host files.old) ≡ Err e) }
+        ensures only { IfErr result (IsRootError root) }
+        ensures cause { HasHomeCause (F.faults files.old) (F.faults files.new) result }
+        ensures failed { F.tells → AddsHomeCall (IsHomeCall (F.host files.old))
+            (F.failed files.old) (F.failed files.new) result }
+        ensures same { F.tells → F.host files.new ≡ F.host files.old }
+        ensures given { IsSome root → files.new ≡ files.old }
+    {
+        let folder = root_of(alloc, files, borrowed(&root))?;
+        let path = join(alloc, folder.as_str(), ".package-cache")?;
+        Ok(LockOptions {
+            path: CowStr::Owned(path.into_string()),
+            exclusive: true,
+            fallback: false,
+        })
+    }
+
+    /// The same, shared.
+    pub fn shared(self) -> LockOptions<'p>
+        ensures { result ≡ record self.entry { exclusive = false } }
+    {
+        let mut options = self;
+        options.exclusive = false;
+        options
+    }
+
+    /// The same, exclusive; shared where that is denied, if it may be (`shared_fallback`).
+    pub fn exclusive(self, shared_fallback: bool) -> LockOptions<'p>
+        ensures { result ≡ record self.entry { exclusive = true; fallback = shared_fallback } }
+    {
+        let mut options = self;
+        options.exclusive = true;
+        options.fallback = shared_fallback;
+        options
+    }
+
+    fn open<F: Files>(&self, files: &mut F) -> Result<(OpenedLock, LockState), Refusal>
+        ensures steps { F.tells → Tells (IsOpening self.now.exclusive self.now.fallback
+            (cow_str_bytes self.now.path)
+            (moment (F.steps files.old) (F.host files.old) (F.faults files.old))
+            (moment (F.steps files.new) (F.host files.new) (F.faults files.new))) result }
+        ensures left { F.tells → Leaves self.now.exclusive (cow_str_bytes self.now.path)
+            (F.host files.old) (F.host files.new) }
+        ensures later { F.faults files.old ≤ F.faults files.new }
+    {
+        if self.exclusive {
+            open_exclusive(files, self.path.as_str(), self.fallback)
+        } else {
+            open_shared(files, self.path.as_str())
+        }
+    }
+
+    /// The lock, if it can be taken at once.
+    fn held_at_once<F: Files>(&self, files: &mut F) -> Result<FileLock, Refusal>
+        ensures steps { F.tells → TellsHeld (IsLockedAtOnce self.now.exclusive self.now.fallback
+            (cow_str_bytes self.now.path)
+            (moment (F.steps files.old) (F.host files.old) (F.faults files.old))
+            (moment (F.steps files.new) (F.host files.new) (F.faults files.new))) result }
+        ensures left { F.tells → Leaves self.now.exclusive (cow_str_bytes self.now.path)
+            (F.host files.old) (F.host files.new) }
+        ensures later { F.faults files.old ≤ F.faults files.new }
+    {
+        match self.open(files) {
+            Ok((opened, state)) => {
+                let exclusive = is_exclusive(state);
+                match take(files, self.path.as_str(), &opened, exclusive, false) {
+                    Ok(()) => Ok(FileLock::holding(opened, state)),
+                    Err(error) => Err(Refusal::Lock(error)),
+                }
+            }
+            Err(refusal) => Err(refusal),
+        }
+    }
+
+    /// The lock, for which the callback says how long to wait.
+    fn held_waiting<F: Files, G: Fn(&str) -> Option<u32>>(
+        &self,
+        files: &mut F,
+        wait: G,
+    ) -> Result<FileLock, Refusal>
+        requires { G.IsAlwaysCallable wait }
+        ensures steps { F.tells → TellsHeld (IsLockedWaiting
+            (FnReturnsAt G.Fn wait (cow_str_bytes self.now.path)) self.now.exclusive
+            self.now.fallback (cow_str_bytes self.now.path)
+            (moment (F.steps files.old) (F.host files.old) (F.faults files.old))
+            (moment (F.steps files.new) (F.host files.new) (F.faults files.new))) result }
+        ensures left { F.tells → Leaves self.now.exclusive (cow_str_bytes self.now.path)
+            (F.host files.old) (F.host files.new) }
+        ensures later { F.faults files.old ≤ F.faults files.new }
+    {
+        match self.open(files) {
+            Ok((opened, state)) => {
+                let exclusive = is_exclusive(state);
+                match take_waiting(files, self.path.as_str(), &opened, exclusive, wait) {
+                    Ok(()) => Ok(FileLock::holding(opened, state)),
+                    Err(error) => Err(Refusal::Lock(error)),
+                }
+            }
+            Err(refusal) => Err(refusal),
+        }
+    }
+
+    /// Takes the lock, if it can be taken at once. The file is opened to be read, or exclusively to
+    /// be written; then it is made where it isn't there, and so are the folders above it.
+    ///
+    /// `Lock` with the path and: `Contested` where another one holds it; `NotSupported` where the
+    /// file system has no locks; `Readonly` where the opening was denied, `CreateDir` where a
+    /// missing folder can't be made, `Open` at another refused opening, `Lock` at a failed taking.
+    pub fn try_lock<F: Files>(&self, alloc: Global, files: &mut F) -> Result<FileLock, Error>
+        ensures steps { F.tells → TellsLock (cow_str_bytes self.now.path)
+            (IsLockedAtOnce self.now.exclusive self.now.fallback (cow_str_bytes self.now.path)
+            (moment (F.steps files.old) (F.host files.old) (F.faults files.old))
+            (moment (F.steps files.new) (F.host files.new) (F.faults files.new))) result }
+        ensures left { F.tells → Leaves self.now.exclusive (cow_str_bytes self.now.path)
+            (F.host files.old) (F.host files.new) }
+        ensures later { F.faults files.old ≤ F.faults files.new }
+    {
+        let path = Text::of(alloc, self.path.as_str())?;
+        told(path, self.held_at_once(files))
+    }
+
+    /// Takes the lock; where another one holds it, `wait` is asked with the path. At nothing this
+    /// waits for its turn; at a number it tries that often once more, and then is `TimedOut`. Other
+    /// errors are those of `try_lock`, but `Contested` never comes.
+    pub fn lock<F: Files, G: Fn(&str) -> Option<u32>>(
+        &self,
+        alloc: Global,
+        files: &mut F,
+        wait: G,
+    ) -> Result<FileLock, Error>
+        requires { G.IsAlwaysCallable wait }
+        ensures steps { F.tells → TellsLock (cow_str_bytes self.now.path) (IsLockedWaiting
+            (FnReturnsAt G.Fn wait (cow_str_bytes self.now.path)) self.now.exclusive
+            self.now.fallback (cow_str_bytes self.now.path)
+            (moment (F.steps files.old) (F.host files.old) (F.faults files.old))
+            (moment (F.steps files.new) (F.host files.new) (F.faults files.new))) result }
+        ensures left { F.tells → Leaves self.now.exclusive (cow_str_bytes self.now.path)
+            (F.host files.old) (F.host files.new) }
+        ensures later { F.faults files.old ≤ F.faults files.new }
+    {
+        let path = Text::of(alloc, self.path.as_str())?;
+        told(path, self.held_waiting(files, wait))
+    }
+}

@@ -1,0 +1,237 @@
+//! Locks of files, as cargo takes one on its package cache.
+ghost use Rattle.std.specs.Prelude.{◌≡◌, ◌≤◌, ℕ, Err, Some, true, false, take as first, IfOk};
+ghost use Rattle.tame_names.specs.Changes.{with_folders};
+ghost use Rattle.tame_names.specs.Locks.{MayMake, fault_of};
+ghost use Rattle.tame_names.specs.Paths.{parent as parent_of};
+ghost use Rattle.tame_location.specs.Locks.{AreTries, Follows, IsAgain, IsBelow, IsExclusive, IsMade, IsShared, IsTaking, Leaves, Opens, Takes, Tells, folder_ways, moment};
+ghost use Rattle.tame_location.specs.Locks as spec;
+
+use tame_names::{
+    FileFault, Files, LockError, LockOpenFault, LockState, LockTakeFault, NoMemory, OpenedLock,
+    parent,
+};
+
+/// Why a lock isn't held.
+#[derive(Clone, Copy)]
+pub enum Refusal {
+    Lock(LockError),
+    NoMemory,
+}
+
+/// The error of a refused opening.
+fn refused_open(fault: LockOpenFault) -> LockError
+    ensures { result ≡ spec.refused_open fault }
+{
+    match fault {
+        LockOpenFault::Denied => LockError::Readonly,
+        LockOpenFault::NotFound | LockOpenFault::Failed => LockError::Open,
+    }
+}
+
+/// An opening of the file.
+fn opening<F: Files>(
+    files: &mut F,
+    path: &str,
+    exclusive: bool,
+) -> Result<OpenedLock, LockOpenFault>
+    ensures opens { F.tells → Opens path.now exclusive (fault_of result)
+        (moment (F.steps files.old) (F.host files.old) (F.faults files.old))
+        (moment (F.steps files.new) (F.host files.new) (F.faults files.new)) }
+    ensures later { F.faults files.old ≤ F.faults files.new }
+{
+    files.open_lock(path, exclusive)
+}
+
+/// A shared opening.
+pub fn open_shared<F: Files>(files: &mut F, path: &str) -> Result<(OpenedLock, LockState), Refusal>
+    ensures steps { F.tells → Tells (IsShared path.now
+        (moment (F.steps files.old) (F.host files.old) (F.faults files.old))
+        (moment (F.steps files.new) (F.host files.new) (F.faults files.new))) result }
+    ensures same { F.tells → F.host files.new ≡ F.host files.old }
+    ensures later { F.faults files.old ≤ F.faults files.new }
+{
+    match opening(files, path, false) {
+        Ok(opened) => Ok((opened, LockState::Shared)),
+        Err(fault) => Err(Refusal::Lock(refused_open(fault))),
+    }
+}
+
+/// What follows an exclusive opening that was refused, but for its folder: a shared one where it
+/// was denied, and where that may take its place.
+fn fall_back<F: Files>(
+    files: &mut F,
+    path: &str,
+    fallback: bool,
+    fault: LockOpenFault,
+) -> Result<(OpenedLock, LockState), Refusal>
+    ensures steps { F.tells → Tells (Follows fallback path.now (Some fault)
+        (moment (F.steps files.old) (F.host files.old) (F.faults files.old))
+        (moment (F.steps files.new) (F.host files.new) (F.faults files.new))) result }
+    ensures same { F.tells → F.host files.new ≡ F.host files.old }
+    ensures later { F.faults files.old ≤ F.faults files.new }
+{
+    match fault {
+        LockOpenFault::Denied => {
+            if fallback {
+                open_shared(files, path)
+            } else {
+                Err(Refusal::Lock(LockError::Readonly))
+            }
+        }
+        LockOpenFault::NotFound | LockOpenFault::Failed => Err(Refusal::Lock(LockError::Open)),
+    }
+}
+
+/// An exclusive opening once the folder is made.
+fn open_again<F: Files>(
+    files: &mut F,
+    path: &str,
+    fallback: bool,
+) -> Result<(OpenedLock, LockState), Refusal>
+    ensures steps { F.tells → Tells (IsAgain fallback path.now
+        (moment (F.steps files.old) (F.host files.old) (F.faults files.old))
+        (moment (F.steps files.new) (F.host files.new) (F.faults files.new))) result }
+    ensures left { F.tells → MayMake true path.now (F.host files.old) (F.host files.new) }
+    ensures later { F.faults files.old ≤ F.faults files.new }
+{
+    match opening(files, path, true) {
+        Ok(opened) => Ok((opened, LockState::Exclusive)),
+        Err(fault) => fall_back(files, path, fallback, fault),
+    }
+}
+
+/// Makes the folder above a path; whether it was made, or needn't be.
+fn make_folder<F: Files>(files: &mut F, path: &str) -> Result<bool, NoMemory>
+    ensures made { F.tells → IfOk result (λ made. IsMade made (parent_of path.now)
+        (moment (F.steps files.old) (F.host files.old) (F.faults files.old))
+        (moment (F.steps files.new) (F.host files.new) (F.faults files.new))) }
+    ensures left { F.tells → (n : ℕ) × (F.host files.new
+        ≡ with_folders (first n (folder_ways (parent_of path.now))) (F.host files.old)) }
+    ensures later { F.faults files.old ≤ F.faults files.new }
+{
+    let Some(folder) = parent(path) else {
+        return Ok(false);
+    };
+    if folder.is_empty() {
+        return Ok(true);
+    }
+    match files.make_dirs(folder) {
+        Ok(()) => Ok(true),
+        Err(FileFault::Failed) => Ok(false),
+        Err(FileFault::NoMemory) => Err(NoMemory),
+    }
+}
+
+/// What follows an exclusive opening that found nothing.
+fn open_below<F: Files>(
+    files: &mut F,
+    path: &str,
+    fallback: bool,
+) -> Result<(OpenedLock, LockState), Refusal>
+    ensures steps { F.tells → Tells (IsBelow fallback path.now
+        (moment (F.steps files.old) (F.host files.old) (F.faults files.old))
+        (moment (F.steps files.new) (F.host files.new) (F.faults files.new))) result }
+    ensures left { F.tells → Leaves true path.now (F.host files.old) (F.host files.new) }
+    ensures later { F.faults files.old ≤ F.faults files.new }
+{
+    match make_folder(files, path) {
+        Ok(true) => open_again(files, path, fallback),
+        Ok(false) => Err(Refusal::Lock(LockError::CreateDir)),
+        Err(NoMemory) => Err(Refusal::NoMemory),
+    }
+}
+
+/// An exclusive opening.
+pub fn open_exclusive<F: Files>(
+    files: &mut F,
+    path: &str,
+    fallback: bool,
+) -> Result<(OpenedLock, LockState), Refusal>
+    ensures steps { F.tells → Tells (IsExclusive fallback path.now
+        (moment (F.steps files.old) (F.host files.old) (F.faults files.old))
+        (moment (F.steps files.new) (F.host files.new) (F.faults files.new))) result }
+    ensures left { F.tells → Leaves true path.now (F.host files.old) (F.host files.new) }
+    ensures later { F.faults files.old ≤ F.faults files.new }
+{
+    match opening(files, path, true) {
+        Ok(opened) => Ok((opened, LockState::Exclusive)),
+        Err(LockOpenFault::NotFound) => open_below(files, path, fallback),
+        Err(LockOpenFault::Denied) => fall_back(files, path, fallback, LockOpenFault::Denied),
+        Err(LockOpenFault::Failed) => Err(Refusal::Lock(LockError::Open)),
+    }
+}
+
+// ---- taking
+
+/// A taking of the lock.
+pub fn taking<F: Files>(
+    files: &mut F,
+    path: &str,
+    opened: &OpenedLock,
+    exclusive: bool,
+    block: bool,
+) -> Result<(), LockTakeFault>
+    ensures takes { F.tells → Takes path.now exclusive block (fault_of result)
+        (moment (F.steps files.old) (F.host files.old) (F.faults files.old))
+        (moment (F.steps files.new) (F.host files.new) (F.faults files.new)) }
+    ensures later { F.faults files.old ≤ F.faults files.new }
+    ensures contested { result ≡ Err LockTakeFault.Contested → block ≡ false }
+    ensures same { F.tells → F.host files.new ≡ F.host files.old }
+{
+    files.take_lock(path, opened, exclusive, block)
+}
+
+/// The answer of a taking.
+fn taken(answer: Result<(), LockTakeFault>) -> Result<(), LockError>
+    ensures { result ≡ spec.by_taking (fault_of answer) }
+{
+    match answer {
+        Ok(()) => Ok(()),
+        Err(LockTakeFault::Contested) => Err(LockError::Contested),
+        Err(LockTakeFault::NotSupported) => Err(LockError::NotSupported),
+        Err(LockTakeFault::Failed) => Err(LockError::Lock),
+    }
+}
+
+/// One taking, which waits for its turn or doesn't.
+pub fn take<F: Files>(
+    files: &mut F,
+    path: &str,
+    opened: &OpenedLock,
+    exclusive: bool,
+    block: bool,
+) -> Result<(), LockError>
+    ensures steps { F.tells → IsTaking path.now exclusive block
+        (moment (F.steps files.old) (F.host files.old) (F.faults files.old))
+        (moment (F.steps files.new) (F.host files.new) (F.faults files.new)) result }
+    ensures later { F.faults files.old ≤ F.faults files.new }
+    ensures contested { result ≡ Err LockError.Contested → block ≡ false }
+    ensures same { F.tells → F.host files.new ≡ F.host files.old }
+{
+    taken(taking(files, path, opened, exclusive, block))
+}
+
+/// This many tries, until one isn't contested.
+pub fn take_tries<F: Files>(
+    files: &mut F,
+    path: &str,
+    opened: &OpenedLock,
+    exclusive: bool,
+    times: u32,
+) -> Result<(), LockError>
+    ensures steps { F.tells → AreTries times path.now exclusive
+        (moment (F.steps files.old) (F.host files.old) (F.faults files.old))
+        (moment (F.steps files.new) (F.host files.new) (F.faults files.new)) result }
+    ensures later { F.faults files.old ≤ F.faults files.new }
+    ensures same { F.tells → F.host files.new ≡ F.host files.old }
+{
+    for _number in 0..times {
+        match taking(files, path, opened, exclusive, false) {
+            Ok(()) => return Ok(()),
+            Err(LockTakeFault::Contested) => {}
+            Err(LockTakeFault::NotSupported) => return Err(LockError::NotSupported),
+            Err(LockTakeFault::Failed) => return Err(LockError::Lock),
+        }
+    }
+    Err(LockError::TimedOut)
+}
