@@ -29,7 +29,7 @@ pub struct Advisory {
 }
 
 /// A head, which is TOML without floats.
-fn read_version_flag(alloc: Global, head: &str) -> Result<Table, AdvisoryFault>
+fn read_head(alloc: Global, head: &str) -> Result<Table, AdvisoryFault>
     ensures ok { IfOk result (λ table. head_of head.now ≡ Ok (table_view table)) }
     ensures refused { IfErr result (λ e. e ≢ AdvisoryFault.NoMemory → head_of head.now ≡ Err e) }
 {
@@ -106,7 +106,7 @@ fn read_parted(alloc: Global, head: &str, behind: &str) -> Result<Advisory, Advi
     ensures refused { IfErr result (λ e. e ≢ AdvisoryFault.NoMemory
         → advisory_in (head.now, behind.now) ≡ Err e) }
 {
-    let table = read_version_flag(alloc, head)?;
+    let table = read_head(alloc, head)?;
     let Some((title, description)) = titled(behind) else {
         return Err(AdvisoryFault::Rule(AdvisoryRule::Title));
     };

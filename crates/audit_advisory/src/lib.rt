@@ -54,5 +54,5 @@ pub use metadata::{Informational, Metadata};
 pub use outputs::{DenyOption, OutputConfig, OutputFormat, VERSION, WarningKind};
 pub use reports::{Report, Vulnerability, Warning};
 pub use requirements::Requirement;
-pub use settings::{Settings, Severity};
+pub use settings::{Settings, Severity, kinds_copied, texts_copied};
 pub use versions::Versions;

@@ -74,7 +74,8 @@ pub fn is_severe(tenths: Option<u8>, threshold: Option<Severity>) -> bool
     }
 }
 
-fn texts_copied(alloc: Global, texts: &[Text]) -> Result<Items<Text>, NoMemory>
+/// Copies of texts.
+pub fn texts_copied(alloc: Global, texts: &[Text]) -> Result<Items<Text>, NoMemory>
     ensures { IfOk result (λ copies. copies ≡ texts.now) }
 {
     let mut copies = Items::new(alloc);
@@ -84,7 +85,11 @@ fn texts_copied(alloc: Global, texts: &[Text]) -> Result<Items<Text>, NoMemory>
     Ok(copies)
 }
 
-fn kinds_copied(alloc: Global, kinds: &[Informational]) -> Result<Items<Informational>, NoMemory>
+/// Copies of kinds.
+pub fn kinds_copied(
+    alloc: Global,
+    kinds: &[Informational],
+) -> Result<Items<Informational>, NoMemory>
     ensures { IfOk result (λ copies. copies ≡ kinds.now) }
 {
     let mut copies = Items::new(alloc);

@@ -12,7 +12,7 @@ use Rattle.audit_advisory.specs.Advisories.{advisory_of}
 use Rattle.audit_advisory.specs.declared.advisories.Advisory.{Advisory}
 use Rattle.audit_advisory.specs.declared.faults.AdvisoryFault.{AdvisoryFault}
 use Rattle.audit_asked.specs.Refusals.{Refused, advisory}
-use Rattle.audit_asked.specs.Texts.{go_on, text_at}
+use Rattle.audit_asked.specs.Texts.{go_on, file_text}
 use Rattle.audit_asked.specs.declared.listings.Wanted.{Wanted}
 use Rattle.audit_asked.specs.declared.listings.Wanted.TheVariants as wanted
 
@@ -83,7 +83,7 @@ numbered n (Err reason) = Err (advisory n reason)
 -- the advisory at a path, the n-th
 abbrev pub advisory_at : Host → ℕ → List ℕ → Result Advisory Refused
 advisory_at host n path =
-    go_on (text_at path (host.stands path)) (λ text. numbered n (advisory_of text))
+    go_on (file_text path (host.stands path)) (λ text. numbered n (advisory_of text))
 
 -- the advisories at these paths, the first of them the n-th, each read whole before the next
 abbrev pub advisories_from : Host → ℕ → List (List ℕ) → Result (List Advisory) Refused

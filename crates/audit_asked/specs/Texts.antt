@@ -6,8 +6,8 @@ use Rattle.tame_names.specs.Utf8.{utf8_text}
 use Rattle.audit_asked.specs.Refusals.{Refused, limit, missing, no_file, not_utf8, too_large}
 
 -- the text of these bytes, which are no more than the limit, and UTF-8
-abbrev pub text_of : List ℕ → List ℕ → Result (List ℕ) Refused
-text_of path bytes =
+abbrev pub limited_text : List ℕ → List ℕ → Result (List ℕ) Refused
+limited_text path bytes =
     if nat_lt limit (length bytes) then Err (too_large path (length bytes))
     else or_fault (not_utf8 path) (utf8_text bytes)
 
@@ -18,16 +18,16 @@ go_on part next = and_then next part
 -- the text of a file, if there is one
 abbrev pub text_there : List ℕ → Standing → Result (Option (List ℕ)) Refused
 text_there path Nothing = Ok None
-text_there path (File bytes) = go_on (text_of path bytes) (λ text. Ok (Some text))
+text_there path (File bytes) = go_on (limited_text path bytes) (λ text. Ok (Some text))
 text_there path (Folder entries) = Err (no_file path)
 text_there path Other = Err (no_file path)
 
 -- the text of a file that has to be there
-abbrev pub text_at : List ℕ → Standing → Result (List ℕ) Refused
-text_at path standing = go_on (text_there path standing) (or_fault (missing path))
+abbrev pub file_text : List ℕ → Standing → Result (List ℕ) Refused
+file_text path standing = go_on (text_there path standing) (or_fault (missing path))
 
 -- the text at a path, where `-` is standard input
 abbrev pub input_or_text : Host → List ℕ → Result (List ℕ) Refused
 input_or_text host path =
-    if bytes_eq path (codes "-") then text_of path host.input
-    else text_at path (host.stands path)
+    if bytes_eq path (codes "-") then limited_text path host.input
+    else file_text path (host.stands path)

@@ -10,7 +10,7 @@ ghost use Rattle.audit_asked.specs.Refusals.{IsReadFault, IsCallFault, is_told, 
 
 use crate::faults::RunFault;
 use crate::listings::{Wanted, names_at};
-use crate::texts::text_at;
+use crate::texts::file_text;
 use audit_advisory::{Advisory, AdvisoryFault};
 use std::alloc::Global;
 use std::collections::BTreeSet;
@@ -109,7 +109,7 @@ fn advisory_at<F: Files>(
         (F.failed files.old) (F.failed files.new) result }
     ensures same { F.tells → F.host files.new ≡ F.host files.old }
 {
-    let text = text_at(alloc, files, path)?;
+    let text = file_text(alloc, files, path)?;
     match Advisory::read(alloc, text.as_str()) {
         Ok(advisory) => Ok(advisory),
         Err(AdvisoryFault::NoMemory) => Err(RunFault::NoMemory),

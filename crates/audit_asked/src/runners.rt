@@ -4,6 +4,7 @@ ghost use Rattle.std.specs.List.{slice_get};
 ghost use Rattle.tame_names.specs.Counts.{HasCause, next_call};
 ghost use Rattle.audit_asked.specs.Starts.{with_start};
 
+use audit_advisory::texts_copied;
 use std::alloc::Global;
 use tame_names::{Items, NoMemory, Text};
 
@@ -97,17 +98,6 @@ impl MemRunner {
             None => None,
         }
     }
-}
-
-/// Copies of these texts.
-fn texts_copied(alloc: Global, texts: &[Text]) -> Result<Items<Text>, NoMemory>
-    ensures { IfOk result (λ copies. copies ≡ texts.now) }
-{
-    let mut copies = Items::new(alloc);
-    for text in texts {
-        copies.add(text.try_clone(alloc)?)?;
-    }
-    Ok(copies)
 }
 
 impl Runner for MemRunner {

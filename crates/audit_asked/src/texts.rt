@@ -5,7 +5,7 @@ ghost use Rattle.tame_names.specs.Utf8.{utf8_text};
 ghost use Rattle.tame_names.specs.declared.host.FileCall.TheVariants as FileCall;
 ghost use Rattle.audit_asked.specs.Calls.{AddsFailed, HasFileCause, IsCallOn, IsInputCall, IsLockfileCall};
 ghost use Rattle.audit_asked.specs.Refusals.{IsReadFault, is_told, refused};
-ghost use Rattle.audit_asked.specs.Texts.{text_of};
+ghost use Rattle.audit_asked.specs.Texts.{limited_text};
 ghost use Rattle.audit_asked.specs.Texts as spec;
 
 use crate::faults::RunFault;
@@ -54,11 +54,15 @@ pub(crate) fn text_there<F: Files>(
 }
 
 /// The text of the file at a path.
-pub(crate) fn text_at<F: Files>(alloc: Global, files: &mut F, path: &str) -> Result<Text, RunFault>
+pub(crate) fn file_text<F: Files>(
+    alloc: Global,
+    files: &mut F,
+    path: &str,
+) -> Result<Text, RunFault>
     ensures ok { F.tells → IfOk result (λ text.
-        spec.text_at path.now ((F.host files.old).stands path.now) ≡ Ok text) }
+        spec.file_text path.now ((F.host files.old).stands path.now) ≡ Ok text) }
     ensures refused { F.tells → IfErr result (λ e. IsTrue (is_told e)
-        → spec.text_at path.now ((F.host files.old).stands path.now) ≡ Err (refused e)) }
+        → spec.file_text path.now ((F.host files.old).stands path.now) ≡ Err (refused e)) }
     ensures only { IfErr result IsReadFault }
     ensures cause { HasFileCause (F.faults files.old) (F.faults files.new) result }
     ensures failed { F.tells → AddsFailed (IsCallOn FileCall.Read path.now)
@@ -75,9 +79,9 @@ pub(crate) fn text_at<F: Files>(alloc: Global, files: &mut F, path: &str) -> Res
 /// The text of standard input, whose path is told as `-`.
 fn input_text<F: Files>(alloc: Global, files: &mut F, path: &str) -> Result<Text, RunFault>
     ensures ok { F.tells → IfOk result (λ text.
-        text_of path.now (F.host files.old).input ≡ Ok text) }
+        limited_text path.now (F.host files.old).input ≡ Ok text) }
     ensures refused { F.tells → IfErr result (λ e. IsTrue (is_told e)
-        → text_of path.now (F.host files.old).input ≡ Err (refused e)) }
+        → limited_text path.now (F.host files.old).input ≡ Err (refused e)) }
     ensures only { IfErr result IsReadFault }
     ensures cause { HasFileCause (F.faults files.old) (F.faults files.new) result }
     ensures failed { F.tells → AddsFailed (IsInputCall path.now)
@@ -114,6 +118,6 @@ pub(crate) fn input_or_text<F: Files>(
     if path == "-" {
         input_text(alloc, files, path)
     } else {
-        text_at(alloc, files, path)
+        file_text(alloc, files, path)
     }
 }

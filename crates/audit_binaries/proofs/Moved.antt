@@ -2,9 +2,9 @@
 use Rattle.std.proofs.Common.{◌≡◌, inl, inr, ℕ, List, Result, Ok, Err, subst}
 use Rattle.tame_names.specs.Standing.{Host}
 use Rattle.audit_core.specs.declared.auditors.Auditor.{Auditor}
-use Rattle.audit_binaries.specs.Binaries.{IsAnswered, IsBegun, IsBinary, IsCutOff, IsReason, IsUnlocked, Outside, Says, Scan, Tells}
+use Rattle.audit_binaries.specs.Binaries.{IsAnswered, IsBegun, IsBinary, IsCutOff, IsRefusedFor, IsUnlocked, Outside, Says, Scan, Tells}
 use Rattle.audit_binaries.specs.Decoding.{Answer, DecoderAnswers}
-use Rattle.audit_binaries.specs.Opened.{IsOpened, IsSaid, IsUnopened, IsUnread, IsUnsaid, bytes_at, text_of}
+use Rattle.audit_binaries.specs.Opened.{IsOpened, IsSaid, IsUnopened, HasNoBytes, IsUnsaid, bytes_at, said_text}
 use Rattle.audit_binaries.specs.declared.answers.BinaryAnswer.{BinaryAnswer}
 use Rattle.audit_binaries.specs.declared.answers.BinaryAnswer.TheVariants as answer
 use Rattle.audit_binaries.specs.declared.answers.BinaryFault.{BinaryFault}
@@ -22,12 +22,12 @@ module _ (files_tell decoder_tells : Type 0) (limits : BinaryLimits) (host later
   bytes_moved path r h told = subst (λ (x : Host). bytes_at limits.binary (x.stands path) ≡ r) (hosts told) (h told)
 
   said_moved : (bytes : List ℕ) (r : Result FoundText BinaryFault) → IsSaid decoder_tells (then bytes limits.payload) r → IsSaid decoder_tells (answers bytes limits.payload) r
-  said_moved bytes r h told = subst (λ (x : Answer). text_of x ≡ r) (same told bytes limits.payload) (h told)
+  said_moved bytes r h told = subst (λ (x : Answer). said_text x ≡ r) (same told bytes limits.payload) (h told)
 
   opened_moved : (path : List ℕ) (said : FoundText) → IsOpened files_tell decoder_tells limits (later.stands path) then said → IsOpened files_tell decoder_tells limits (host.stands path) answers said
   opened_moved path said h = (h.0, bytes_moved path (Ok h.0) h.1, said_moved h.0 (Ok said) h.2)
 
-  unread_moved : (path : List ℕ) (f : BinaryFault) → IsUnread files_tell limits.binary (later.stands path) f → IsUnread files_tell limits.binary (host.stands path) f
+  unread_moved : (path : List ℕ) (f : BinaryFault) → HasNoBytes files_tell limits.binary (later.stands path) f → HasNoBytes files_tell limits.binary (host.stands path) f
   unread_moved path fault.Missing h = bytes_moved path (Err fault.Missing) h
   unread_moved path fault.File h = tt
   unread_moved path (fault.TooLarge n) h = (h.0, bytes_moved path (Err (fault.TooLarge n)) h.1)
@@ -63,7 +63,7 @@ module _ (tells : Tells) (auditor : Auditor) (limits : BinaryLimits) (host later
   unlocked_moved path fault.NoInformation h = absurd h
   unlocked_moved path (fault.Lockfile f) h = (h.0, h.1, says_moved path h.1 h.2, h.3)
 
-  reason_moved : (path : List ℕ) (f : BinaryFault) → IsReason tells (With auditor limits later then) path f → IsReason tells (With auditor limits host answers) path f
+  reason_moved : (path : List ℕ) (f : BinaryFault) → IsRefusedFor tells (With auditor limits later then) path f → IsRefusedFor tells (With auditor limits host answers) path f
   reason_moved path f (inl h) = inl (unopened_moved tells.files tells.decoder limits host later answers then hosts same path f h)
   reason_moved path f (inr h) = inr (unlocked_moved path f h)
 

@@ -14,7 +14,7 @@ use Rattle.audit_core.specs.declared.auditing.Audited.{Audited}
 use Rattle.audit_core.specs.declared.auditors.Auditor.{Auditor}
 use Rattle.audit_core.specs.declared.checking.Checks.TheVariants.{Online}
 use Rattle.audit_binaries.specs.Decoding.{DecoderAnswers}
-use Rattle.audit_binaries.specs.Opened.{IsOpened, IsUnopened, bytes_at, failed_reads, text_of}
+use Rattle.audit_binaries.specs.Opened.{IsOpened, IsUnopened, bytes_at, failed_reads, said_text}
 use Rattle.audit_binaries.specs.declared.answers.BinaryAnswer.{BinaryAnswer}
 use Rattle.audit_binaries.specs.declared.answers.BinaryAnswer.TheVariants as answer
 use Rattle.audit_binaries.specs.declared.answers.BinaryFault.{BinaryFault}
@@ -85,8 +85,8 @@ IsUnlocked tells scan path (fault.Lockfile f) =
 IsUnlocked tells scan path _ = ⊥
 
 -- why there is no audit
-abbrev pub IsReason : Tells → Scan → List ℕ → BinaryFault → Type 0
-IsReason tells scan path f =
+abbrev pub IsRefusedFor : Tells → Scan → List ℕ → BinaryFault → Type 0
+IsRefusedFor tells scan path f =
     IsUnopened tells.files tells.decoder scan.limits (scan.host.stands path) scan.answers f
     ⊎ IsUnlocked tells scan path f
 
@@ -100,7 +100,7 @@ abbrev pub IsAnswered : Tells → Scan → Outside → Outside → List ℕ → 
 IsAnswered tells scan began ended path (answer.Audited found audited) =
     IsAudited tells scan began ended path found audited
 IsAnswered tells scan began ended path (answer.Refused f) =
-    IsReason tells scan path f × IsUncalled began ended
+    IsRefusedFor tells scan path f × IsUncalled began ended
 
 abbrev pub failed_by : List ℕ → BinaryAnswer → List FailedCall
 failed_by path (answer.Audited found audited) = []
@@ -178,7 +178,7 @@ abbrev pub all_tell : Tells
 all_tell = record { files = Unit {0}; decoder = Unit {0}; wire = Unit {0}; disk = Unit {0} }
 
 abbrev pub said_of : Scan → Result (List ℕ) BinaryFault → Result FoundText BinaryFault
-said_of scan (Ok bytes) = text_of (scan.answers bytes scan.limits.payload)
+said_of scan (Ok bytes) = said_text (scan.answers bytes scan.limits.payload)
 said_of scan (Err f) = Err f
 
 -- what the binary at a path says, or why it says nothing

@@ -26,11 +26,11 @@ bytes_at limit Other = Err fault.File
 
 -- the text of a lockfile that a decoder answers, and whether it is of all packages; or why there is
 -- none
-abbrev pub text_of : Answer → Result FoundText BinaryFault
-text_of (Ok (decoded.Complete text)) = Ok (record { found = found.Complete; text = text })
-text_of (Ok (decoded.Incomplete text)) = Ok (record { found = found.Incomplete; text = text })
-text_of (Ok decoded.Nothing) = Err fault.NoInformation
-text_of (Err n) = Err (fault.PayloadOver n)
+abbrev pub said_text : Answer → Result FoundText BinaryFault
+said_text (Ok (decoded.Complete text)) = Ok (record { found = found.Complete; text = text })
+said_text (Ok (decoded.Incomplete text)) = Ok (record { found = found.Incomplete; text = text })
+said_text (Ok decoded.Nothing) = Err fault.NoInformation
+said_text (Err n) = Err (fault.PayloadOver n)
 
 -- ---- where it is told
 
@@ -40,7 +40,7 @@ IsRead told limit standing bytes = told → bytes_at limit standing ≡ Ok bytes
 
 -- this is what the decoder's answer says
 abbrev pub IsSaid : Type 0 → Answer → Result FoundText BinaryFault → Type 0
-IsSaid told answer said = told → text_of answer ≡ said
+IsSaid told answer said = told → said_text answer ≡ said
 
 -- the bytes at the path say this
 abbrev pub IsOpened : Type 0 → Type 0 → BinaryLimits → Standing → DecoderAnswers → FoundText
@@ -52,12 +52,12 @@ IsOpened files_tell decoder_tells limits standing answers said =
 -- ---- why there is none
 
 -- as the file has it: nothing is there, or it is too large; that a read failed is told by its count
-abbrev pub IsUnread : Type 0 → ℕ → Standing → BinaryFault → Type 0
-IsUnread told limit standing fault.Missing = told → bytes_at limit standing ≡ Err fault.Missing
-IsUnread told limit standing (fault.TooLarge n) =
+abbrev pub HasNoBytes : Type 0 → ℕ → Standing → BinaryFault → Type 0
+HasNoBytes told limit standing fault.Missing = told → bytes_at limit standing ≡ Err fault.Missing
+HasNoBytes told limit standing (fault.TooLarge n) =
     (limit < n) × (told → bytes_at limit standing ≡ Err (fault.TooLarge n))
-IsUnread told limit standing fault.File = Unit {0}
-IsUnread told limit standing _ = ⊥
+HasNoBytes told limit standing fault.File = Unit {0}
+HasNoBytes told limit standing _ = ⊥
 
 -- as the decoder's answer has it: it is over the limit, or says nothing; that decoding failed is
 -- told by its count
@@ -72,7 +72,7 @@ IsUnsaid told limit answer _ = ⊥
 abbrev pub IsUnopened : Type 0 → Type 0 → BinaryLimits → Standing → DecoderAnswers → BinaryFault
     → Type 0
 IsUnopened files_tell decoder_tells limits standing answers f =
-    IsUnread files_tell limits.binary standing f
+    HasNoBytes files_tell limits.binary standing f
     ⊎ ((bytes : List ℕ) × IsRead files_tell limits.binary standing bytes
     × IsUnsaid decoder_tells limits.payload (answers bytes limits.payload) f)
 

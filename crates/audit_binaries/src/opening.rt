@@ -1,7 +1,7 @@
 //! What a binary at a path of the host says.
 ghost use Rattle.std.specs.Prelude.{◌≡◌, ◌≢◌, ◌≤◌, ◌++◌, ◌∷◌, [], ◌⊎◌, ℕ, List, Ok, Err, IfOk, IfErr, Some};
 ghost use Rattle.tame_names.specs.Counts.{CountRose};
-ghost use Rattle.audit_binaries.specs.Opened.{IfRefused, IsOpened, IsRead, IsSaid, IsUnopened, IsUnread, IsUnsaid, bytes_at, failed_reads};
+ghost use Rattle.audit_binaries.specs.Opened.{IfRefused, IsOpened, IsRead, IsSaid, IsUnopened, HasNoBytes, IsUnsaid, bytes_at, failed_reads};
 
 use crate::answers::{BinaryFault, PackagesFound};
 use crate::decoders::{DecodeFault, Decoded, Decoder};
@@ -33,7 +33,7 @@ fn read_binary<F: Files>(
     ensures bytes { IfOk result (λ bytes.
         IsRead F.tells limit ((F.host files.old).stands path.now) bytes.items) }
     ensures reason { IfErr result (IfRefused
-        (IsUnread F.tells limit ((F.host files.old).stands path.now))) }
+        (HasNoBytes F.tells limit ((F.host files.old).stands path.now))) }
     ensures later { F.faults files.old ≤ F.faults files.new }
     ensures rose { result ≡ Err (Unopened.Refused BinaryFault.File)
         → CountRose (F.faults files.old) (F.faults files.new) }

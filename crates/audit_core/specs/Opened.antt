@@ -24,32 +24,32 @@ text_in bytes =
     else Err fault.NotUtf8
 
 -- the text of what stands there, or why there is none
-abbrev pub text_at : Standing → Result (List ℕ) FileAuditError
-text_at Nothing = Err fault.Missing
-text_at (File bytes) = text_in bytes
-text_at (Folder entries) = Err fault.File
-text_at Other = Err fault.File
+abbrev pub opened_text : Standing → Result (List ℕ) FileAuditError
+opened_text Nothing = Err fault.Missing
+opened_text (File bytes) = text_in bytes
+opened_text (Folder entries) = Err fault.File
+opened_text Other = Err fault.File
 
 -- these tell why a text wasn't read: nothing is there, it is too long, or it isn't UTF-8
-abbrev pub IsUnread : FileAuditError → Type 0
-IsUnread fault.Missing = Unit {0}
-IsUnread fault.NotUtf8 = Unit {0}
-IsUnread (fault.TooLarge n) = Unit {0}
-IsUnread _ = ⊥
+abbrev pub IsTextFault : FileAuditError → Type 0
+IsTextFault fault.Missing = Unit {0}
+IsTextFault fault.NotUtf8 = Unit {0}
+IsTextFault (fault.TooLarge n) = Unit {0}
+IsTextFault _ = ⊥
 
 -- a reason that what stands there gives: why its text wasn't read, or why the text is no lockfile,
 -- which is never want of memory; that a count rose is said beside it
-abbrev pub IsReason : Type 0 → Standing → FileAuditError → Type 0
-IsReason told standing fault.Missing = told → text_at standing ≡ Err fault.Missing
-IsReason told standing fault.NotUtf8 = told → text_at standing ≡ Err fault.NotUtf8
-IsReason told standing (fault.TooLarge n) =
-    (lockfile_limit < n) × (told → text_at standing ≡ Err (fault.TooLarge n))
-IsReason told standing fault.File = Unit {0}
-IsReason told standing (fault.Audit (audit_error.Lockfile f)) =
-    (f ≢ lockfile_fault.NoMemory) × (text : List ℕ) × (told → text_at standing ≡ Ok text)
+abbrev pub IsUnopenedFor : Type 0 → Standing → FileAuditError → Type 0
+IsUnopenedFor told standing fault.Missing = told → opened_text standing ≡ Err fault.Missing
+IsUnopenedFor told standing fault.NotUtf8 = told → opened_text standing ≡ Err fault.NotUtf8
+IsUnopenedFor told standing (fault.TooLarge n) =
+    (lockfile_limit < n) × (told → opened_text standing ≡ Err (fault.TooLarge n))
+IsUnopenedFor told standing fault.File = Unit {0}
+IsUnopenedFor told standing (fault.Audit (audit_error.Lockfile f)) =
+    (f ≢ lockfile_fault.NoMemory) × (text : List ℕ) × (told → opened_text standing ≡ Ok text)
     × (locked text ≡ Err f)
-IsReason told standing (fault.Audit (audit_error.Advisory n f)) = ⊥
-IsReason told standing (fault.Audit audit_error.NoMemory) = Unit {0}
+IsUnopenedFor told standing (fault.Audit (audit_error.Advisory n f)) = ⊥
+IsUnopenedFor told standing (fault.Audit audit_error.NoMemory) = Unit {0}
 
 -- nothing is asked where the text isn't one of a lockfile
 abbrev pub IsEarly : FileAuditError → Type 0

@@ -60,8 +60,8 @@ fn turns_of(alloc: Global, answered_turns: Items<AnsweredTurn>) -> Result<Items<
     Ok(turns)
 }
 
-/// The sparse index of crates.io, with its cache in the folder `.cache`.
-fn crates_io(alloc: Global) -> Result<SparseIndex, NoMemory>
+/// The sparse index of crates.io that audits ask, with its cache in the folder `.cache`.
+pub fn crates_io(alloc: Global) -> Result<SparseIndex, NoMemory>
     ensures root { IfOk result (λ index. index.cache.path ≡ []) }
     ensures url { IfOk result (λ index. index.cache.index ≡ crates_io_index) }
 {

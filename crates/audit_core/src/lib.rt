@@ -32,7 +32,7 @@ pub use audit_settings::{
 };
 pub use auditing::{AuditError, Audited};
 pub use auditors::Auditor;
-pub use checking::Checks;
+pub use checking::{Checks, crates_io};
 pub use laws::{
     asked_paths_are_the_distinct_paths, audit_histories_keep, audits_in_histories_match_the_server,
     cached_audits_agree,

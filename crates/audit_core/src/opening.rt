@@ -5,7 +5,7 @@ ghost use Rattle.tame_names.specs.Counts.{HasCause, CountRose};
 ghost use Rattle.tame_names.specs.Standing.{IsAboveLimit, IsInput, Reads, StaysButInput, failed_calls, reading_call};
 ghost use Rattle.audit_lock.specs.Locked.{locked};
 ghost use Rattle.audit_lock.specs.declared.resolving.Package.{Package};
-ghost use Rattle.audit_core.specs.Opened.{IsReason, lockfile_limit, standing_at, text_at};
+ghost use Rattle.audit_core.specs.Opened.{IsUnopenedFor, lockfile_limit, standing_at, opened_text};
 
 use crate::auditing::{AuditError, Audited};
 use crate::auditors::Auditor;
@@ -77,8 +77,8 @@ fn whole_text(alloc: Global, bytes: &[u8]) -> Result<Text, FileAuditError>
 /// The text of what stands at a path, or why there is none.
 fn read_text<F: Files>(alloc: Global, files: &mut F, path: &str) -> Result<Text, FileAuditError>
     ensures text { F.tells → IfOk result (λ text.
-        text_at (standing_at (F.host files.old) path.now) ≡ Ok text) }
-    ensures reason { IfErr result (IsReason F.tells (standing_at (F.host files.old) path.now)) }
+        opened_text (standing_at (F.host files.old) path.now) ≡ Ok text) }
+    ensures reason { IfErr result (IsUnopenedFor F.tells (standing_at (F.host files.old) path.now)) }
     ensures only { (e : AuditError) → result ≡ Err (FileAuditError.Audit e)
         → e ≡ AuditError.NoMemory }
     ensures rose { result ≡ Err FileAuditError.File
@@ -102,7 +102,7 @@ fn read_text<F: Files>(alloc: Global, files: &mut F, path: &str) -> Result<Text,
 impl Auditor {
     ghost use Rattle.audit_core.specs.Audits.{IsAuditOf, KeepsOthers, MakesAskedFolders};
     ghost use Rattle.audit_core.specs.Checks.{asked_of};
-    ghost use Rattle.audit_core.specs.Opened.{IsEarly, IsReason};
+    ghost use Rattle.audit_core.specs.Opened.{IsEarly, IsUnopenedFor};
     ghost use Rattle.audit_core.specs.Turns.{AddsPart, StaysKept};
     ghost use Rattle.audit_core.specs.declared.checking.Checks.TheVariants as Checks;
 
@@ -120,7 +120,7 @@ impl Auditor {
     ) -> Result<Audited, FileAuditError>
         // the audit of the text that stands there
         ensures audited { IfOk result (λ a. (text : List ℕ)
-            × (F.tells → text_at (standing_at (F.host files.old) path.now) ≡ Ok text)
+            × (F.tells → opened_text (standing_at (F.host files.old) path.now) ≡ Ok text)
             × IsAuditOf self.now W.tells D.tells
             (record {
               exchanges = W.exchanges wire.old;
@@ -137,7 +137,7 @@ impl Auditor {
             text a) }
 
         // why there is none
-        ensures reason { IfErr result (IsReason F.tells (standing_at (F.host files.old) path.now)) }
+        ensures reason { IfErr result (IsUnopenedFor F.tells (standing_at (F.host files.old) path.now)) }
         ensures rose { result ≡ Err FileAuditError.File
             → CountRose (F.faults files.old) (F.faults files.new) }
         ensures failed { F.tells → result ≡ Err FileAuditError.File
@@ -151,16 +151,16 @@ impl Auditor {
         // the front, no file changes but those of asked paths, and no folders are made but those
         // above these
         ensures part { F.tells → W.tells → (text : List ℕ) (packages : List Package)
-            → text_at (standing_at (F.host files.old) path.now) ≡ Ok text
+            → opened_text (standing_at (F.host files.old) path.now) ≡ Ok text
             → locked text ≡ Ok packages
             → AddsPart (asked_of self.now.checks packages) (W.exchanges wire.old)
             (W.exchanges wire.new) }
         ensures others { F.tells → D.tells → (text : List ℕ) (packages : List Package)
-            → text_at (standing_at (F.host files.old) path.now) ≡ Ok text
+            → opened_text (standing_at (F.host files.old) path.now) ≡ Ok text
             → locked text ≡ Ok packages
             → KeepsOthers (asked_of self.now.checks packages) (D.past disk.old) (D.past disk.new) }
         ensures folders { F.tells → D.tells → (text : List ℕ) (packages : List Package)
-            → text_at (standing_at (F.host files.old) path.now) ≡ Ok text
+            → opened_text (standing_at (F.host files.old) path.now) ≡ Ok text
             → locked text ≡ Ok packages
             → MakesAskedFolders (asked_of self.now.checks packages) (D.folders disk.old)
             (D.folders disk.new) }

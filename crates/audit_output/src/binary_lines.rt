@@ -5,12 +5,12 @@ ghost use Rattle.audit_output.specs.BinaryOutputs.{binary_words};
 ghost use Rattle.audit_output.specs.BinaryOutputs as spec;
 ghost use Rattle.audit_output.specs.Outputs.{unchecked_lines};
 
-use crate::fault_lines::{push_lockfile_words, push_number, push_two};
+use crate::fault_lines::{push_lockfile_words, push_two};
 use crate::outputs::push_unchecked_lines;
 use audit_advisory::OutputConfig;
 use audit_binaries::{BinaryAnswer, BinaryFault, PackagesFound};
 use audit_core::Audited;
-use audit_report::{Found, binary_line_in};
+use audit_report::{Found, binary_line_in, push_number};
 use std::alloc::{AllocError, Global};
 
 /// A number of bytes behind a text.

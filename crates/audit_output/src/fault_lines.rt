@@ -6,6 +6,7 @@ ghost use Rattle.audit_output.specs.FaultLines as spec;
 
 use audit_asked::RunFault;
 use audit_lock::{LockRule, LockfileFault};
+use audit_report::push_number;
 use audit_settings::SettingsFault;
 use std::alloc::{AllocError, Global};
 
@@ -19,14 +20,6 @@ pub fn push_two(out: &mut String, first: &str, second: &str) -> Result<(), Alloc
 {
     out.push_str(first)?;
     out.push_str(second)
-}
-
-/// Appends a number.
-pub fn push_number(alloc: Global, out: &mut String, number: u64) -> Result<(), AllocError>
-    ensures { OnOk result (string_bytes out.new ≡ string_bytes out.old ++ decimal number) }
-{
-    let text = format!(in alloc; "{number}")?;
-    out.push_str(text.as_str())
 }
 
 fn push_signed(alloc: Global, out: &mut String, number: &i32) -> Result<(), AllocError>

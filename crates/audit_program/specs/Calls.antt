@@ -79,13 +79,13 @@ words_generate _ host = false
 -- without an audit, where a lockfile is generated: the start that generates it, as it ended; where
 -- a call on the files failed it may have been made or not, and where memory ran out it may have
 -- ended in any way
-abbrev pub StartsBy : List Started → List Started → Option RunFault → Type 0
-StartsBy before now (Some (fault.Generate status)) = AddsStart (Some status) before now
-StartsBy before now (Some (fault.Start failed)) = AddsStart None before now
-StartsBy before now (Some (fault.File path)) = (now ≡ before) ⊎ AddsStart (Some (pos 0)) before now
-StartsBy before now (Some fault.NoMemory) = StartsAtMost before now
-StartsBy before now _ = AddsStart (Some (pos 0)) before now
+abbrev pub StartsUnaudited : List Started → List Started → Option RunFault → Type 0
+StartsUnaudited before now (Some (fault.Generate status)) = AddsStart (Some status) before now
+StartsUnaudited before now (Some (fault.Start failed)) = AddsStart None before now
+StartsUnaudited before now (Some (fault.File path)) = (now ≡ before) ⊎ AddsStart (Some (pos 0)) before now
+StartsUnaudited before now (Some fault.NoMemory) = StartsAtMost before now
+StartsUnaudited before now _ = AddsStart (Some (pos 0)) before now
 
 abbrev pub StartsWhere : Bool → List Started → List Started → Option RunFault → Type 0
-StartsWhere true before now reason = StartsBy before now reason
+StartsWhere true before now reason = StartsUnaudited before now reason
 StartsWhere false before now reason = now ≡ before

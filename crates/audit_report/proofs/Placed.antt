@@ -11,7 +11,7 @@ use Rattle.audit_advisory.specs.declared.advisories.Advisory.{Advisory}
 use Rattle.audit_advisory.specs.declared.reports.Report.{Report}
 use Rattle.audit_advisory.specs.declared.reports.Vulnerability.{Vulnerability}
 use Rattle.audit_advisory.specs.declared.reports.Warning.{Warning}
-use Rattle.audit_report.specs.Placing.{are_placed, is_place, is_placed, is_vulnerability, is_warning}
+use Rattle.audit_report.specs.Placing.{are_placed, is_place, is_placed, is_placed_vulnerability, is_placed_warning}
 
 -- a test that each item passes
 all_pass : {X : Type 0} (P : X → Type 0) (p : X → Bool) → ((x : X) → P x → p x ≡ true)
@@ -45,9 +45,9 @@ placed report h =
     let a = report.advisory_count in
     let p = report.dependency_count in
     both_hold _ _
-    (all_pass (found_within p a) (is_vulnerability a p)
+    (all_pass (found_within p a) (is_placed_vulnerability a p)
     (λ v l. both_hold _ _ (below _ _ l.0) (below _ _ l.1)) report.vulnerabilities h.vulnerabilities)
-    (all_pass (warned_within p a) (is_warning a p)
+    (all_pass (warned_within p a) (is_placed_warning a p)
     (λ w l. both_hold _ _ (is_place-some _ _ l.1) (below _ _ l.0)) report.warnings h.warnings)
 
 -- where the counts are those of these lists

@@ -83,15 +83,15 @@ warning_block symbols tree kind (Some p) advisory =
     record { lines = warning_lines symbols kind p advisory; locked = p; tree = tree } ∷ []
 warning_block symbols tree kind None advisory = []
 
-abbrev pub vulnerability_at : Option (List Segments) → List Advisory → List Package
+abbrev pub vulnerability_blocks : Option (List Segments) → List Advisory → List Package
     → Vulnerability → List Block
-vulnerability_at symbols advisories packages v =
+vulnerability_blocks symbols advisories packages v =
     vulnerability_block symbols (tree_at packages v.«package»)
     (slice_get packages v.«package») (slice_get advisories v.advisory)
 
-abbrev pub warning_at : Option (List Segments) → List Advisory → List Package → Warning
+abbrev pub warning_blocks : Option (List Segments) → List Advisory → List Package → Warning
     → List Block
-warning_at symbols advisories packages w =
+warning_blocks symbols advisories packages w =
     warning_block symbols (tree_at packages w.«package») w.kind
     (slice_get packages w.«package») (advisory_at advisories w.advisory)
 
@@ -99,5 +99,5 @@ warning_at symbols advisories packages w =
 abbrev pub blocks_of : Option (List Segments) → List Advisory → List Package → Report
     → List Block
 blocks_of symbols advisories packages report =
-    flat_map (vulnerability_at symbols advisories packages) report.vulnerabilities
-    ++ flat_map (warning_at symbols advisories packages) report.warnings
+    flat_map (vulnerability_blocks symbols advisories packages) report.vulnerabilities
+    ++ flat_map (warning_blocks symbols advisories packages) report.warnings

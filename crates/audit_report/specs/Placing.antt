@@ -10,19 +10,19 @@ use Rattle.audit_advisory.specs.declared.reports.Warning.{Warning}
 abbrev pub is_place : ℕ → Option ℕ → Bool
 is_place count place = option_map_or (λ n. nat_lt n count) place true
 
-abbrev pub is_vulnerability : ℕ → ℕ → Vulnerability → Bool
-is_vulnerability advisories packages v =
+abbrev pub is_placed_vulnerability : ℕ → ℕ → Vulnerability → Bool
+is_placed_vulnerability advisories packages v =
     nat_lt v.advisory advisories && nat_lt v.«package» packages
 
-abbrev pub is_warning : ℕ → ℕ → Warning → Bool
-is_warning advisories packages w =
+abbrev pub is_placed_warning : ℕ → ℕ → Warning → Bool
+is_placed_warning advisories packages w =
     is_place advisories w.advisory && nat_lt w.«package» packages
 
 -- each place that a report names has an advisory or a package
 abbrev pub is_placed : ℕ → ℕ → Report → Bool
 is_placed advisories packages report =
-    list_all (is_vulnerability advisories packages) report.vulnerabilities
-    && list_all (is_warning advisories packages) report.warnings
+    list_all (is_placed_vulnerability advisories packages) report.vulnerabilities
+    && list_all (is_placed_warning advisories packages) report.warnings
 
 -- each of these places has an advisory
 abbrev pub are_placed : ℕ → List ℕ → Bool

@@ -124,7 +124,8 @@ pub fn push_url(out: &mut String, metadata: &Metadata) -> Result<(), AllocError>
     }
 }
 
-fn push_number(alloc: Global, out: &mut String, number: u8) -> Result<(), AllocError>
+/// Appends a number.
+pub fn push_number(alloc: Global, out: &mut String, number: u64) -> Result<(), AllocError>
     ensures { OnOk result (string_bytes out.new ≡ string_bytes out.old ++ decimal number) }
 {
     let text = format!(in alloc; "{number}")?;
@@ -137,9 +138,9 @@ pub fn one_decimal(alloc: Global, tenths: u8) -> Result<String, AllocError>
     ensures { IfOk result (λ text. string_bytes text ≡ spec.one_decimal tenths) }
 {
     let mut out = String::new(alloc);
-    push_number(alloc, &mut out, tenths / 10)?;
+    push_number(alloc, &mut out, (tenths / 10) as u64)?;
     out.push_str(".")?;
-    push_number(alloc, &mut out, tenths % 10)?;
+    push_number(alloc, &mut out, (tenths % 10) as u64)?;
     Ok(out)
 }
 

@@ -4,7 +4,7 @@ ghost use Rattle.std.specs.Prelude.{◌≡◌, ◌≢◌, ◌≤◌, ◌++◌, [
 ghost use Rattle.std.specs.List.{flat_map};
 ghost use Rattle.tame_names.specs.Counts.{CountRose};
 ghost use Rattle.audit_lock.specs.Parents.{tree_of};
-ghost use Rattle.audit_report.specs.Blocks.{blocks_of, vulnerability_at, warning_at};
+ghost use Rattle.audit_report.specs.Blocks.{blocks_of, vulnerability_blocks, warning_blocks};
 ghost use Rattle.audit_report.specs.Outputs.{IsPut};
 ghost use Rattle.audit_report.specs.Shown.{blocks_text, shown_after};
 
@@ -42,11 +42,11 @@ fn put_vulnerabilities<O: Sink>(
     requires empty { sheet.old.page.bytes.items ≡ [] }
     ensures put { O.tells → IsPut (O.holds out.old)
         (blocks_text findings.now.wanted (findings.now.known.now ++ sheet.old.added)
-        (flat_map (vulnerability_at findings.now.symbols.now findings.now.advisories.now
+        (flat_map (vulnerability_blocks findings.now.symbols.now findings.now.advisories.now
         findings.now.lockfile.now) found.now)) (O.holds out.new) result }
     ensures trees { OnOk result (findings.now.known.now ++ sheet.new.added
         ≡ shown_after findings.now.wanted (findings.now.known.now ++ sheet.old.added)
-        (flat_map (vulnerability_at findings.now.symbols.now findings.now.advisories.now
+        (flat_map (vulnerability_blocks findings.now.symbols.now findings.now.advisories.now
         findings.now.lockfile.now) found.now)) }
     ensures emptied { OnOk result (sheet.new.page.bytes.items ≡ []) }
     ensures later { O.faults out.old ≤ O.faults out.new }
@@ -73,11 +73,11 @@ fn put_warnings<O: Sink>(
     requires empty { sheet.old.page.bytes.items ≡ [] }
     ensures put { O.tells → IsPut (O.holds out.old)
         (blocks_text findings.now.wanted (findings.now.known.now ++ sheet.old.added)
-        (flat_map (warning_at findings.now.symbols.now findings.now.advisories.now
+        (flat_map (warning_blocks findings.now.symbols.now findings.now.advisories.now
         findings.now.lockfile.now) warnings.now)) (O.holds out.new) result }
     ensures trees { OnOk result (findings.now.known.now ++ sheet.new.added
         ≡ shown_after findings.now.wanted (findings.now.known.now ++ sheet.old.added)
-        (flat_map (warning_at findings.now.symbols.now findings.now.advisories.now
+        (flat_map (warning_blocks findings.now.symbols.now findings.now.advisories.now
         findings.now.lockfile.now) warnings.now)) }
     ensures later { O.faults out.old ≤ O.faults out.new }
     ensures failed { IsErrOf result PrintError.Io

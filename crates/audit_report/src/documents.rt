@@ -75,7 +75,7 @@ fn write_report(
 }
 
 /// A report as JSON.
-pub fn report_text(
+fn report_text(
     alloc: Global,
     report: &Report,
     advisories: &[Advisory],

@@ -1,7 +1,7 @@
 //! The blocks of a report, with their trees, made one at a time.
 ghost use Rattle.std.specs.Prelude.{◌≡◌, ◌<◌, ◌++◌, IfSome, OnOk, length, option_copied};
 ghost use Rattle.audit_lock.specs.Parents.{tree_of};
-ghost use Rattle.audit_report.specs.Blocks.{tree_at, vulnerability_at, vulnerability_block, warning_at, warning_block};
+ghost use Rattle.audit_report.specs.Blocks.{tree_at, vulnerability_blocks, vulnerability_block, warning_blocks, warning_block};
 ghost use Rattle.audit_report.specs.Shown.{Shows, is_due, shown_with, tree_lines, tree_text, tree_title};
 
 use crate::blocks::{vulnerability_lines, warning_lines};
@@ -190,7 +190,7 @@ pub fn push_vulnerability_at(
 ) -> Result<(), NoMemory>
     requires made { findings.now.tree.now ≡ tree_of findings.now.lockfile.now }
     ensures { OnOk result (Shows findings.now.wanted
-        (vulnerability_at findings.now.symbols.now findings.now.advisories.now
+        (vulnerability_blocks findings.now.symbols.now findings.now.advisories.now
         findings.now.lockfile.now hit)
         sheet.old.page.bytes.items (findings.now.known.now ++ sheet.old.added)
         sheet.new.page.bytes.items (findings.now.known.now ++ sheet.new.added)) }
@@ -209,7 +209,7 @@ pub fn push_warning_at(
 ) -> Result<(), NoMemory>
     requires made { findings.now.tree.now ≡ tree_of findings.now.lockfile.now }
     ensures { OnOk result (Shows findings.now.wanted
-        (warning_at findings.now.symbols.now findings.now.advisories.now
+        (warning_blocks findings.now.symbols.now findings.now.advisories.now
         findings.now.lockfile.now warning)
         sheet.old.page.bytes.items (findings.now.known.now ++ sheet.old.added)
         sheet.new.page.bytes.items (findings.now.known.now ++ sheet.new.added)) }

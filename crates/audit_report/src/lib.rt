@@ -44,6 +44,7 @@ mod summaries;
 mod symbols;
 mod words;
 
+pub use attributes::push_number;
 pub use binaries::Found;
 pub use laws::{
     each_tree_stands_once, kept_paths_are_symbols_with_gaps, printed_rules_are_those_of_results,

@@ -41,32 +41,30 @@ fn is_place(count: usize, place: Option<usize>) -> bool
     }
 }
 
-fn is_vulnerability(advisories: usize, packages: usize, found: &Vulnerability) -> bool
-    ensures { result ≡ spec.is_vulnerability advisories packages found.now }
+fn is_placed_vulnerability(advisories: usize, packages: usize, found: &Vulnerability) -> bool
+    ensures { result ≡ spec.is_placed_vulnerability advisories packages found.now }
 {
     found.advisory < advisories && found.package < packages
 }
 
-fn is_warning(advisories: usize, packages: usize, warning: &Warning) -> bool
-    ensures { result ≡ spec.is_warning advisories packages warning.now }
+fn is_placed_warning(advisories: usize, packages: usize, warning: &Warning) -> bool
+    ensures { result ≡ spec.is_placed_warning advisories packages warning.now }
 {
     is_place(advisories, warning.advisory) && warning.package < packages
 }
 
 fn are_vulnerabilities(advisories: usize, packages: usize, found: &[Vulnerability]) -> bool
-    ensures { result ≡ list_all (spec.is_vulnerability advisories packages) found.now }
+    ensures { result ≡ list_all (spec.is_placed_vulnerability advisories packages) found.now }
 {
-    found
-        .iter()
-        .all(|found| is_vulnerability(advisories, packages, found))
+    found.iter().all(|found| is_placed_vulnerability(advisories, packages, found))
 }
 
 fn are_warnings(advisories: usize, packages: usize, warnings: &[Warning]) -> bool
-    ensures { result ≡ list_all (spec.is_warning advisories packages) warnings.now }
+    ensures { result ≡ list_all (spec.is_placed_warning advisories packages) warnings.now }
 {
     warnings
         .iter()
-        .all(|warning| is_warning(advisories, packages, warning))
+        .all(|warning| is_placed_warning(advisories, packages, warning))
 }
 
 /// Whether each place that a report names has an advisory or a package.

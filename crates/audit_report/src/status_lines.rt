@@ -4,17 +4,11 @@ ghost use Rattle.json.specs.Print.{quoted};
 ghost use Rattle.audit_report.specs.StatusLines.{loaded_line, unchecked_line, unchecked_title, updating_line};
 ghost use Rattle.audit_report.specs.StatusLines as spec;
 
+use crate::attributes::push_number;
 use crate::binaries::Found;
 use audit_advisory::OutputConfig;
 use serde_json::Value;
 use std::alloc::{AllocError, Global};
-
-fn push_number(alloc: Global, out: &mut String, number: usize) -> Result<(), AllocError>
-    ensures { OnOk result (string_bytes out.new ≡ string_bytes out.old ++ decimal number) }
-{
-    let text = format!(in alloc; "{number}")?;
-    out.push_str(text.as_str())
-}
 
 fn push_quoted(alloc: Global, out: &mut String, text: &str) -> Result<(), AllocError>
     ensures { OnOk result (string_bytes out.new ≡ string_bytes out.old ++ quoted text.now) }
@@ -35,7 +29,7 @@ pub fn push_loaded(
         ≡ string_bytes out.old ++ loaded_line count path.now) }
 {
     out.push_str("Loaded ")?;
-    push_number(alloc, out, count)?;
+    push_number(alloc, out, count as u64)?;
     out.push_str(" security advisories (from ")?;
     out.push_str(path)?;
     out.push_str(")\n")
@@ -57,7 +51,7 @@ fn scanning_line(alloc: Global, path: &str, count: usize) -> Result<String, Allo
     let mut out = String::from_str(alloc, "Scanning ")?;
     out.push_str(path)?;
     out.push_str(" for vulnerabilities (")?;
-    push_number(alloc, &mut out, count)?;
+    push_number(alloc, &mut out, count as u64)?;
     out.push_str(" crate dependencies)\n")?;
     Ok(out)
 }
@@ -86,7 +80,7 @@ fn complete_line(alloc: Global, count: usize, path: &str) -> Result<String, Allo
     let mut out = String::from_str(alloc, "Found 'cargo auditable' data in ")?;
     out.push_str(path)?;
     out.push_str(" (")?;
-    push_number(alloc, &mut out, count)?;
+    push_number(alloc, &mut out, count as u64)?;
     out.push_str(" dependencies)\n")?;
     Ok(out)
 }
@@ -98,7 +92,7 @@ fn incomplete_line(alloc: Global, count: usize, path: &str) -> Result<String, Al
     let mut out = String::from_str(alloc, "warning: ")?;
     out.push_str(path)?;
     out.push_str(" was not built with 'cargo auditable', the report will be incomplete (")?;
-    push_number(alloc, &mut out, count)?;
+    push_number(alloc, &mut out, count as u64)?;
     out.push_str(" dependencies recovered)\n")?;
     Ok(out)
 }

@@ -7,8 +7,8 @@ use crate::commands::AuditCommand;
 use crate::configs::{
     AdvisoryConfig, AuditConfig, DatabaseConfig, FilterList, TargetConfig, YankedConfig,
 };
-use crate::reporting::{add_texts, texts_copied};
-use audit_advisory::{DenyOption, OutputConfig, OutputFormat};
+use crate::reporting::add_texts;
+use audit_advisory::{DenyOption, OutputConfig, OutputFormat, texts_copied};
 use std::alloc::Global;
 use tame_names::{Items, NoMemory, Text};
 

@@ -4,7 +4,7 @@ ghost use Rattle.audit_settings.specs.Reported.{warned_of, with_kind};
 ghost use Rattle.audit_settings.specs.Reported as spec;
 
 use crate::configs::{AuditConfig, FilterList, TargetConfig};
-use audit_advisory::{DenyOption, Informational, Settings};
+use audit_advisory::{DenyOption, Informational, Settings, kinds_copied, texts_copied};
 use std::alloc::Global;
 use tame_names::{Items, NoMemory, Text};
 
@@ -16,27 +16,6 @@ pub fn add_texts(alloc: Global, list: &mut Items<Text>, texts: &[Text]) -> Resul
         list.add(text.try_clone(alloc)?)?;
     }
     Ok(())
-}
-
-/// Copies of texts.
-pub fn texts_copied(alloc: Global, texts: &[Text]) -> Result<Items<Text>, NoMemory>
-    ensures { IfOk result (λ copies. copies ≡ texts.now) }
-{
-    let mut copies = Items::new(alloc);
-    for text in texts {
-        copies.add(text.try_clone(alloc)?)?;
-    }
-    Ok(copies)
-}
-
-fn kinds_copied(alloc: Global, kinds: &[Informational]) -> Result<Items<Informational>, NoMemory>
-    ensures { IfOk result (λ copies. copies ≡ kinds.now) }
-{
-    let mut copies = Items::new(alloc);
-    for kind in kinds {
-        copies.add(kind.copied(alloc)?)?;
-    }
-    Ok(copies)
 }
 
 fn filter_texts(alloc: Global, filter: &Option<FilterList>) -> Result<Items<Text>, NoMemory>

@@ -10,4 +10,4 @@ returns-then-eq-clause-failed g c = λ told.
 pub returns-else-eq-clause-failed : goal.returns-else-eq-clause-failed
 returns-else-eq-clause-failed g c = λ told.
     let e : bytes_eq c.args.path.now (codes "-") ≡ false = search rules in
-    widen _ _ _ _ c.text_at.result (λ path call h. read_call _ path call e h) (c.text_at.ensures.failed told)
+    widen _ _ _ _ c.file_text.result (λ path call h. read_call _ path call e h) (c.file_text.ensures.failed told)

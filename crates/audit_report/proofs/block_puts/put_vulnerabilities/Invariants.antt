@@ -1,6 +1,6 @@
 use Rattle.std.proofs.Common.{◌≡◌, ◌≤◌, [], ◌++◌, take}
 use Rattle.std.specs.List.{flat_map}
-use Rattle.audit_report.specs.Blocks.{vulnerability_at}
+use Rattle.audit_report.specs.Blocks.{vulnerability_blocks}
 use Rattle.audit_report.specs.Shown.{blocks_text, shown_after}
 use Rattle.audit_report.proofs.block_puts.put_vulnerabilities.Given as goal
 
@@ -9,9 +9,9 @@ abbrev pub invariant-loop-hit : goal.invariant-loop-hit
 invariant-loop-hit g l = record {
   text : g.O.Sink.tells → g.O.Sink.holds l.out ≡ g.O.Sink.holds l.initial.out
       ++ blocks_text l.findings.wanted (l.findings.known.now ++ l.initial.sheet.added)
-      (flat_map (vulnerability_at l.findings.symbols.now l.findings.advisories.now l.findings.lockfile.now) (take l.hit-index l.found));
+      (flat_map (vulnerability_blocks l.findings.symbols.now l.findings.advisories.now l.findings.lockfile.now) (take l.hit-index l.found));
   trees : l.findings.known.now ++ l.sheet.added ≡ shown_after l.findings.wanted (l.findings.known.now ++ l.initial.sheet.added)
-      (flat_map (vulnerability_at l.findings.symbols.now l.findings.advisories.now l.findings.lockfile.now) (take l.hit-index l.found));
+      (flat_map (vulnerability_blocks l.findings.symbols.now l.findings.advisories.now l.findings.lockfile.now) (take l.hit-index l.found));
   empty : l.sheet.page.bytes.items ≡ [];
   later : g.O.Sink.faults l.initial.out ≤ g.O.Sink.faults l.out;
 }

@@ -1,0 +1,6 @@
+pub mod Candidates
+pub mod LastFlags
+pub mod Least
+pub mod Lines
+pub mod Plans
+pub mod Recorded

@@ -1,0 +1,108 @@
+-- The plan for the vulnerable packages of an audit, by what the cache keeps (this project).
+use Rattle.std.specs.Prelude.{◌≡◌, ◌≢◌, ◌⊎◌, ◌<◌, ℕ, List, length, get_or, IfSome, Bool, true, false, ◌==◌, Option, Some, None, slice_get}
+use Rattle.std.specs.List.{filter, list_any}
+use Rattle.tame_cache.specs.Disk.{File}
+use Rattle.tame_cache.specs.Kept.{cache_file_of}
+use Rattle.tame_cache.specs.declared.cache.IndexCache.{IndexCache}
+use Rattle.audit_lock.specs.declared.resolving.Package.{Package}
+use Rattle.audit_advisory.specs.Hits.{is_from_default}
+use Rattle.audit_advisory.specs.Places.{places_from, places_where}
+use Rattle.audit_advisory.specs.Reports.{is_vulnerability}
+use Rattle.audit_advisory.specs.declared.advisories.Advisory.{Advisory}
+use Rattle.audit_advisory.specs.declared.reports.Vulnerability.{Vulnerability}
+use Rattle.audit_advisory.specs.declared.settings.Settings.{Settings}
+use Rattle.upgrade_plan.specs.Least.{IsLeastSafe}
+use Rattle.upgrade_plan.specs.Recorded.{file_records}
+use Rattle.upgrade_plan.specs.declared.records.NoRecord.TheVariants as why
+use Rattle.upgrade_plan.specs.declared.records.Recorded.{Recorded}
+use Rattle.upgrade_plan.specs.declared.records.Recorded.TheVariants.{Versions, Missing}
+use Rattle.upgrade_plan.specs.declared.plans.PlanItem.{PlanItem}
+use Rattle.upgrade_plan.specs.declared.plans.PlanOutcome.{PlanOutcome}
+use Rattle.upgrade_plan.specs.declared.plans.PlanOutcome.TheVariants as outcome
+
+-- ---- of a package
+
+-- by the records of its crate: the least safe version, or that there is none, or why there are no
+-- records
+abbrev pub IsOutcome : Settings → List Advisory → Package → Recorded → PlanOutcome → Type 0
+IsOutcome settings advisories p (Missing cause) o = o ≡ outcome.NoRecord cause
+IsOutcome settings advisories p (Versions krate) (outcome.To w) =
+    IsLeastSafe settings advisories p krate.versions (Some w)
+IsOutcome settings advisories p (Versions krate) outcome.NoneSafe =
+    IsLeastSafe settings advisories p krate.versions None
+IsOutcome settings advisories p (Versions krate) (outcome.NoRecord cause) = ⊥
+
+-- by the file of its path, or the file couldn't be read
+pub record IsFileOutcome (told : Type 0) (settings : Settings) (advisories : List Advisory)
+    (index : List ℕ) (p : Package) (file : File) (o : PlanOutcome) : Type 0 where
+  pub of_default : o ≢ outcome.NoRecord why.Source
+  pub named : o ≢ outcome.NoRecord why.Name
+  pub by_file : told → IsOutcome settings advisories p (file_records index file) o
+      ⊎ (o ≡ outcome.NoRecord why.Store)
+
+-- its name has no path, or by the file of the path
+abbrev pub IsPathOutcome : Type 0 → Settings → List Advisory → List ℕ → (List ℕ → File)
+    → Package → Option (List ℕ) → PlanOutcome → Type 0
+IsPathOutcome told settings advisories index files p None o = o ≡ outcome.NoRecord why.Name
+IsPathOutcome told settings advisories index files p (Some q) o =
+    IsFileOutcome told settings advisories index p (files q) o
+
+-- it isn't of the default registry, or by its name
+abbrev pub IsSourceOutcome : Type 0 → Settings → List Advisory → IndexCache → (List ℕ → File)
+    → Package → Bool → PlanOutcome → Type 0
+IsSourceOutcome told settings advisories cache files p false o = o ≡ outcome.NoRecord why.Source
+IsSourceOutcome told settings advisories cache files p true o =
+    IsPathOutcome told settings advisories cache.index files p
+    (cache_file_of cache.path p.name) o
+
+-- what is planned for a package, by the files of the cache of an index
+abbrev pub IsPlanOf : Type 0 → Settings → List Advisory → IndexCache → (List ℕ → File)
+    → Package → PlanOutcome → Type 0
+IsPlanOf told settings advisories cache files p o =
+    IsSourceOutcome told settings advisories cache files p (is_from_default p.source) o
+
+-- ---- of an audit
+
+-- some vulnerability is of the package at a place
+abbrev pub has_vulnerability : List Vulnerability → ℕ → Bool
+has_vulnerability vulnerabilities place =
+    list_any (λ v. v.«package» == place) vulnerabilities
+
+-- for each of so many places whether some vulnerability is of the package there
+pub record AreFlagsOf (vulnerabilities : List Vulnerability) (count : ℕ) (flags : List Bool)
+    : Type 0 where
+  pub one_each : length flags ≡ count
+  pub each : (place : ℕ) → place < count
+      → get_or flags place false ≡ has_vulnerability vulnerabilities place
+
+-- the places of the packages that have one
+abbrev pub vulnerable_places : List Vulnerability → List Package → List ℕ
+vulnerable_places vulnerabilities packages =
+    filter (has_vulnerability vulnerabilities) (places_from 0 packages)
+
+-- some advisory counts as a vulnerability, and hits the package
+abbrev pub is_hit : Settings → List Advisory → Package → Bool
+is_hit settings advisories p = list_any (is_vulnerability settings p) advisories
+
+-- the places of the packages that are hit
+abbrev pub hit_places : Settings → List Advisory → List Package → List ℕ
+hit_places settings advisories packages = places_where (is_hit settings advisories) packages
+
+-- an item is of a package at its place, and what is planned for it
+abbrev pub IsPlannedAt : (Package → PlanOutcome → Type 0) → List Package → PlanItem → Type 0
+IsPlannedAt planned packages item =
+    IfSome (slice_get packages item.«package») (λ p. planned p item.outcome)
+
+-- a cache entry couldn't be read
+abbrev pub is_store : PlanOutcome → Bool
+is_store (outcome.To w) = false
+is_store outcome.NoneSafe = false
+is_store (outcome.NoRecord why.Source) = false
+is_store (outcome.NoRecord why.Name) = false
+is_store (outcome.NoRecord why.Store) = true
+is_store (outcome.NoRecord why.Absent) = false
+is_store (outcome.NoRecord why.Record) = false
+
+-- how many items say so
+abbrev pub stores : List PlanItem → ℕ
+stores items = length (filter (λ item. is_store item.outcome) items)
