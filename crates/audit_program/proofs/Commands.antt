@@ -50,6 +50,7 @@ plain_none r s before now o is none same =
 pub none_called : (r : Result Command WordsFault) (host : Host) (before : List FailedCall) → AddsCalls r host before before (Some fault.NoMemory)
 none_called (Ok (command.Audit audit)) host before = inl refl
 none_called (Ok (command.Fix audit more)) host before = inl refl
+none_called (Ok (command.Plan audit)) host before = inl refl
 none_called (Ok (command.Bin audit more)) host before = inr (none_added more.binary_paths before)
 none_called (Ok command.Help) host before = refl
 none_called (Ok command.Version) host before = refl

@@ -1,20 +1,25 @@
 -- The steps of `fix` by how a run ended.
-use Rattle.std.proofs.Common.{◌≡◌, ◌⊎◌, inl, inr, ℕ, ℤ, zero, suc, Bool, true, false, List, [], ◌∷◌, take, length, Option, Some, None, cond, refl, sym, ap, subst, ◌∙◌, append-nil, arith, rules}
+use Rattle.std.proofs.Common.{◌≡◌, ◌⊎◌, inl, inr, ℕ, ℤ, zero, suc, Bool, true, false, List, [], ◌∷◌, take, length, Option, Some, None, Result, Ok, Err, cond, refl, sym, ap, subst, ◌∙◌, append-nil, arith, rules}
 use Rattle.std.proofs.Math.Seq.{take-length}
 use Rattle.std.proofs.lemmas.Bool.Decides.{nat_tests}
-use Rattle.std.specs.Prelude.{nat_eq}
+use Rattle.std.specs.Prelude.{IfErr, nat_eq}
 use Rattle.audit_asked.specs.declared.faults.RunFault.{RunFault}
 use Rattle.audit_asked.specs.declared.faults.RunFault.TheVariants as fault
 use Rattle.audit_asked.specs.declared.runners.Started.{Started}
 use Rattle.audit_fix.specs.Steps.{StartsEach, StartsPart}
 use Rattle.audit_fix.specs.declared.plans.FixStep.{FixStep}
 use Rattle.audit_output.specs.Outputs.{IsPrintFault}
+use Rattle.upgrade_plan.specs.declared.plans.PlanItem.{PlanItem}
 use Rattle.audit_advisory.specs.declared.advisories.Advisory.{Advisory}
 use Rattle.audit_core.specs.declared.auditing.Audited.{Audited}
 use Rattle.audit_program.specs.Outputs.{IsPutBy, IsWhole, lines_behind, remedy_lines_in}
-use Rattle.audit_program.specs.declared.tasks.Remedy.TheVariants.{Report}
+use Rattle.audit_program.specs.Finishes.{IsFinished, end_of}
+use Rattle.audit_program.specs.Plans.{HasPlan}
+use Rattle.audit_program.specs.declared.tasks.Remedy.{Remedy}
+use Rattle.audit_program.specs.declared.tasks.Remedy.TheVariants.{Report, Fix, Plan}
 use Rattle.audit_program.specs.Steps.{AreStarted, FailedBy}
 use Rattle.audit_program.proofs.Faults.{print_case}
+use Rattle.audit_program.proofs.Putting.{put_nothing}
 
 -- no steps are started
 pub each_none : (before : List Started) → StartsEach [] [] before before
@@ -106,6 +111,28 @@ no_steps told before = all_started told [] before before [] None refl (λ here. 
 pub report_lines : (verdicts : Bool) (advisories : List Advisory) (audited : Audited) (statuses : List (Option ℤ)) → remedy_lines_in verdicts Report advisories audited statuses ≡ []
 report_lines true advisories audited statuses = refl
 report_lines false advisories audited statuses = refl
+
+-- nor has a plan
+pub plan_lines_of_fix : (verdicts : Bool) (advisories : List Advisory) (audited : Audited) (statuses : List (Option ℤ)) → remedy_lines_in verdicts Plan advisories audited statuses ≡ []
+plan_lines_of_fix true advisories audited statuses = refl
+plan_lines_of_fix false advisories audited statuses = refl
+
+-- nothing is started for a plan
+plan_started : (told : Type 0) (before : List Started) (r : Result ℕ RunFault) → IfErr r IsPrintFault → AreStarted told [] before before [] (end_of r)
+plan_started told before (Ok status) only = no_steps told before
+plan_started told before (Err f) only = partly_started told [] before before f only (λ here. part_nothing [] before)
+
+-- and nothing put on err
+pub plan_finished : (runner_tells err_tells : Type 0) (verdicts : Bool) (remedy : Remedy) (advisories : List Advisory) (audited : Audited) (starts : List Started) (items : List PlanItem) (before : List ℕ)
+    (r : Result ℕ RunFault) → IfErr r IsPrintFault → HasPlan remedy (Some items)
+    → IsFinished runner_tells err_tells (record { verdicts = verdicts; remedy = remedy; advisories = advisories; audited = audited }) starts starts [] before before (end_of r)
+plan_finished runner_tells err_tells verdicts Report advisories audited starts items before r only has = cc
+plan_finished runner_tells err_tells verdicts (Fix dry_run) advisories audited starts items before r only has = cc
+plan_finished runner_tells err_tells verdicts Plan advisories audited starts items before r only has = record {
+  statuses = [];
+  started = plan_started runner_tells starts r only;
+  put = λ told. rw (plan_lines_of_fix verdicts advisories audited []) (put_nothing before (end_of r));
+}
 
 -- the same where a run ends with a fault, or for want of memory
 pub started_failed : (told : Type 0) (steps : List FixStep) (before now : List Started) (statuses : List (Option ℤ)) (f : RunFault) (o : Option RunFault) → (o ≡ Some f) ⊎ (o ≡ Some fault.NoMemory)

@@ -4,6 +4,7 @@ pub mod Completing
 pub mod Ended
 pub mod Faults
 pub mod Finishing
+pub mod Planned
 pub mod Putting
 pub mod Readings
 pub mod Reported

@@ -5,7 +5,7 @@ use Rattle.tame_names.specs.declared.host.FailedCall.{FailedCall}
 use Rattle.tame_names.specs.declared.host.FileCall.TheVariants as file_call
 use Rattle.audit_settings.specs.declared.commands.AuditCommand.{AuditCommand}
 use Rattle.audit_words.specs.declared.commands.Command.{Command}
-use Rattle.audit_words.specs.declared.commands.Command.TheVariants.{Audit, Bin, Fix}
+use Rattle.audit_words.specs.declared.commands.Command.TheVariants.{Audit, Bin, Fix, Plan}
 use Rattle.audit_words.specs.declared.commands.WordsFault.{WordsFault}
 use Rattle.audit_asked.specs.Asked.{IsAskedCall, generates}
 use Rattle.audit_asked.specs.ForBinaries.{IsForBinariesCall}
@@ -63,6 +63,8 @@ AddsCalls (Ok (Audit command)) host before now reason =
     AddsRunCall (IsAskedCall command host) before now reason
 AddsCalls (Ok (Fix command more)) host before now reason =
     AddsRunCall (IsAskedCall (fix_command command more) host) before now reason
+AddsCalls (Ok (Plan command)) host before now reason =
+    AddsRunCall (IsAskedCall command host) before now reason
 AddsCalls (Ok (Bin command more)) host before now reason =
     AddsBinCalls command more.binary_paths host before now reason
 AddsCalls _ host before now reason = now ≡ before
@@ -72,6 +74,7 @@ abbrev pub words_generate : Result Command WordsFault → Host → Bool
 words_generate (Ok (Audit command)) host = generates command host (settled command host)
 words_generate (Ok (Fix command more)) host =
     generates (fix_command command more) host (settled (fix_command command more) host)
+words_generate (Ok (Plan command)) host = generates command host (settled command host)
 words_generate _ host = false
 
 -- ---- starts

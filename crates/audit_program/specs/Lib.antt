@@ -6,6 +6,7 @@ pub mod Finishes
 pub mod GeneratedRuns
 pub mod Moments
 pub mod Outputs
+pub mod Plans
 pub mod Runs
 pub mod Statuses
 pub mod Steps

@@ -15,9 +15,12 @@ use Rattle.audit_fix.specs.Lines.{fix_lines}
 use Rattle.audit_generator.specs.Summaries.{summary_for}
 use Rattle.audit_fix.specs.declared.plans.FixStep.{FixStep}
 use Rattle.audit_output.specs.FaultLines.{fault_line}
+use Rattle.audit_output.specs.Outputs.{Output}
+use Rattle.upgrade_plan.specs.Lines.{plan_lines}
+use Rattle.upgrade_plan.specs.declared.plans.PlanItem.{PlanItem}
 use Rattle.audit_program.specs.Tasks.{fix_command}
 use Rattle.audit_program.specs.declared.tasks.Remedy.{Remedy}
-use Rattle.audit_program.specs.declared.tasks.Remedy.TheVariants.{Report, Fix}
+use Rattle.audit_program.specs.declared.tasks.Remedy.TheVariants.{Report, Fix, Plan}
 
 -- ---- the output without an audit
 
@@ -41,13 +44,23 @@ NeedsNoHost (Err reason) = Unit {0}
 abbrev pub words_place : Result Command WordsFault → List ℕ
 words_place (Ok (command.Audit c)) = place_of c.file
 words_place (Ok (command.Fix c more)) = place_of (fix_command c more).file
+words_place (Ok (command.Plan c)) = place_of c.file
 words_place _ = []
+
+-- ---- the output of a plan
+
+-- its lines in place of what an audit puts, where there is one
+abbrev pub planned_output : Output → Audited → Option (List PlanItem) → Output
+planned_output output audited None = output
+planned_output output audited (Some items) =
+    record { out = plan_lines audited.lockfile items; err = [] }
 
 -- ---- the lines of `fix`
 
 -- by the statuses that its steps ended with, none where a step couldn't be started
 abbrev pub remedy_lines : Remedy → List Advisory → Audited → List (Option ℤ) → List ℕ
 remedy_lines Report advisories audited statuses = []
+remedy_lines Plan advisories audited statuses = []
 remedy_lines (Fix dry_run) advisories audited statuses =
     fix_lines dry_run advisories audited.lockfile audited.report.vulnerabilities statuses
 

@@ -1,5 +1,5 @@
 -- How a run ends (this project, after cargo-audit).
-use Rattle.std.specs.Prelude.{ℕ, List, [], Bool, true, false, if◌then◌else◌}
+use Rattle.std.specs.Prelude.{ℕ, List, [], Bool, true, false, Option, Some, None, if◌then◌else◌}
 use Rattle.audit_advisory.specs.declared.advisories.Advisory.{Advisory}
 use Rattle.audit_asked.specs.declared.faults.RunFault.{RunFault}
 use Rattle.audit_asked.specs.declared.faults.RunFault.TheVariants as fault
@@ -9,8 +9,10 @@ use Rattle.audit_fix.specs.Endings.{fix_status}
 use Rattle.audit_fix.specs.Plans.{fix_plan}
 use Rattle.audit_fix.specs.declared.plans.FixPlan.{FixPlan}
 use Rattle.audit_fix.specs.declared.plans.FixStep.{FixStep}
+use Rattle.upgrade_plan.specs.Lines.{plan_status}
+use Rattle.upgrade_plan.specs.declared.plans.PlanItem.{PlanItem}
 use Rattle.audit_program.specs.declared.tasks.Remedy.{Remedy}
-use Rattle.audit_program.specs.declared.tasks.Remedy.TheVariants.{Report, Fix}
+use Rattle.audit_program.specs.declared.tasks.Remedy.TheVariants.{Report, Fix, Plan}
 
 -- ---- statuses
 
@@ -27,9 +29,15 @@ plan_of dry_run advisories audited =
 -- of an audit that ends without a fault: its exit, or by the plan that is started whole
 abbrev pub task_status : Remedy → List Advisory → Audited → ℕ
 task_status Report advisories audited = audited.exit
+task_status Plan advisories audited = audited.exit
 task_status (Fix dry_run) advisories audited =
     fix_status dry_run audited.report.vulnerabilities
     (plan_of dry_run advisories audited).unpatchable 0
+
+-- the same, but for a plan: by its items
+abbrev pub planned_status : Remedy → List Advisory → Audited → Option (List PlanItem) → ℕ
+planned_status remedy advisories audited None = task_status remedy advisories audited
+planned_status remedy advisories audited (Some items) = plan_status items
 
 -- of audits of binaries: 1 where vulnerabilities were found, else 2 where errors were, else 0
 abbrev pub summary_status : MultiFileReportSummary → ℕ
@@ -52,4 +60,5 @@ is_early _ = true
 -- the starts that are planned
 abbrev pub steps_of : Remedy → List Advisory → Audited → List FixStep
 steps_of Report advisories audited = []
+steps_of Plan advisories audited = []
 steps_of (Fix dry_run) advisories audited = (plan_of dry_run advisories audited).steps

@@ -6,7 +6,7 @@ use Rattle.audit_words.specs.declared.commands.Command.{Command}
 use Rattle.audit_words.specs.declared.commands.Command.TheVariants as command
 use Rattle.audit_words.specs.declared.commands.FixCommand.{FixCommand}
 use Rattle.audit_words.specs.declared.commands.WordsFault.{WordsFault}
-use Rattle.audit_program.specs.declared.tasks.Remedy.TheVariants.{Report, Fix}
+use Rattle.audit_program.specs.declared.tasks.Remedy.TheVariants.{Report, Fix, Plan}
 use Rattle.audit_program.specs.declared.tasks.Task.{Task}
 
 -- the audit that `fix` makes: a lockfile that is named behind it stands for that of `audit`
@@ -17,10 +17,11 @@ abbrev pub fix_task : AuditCommand → FixCommand → Task
 fix_task audit more =
     record { command = fix_command audit more; remedy = Fix more.dry_run }
 
--- of `audit` and of `fix`; any other words ask for none
+-- of `audit`, of `fix` and of `plan`; any other words ask for none
 abbrev pub task_of : Result Command WordsFault → Option Task
 task_of (Ok (command.Audit audit)) = Some (record { command = audit; remedy = Report })
 task_of (Ok (command.Fix audit more)) = Some (fix_task audit more)
+task_of (Ok (command.Plan audit)) = Some (record { command = audit; remedy = Plan })
 task_of _ = None
 
 -- audits of binaries
@@ -28,9 +29,15 @@ abbrev pub AsksForBinaries : Result Command WordsFault → Type 0
 AsksForBinaries (Ok (command.Bin audit more)) = Unit {0}
 AsksForBinaries _ = ⊥
 
--- the options of `audit`, which stand in front of `fix` and `bin` too
+-- a plan
+abbrev pub AsksForPlan : Result Command WordsFault → Type 0
+AsksForPlan (Ok (command.Plan audit)) = Unit {0}
+AsksForPlan _ = ⊥
+
+-- the options of `audit`, which stand in front of `fix`, `bin` and `plan` too
 abbrev pub options_of : Result Command WordsFault → Option AuditCommand
 options_of (Ok (command.Audit audit)) = Some audit
 options_of (Ok (command.Fix audit more)) = Some (fix_command audit more)
 options_of (Ok (command.Bin audit more)) = Some audit
+options_of (Ok (command.Plan audit)) = Some audit
 options_of _ = None

@@ -71,6 +71,7 @@ fn run_given<F: Files, P: Decoder, W: Wire, D: CacheDisk, O: Sink, E: Sink>(
         (ending result.fault result.status)) }
     ensures audited { result.audited ≡ None }
     ensures generated { result.generated ≡ None }
+    ensures plan { result.plan ≡ None }
     ensures fault { IfSome result.fault IsPrintFault }
     ensures status { (f : RunFault) → result.fault ≡ Some f → result.status ≡ fault_status f }
     ensures has_binaries { (result.fault ≡ None) ⊎ (result.fault ≡ Some RunFault.Print)
@@ -137,6 +138,7 @@ fn run_given<F: Files, P: Decoder, W: Wire, D: CacheDisk, O: Sink, E: Sink>(
             audited: None,
             binaries: Some(binaries),
             generated: None,
+            plan: None,
             fault: None,
         },
         Err(fault) => failed(alloc, err, "", fault, None, Some(binaries)),
@@ -170,6 +172,7 @@ pub fn run_binaries<F: Files, P: Decoder, W: Wire, D: CacheDisk, O: Sink, E: Sin
         (ending result.fault result.status)) }
     ensures audited { result.audited ≡ None }
     ensures generated { result.generated ≡ None }
+    ensures plan { result.plan ≡ None }
     ensures has_binaries { (result.fault ≡ None) ⊎ (result.fault ≡ Some RunFault.Print)
         → IsSome result.binaries }
     ensures no_binaries { IfSome result.fault (λ f. IsTrue (is_early f) → result.binaries ≡ None) }

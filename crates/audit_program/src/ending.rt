@@ -10,13 +10,14 @@ use audit_core::Audited;
 use audit_generator::Generated;
 use audit_output::fault_line;
 use std::alloc::Global;
-use tame_names::{Sink, put_counted};
+use tame_names::{Items, Sink, put_counted};
+use upgrade_plan::PlanItem;
 
 /// How a run ended.
 #[derive(Drop)]
 pub struct Outcome {
     /// The status that the process should end with: 2 for a fault, or 3 for want of memory; else
-    /// that of the audit, of `fix` or of the audits of binaries, and 0 where words ask for a text
+    /// that of the audit, of `fix`, of `plan` or of the audits of binaries, and 0 where words ask for a text
     /// alone.
     pub status: u8,
     /// The audit of a lockfile, where one was made.
@@ -25,6 +26,8 @@ pub struct Outcome {
     pub binaries: Option<BinariesAudit>,
     /// The two audits of made packages, where they were made.
     pub generated: Option<Generated>,
+    /// The plan that was made of the audit, where one was asked for.
+    pub plan: Option<Items<PlanItem>>,
     pub fault: Option<RunFault>,
 }
 
@@ -80,6 +83,7 @@ pub fn failed<E: Sink>(
     ensures audited { result.audited ≡ audited }
     ensures binaries { result.binaries ≡ binaries }
     ensures generated { result.generated ≡ None }
+    ensures plan { result.plan ≡ None }
     ensures status { (f : RunFault) → result.fault ≡ Some f → result.status ≡ spec.fault_status f }
     // the line stands behind what was put before
     ensures ended { E.tells → (before text : List ℕ)
@@ -96,6 +100,7 @@ pub fn failed<E: Sink>(
         audited,
         binaries,
         generated: None,
+        plan: None,
         fault: Some(fault),
     }
 }

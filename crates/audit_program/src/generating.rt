@@ -43,6 +43,7 @@ pub fn run_generated<O: Sink, E: Sink>(alloc: Global, n: u64, out: &mut O, err: 
         → IsSome result.generated }
     ensures audited { result.audited ≡ None }
     ensures binaries { result.binaries ≡ None }
+    ensures plan { result.plan ≡ None }
     ensures fault { IfSome result.fault IsPrintFault }
     ensures rose { result.fault ≡ Some RunFault.Print
         → CountRose (O.faults out.old) (O.faults out.new) }
@@ -62,6 +63,7 @@ pub fn run_generated<O: Sink, E: Sink>(alloc: Global, n: u64, out: &mut O, err: 
             audited: None,
             binaries: None,
             generated: Some(made),
+            plan: None,
             fault: None,
         },
         Err(fault) => {

@@ -20,6 +20,7 @@ mod binary_runs;
 mod ending;
 mod fixing;
 mod generating;
+mod planning;
 mod running;
 mod task_runs;
 mod tasks;

@@ -25,7 +25,7 @@ ghost use Rattle.audit_program.specs.Moments.{binaries_telling, ending, fault_co
 ghost use Rattle.audit_program.specs.Outputs.{NeedsNoHost, IsEnded, IsPutBy, plain_text, words_place};
 ghost use Rattle.audit_program.specs.Runs.{IsRun};
 ghost use Rattle.audit_program.specs.Statuses.{fault_status, is_early};
-ghost use Rattle.audit_program.specs.Tasks.{AsksForBinaries, task_of};
+ghost use Rattle.audit_program.specs.Tasks.{AsksForBinaries, AsksForPlan, task_of};
 ghost use Rattle.audit_program.specs.declared.tasks.Task.{Task};
 
 use crate::binary_runs::run_binaries;
@@ -47,6 +47,7 @@ fn run_text<O: Sink, E: Sink>(alloc: Global, text: &str, out: &mut O, err: &mut 
     ensures audited { result.audited ≡ None }
     ensures binaries { result.binaries ≡ None }
     ensures generated { result.generated ≡ None }
+    ensures plan { result.plan ≡ None }
     ensures fault { IfSome result.fault IsPrintFault }
     ensures rose { result.fault ≡ Some RunFault.Print
         → CountRose (O.faults out.old) (O.faults out.new) }
@@ -63,6 +64,7 @@ fn run_text<O: Sink, E: Sink>(alloc: Global, text: &str, out: &mut O, err: &mut 
             audited: None,
             binaries: None,
             generated: None,
+            plan: None,
             fault: None,
         },
         Err(fault) => failed(alloc, err, "", fault, None, None),
@@ -71,7 +73,7 @@ fn run_text<O: Sink, E: Sink>(alloc: Global, text: &str, out: &mut O, err: &mut 
 
 /// Runs the command: reads the words, asks the host for settings, advisories and a lockfile or
 /// binaries, audits them, and prints the report or the verdicts; `fix` plans updates and starts
-/// them; `generate` audits what it makes; help and the version are printed alone. A fault is told
+/// them; `plan` tells which version each vulnerable package may go to; `generate` audits what it makes; help and the version are printed alone. A fault is told
 /// by a line on `err`.
 pub fn run<F: Files, P: Decoder, R: Runner, W: Wire, D: CacheDisk, O: Sink, E: Sink>(
     alloc: Global,
@@ -85,10 +87,10 @@ pub fn run<F: Files, P: Decoder, R: Runner, W: Wire, D: CacheDisk, O: Sink, E: S
     out: &mut O,
     err: &mut E,
 ) -> Outcome
-    // the audit of `audit` and of `fix`: of what the host has, by the settings and advisories
-    // there, on the lockfile's text; what it says (the headline, what was asked and named, the
-    // verdicts, what is kept, and its causes); what of its output was put, which steps were
-    // started, and the status
+    // the audit of `audit`, of `fix` and of `plan`: of what the host has, by the settings and
+    // advisories there, on the lockfile's text; what it says (the headline, what was asked and
+    // named, the verdicts, what is kept, and its causes); the plan that is made of it; what of its
+    // output was put, which steps were started, and the status
     ensures audited { IfSome result.audited (IsRun
         (telling F.tells R.tells W.tells D.tells O.tells E.tells)
         (map string_bytes words.now) (F.host files.old)
@@ -97,7 +99,7 @@ pub fn run<F: Files, P: Decoder, R: Runner, W: Wire, D: CacheDisk, O: Sink, E: S
         (starts (R.starts runner.old) (R.starts runner.new))
         (sinks (O.holds out.old) (O.holds out.new) (E.holds err.old) (E.holds err.new)
         (E.faults err.old) (E.faults err.new))
-        (ending result.fault result.status)) }
+        (ending result.fault result.status) result.plan) }
 
     // the audits of `bin`: of what stands at the paths and is decoded, each with what it says, one
     // after the other, and all together; what of their output was put, and the status
@@ -131,6 +133,7 @@ pub fn run<F: Files, P: Decoder, R: Runner, W: Wire, D: CacheDisk, O: Sink, E: S
         → (result.fault ≡ None) ⊎ (result.fault ≡ Some RunFault.Print) → IsSome result.generated }
     ensures no_audit { IfSome result.fault (λ f. IsTrue (is_early f)
         → (result.audited ≡ None) × (result.binaries ≡ None)) }
+    ensures no_plan { IfNone result.audited (result.plan ≡ None) }
 
     // the status of a fault, and where a text alone is printed
     ensures status { (f : RunFault) → result.fault ≡ Some f → result.status ≡ fault_status f }
@@ -242,7 +245,7 @@ pub fn run<F: Files, P: Decoder, R: Runner, W: Wire, D: CacheDisk, O: Sink, E: S
         (moment (W.exchanges wire.new) (D.past disk.new) (W.faults wire.new) (D.faults disk.new))
         (D.folders disk.new) (F.failed files.new) (F.faults files.new) (P.faults decoder.new))) }
     // the wire isn't called but for online checks, and then alone a file of the cache may change
-    // and folders be made; where checks are off the disk isn't called
+    // and folders be made; where checks are off the disk isn't called but for a plan, which reads
     ensures unasked { F.tells → (config : AuditConfig)
         → Settles (map string_bytes words.now) (F.host files.old) config
         → checks_of config ≢ Checks.Online → wire.new ≡ wire.old }
@@ -255,6 +258,7 @@ pub fn run<F: Files, P: Decoder, R: Runner, W: Wire, D: CacheDisk, O: Sink, E: S
         → checks_of config ≢ Checks.Online → D.folders disk.new ≡ D.folders disk.old }
     ensures off { F.tells → (config : AuditConfig)
         → Settles (map string_bytes words.now) (F.host files.old) config
+        → (AsksForPlan (command_of (map string_bytes words.now)) → ⊥)
         → checks_of config ≡ Checks.Off → disk.new ≡ disk.old }
 {
     match read_words(alloc, words) {
@@ -267,6 +271,13 @@ pub fn run<F: Files, P: Decoder, R: Runner, W: Wire, D: CacheDisk, O: Sink, E: S
         }
         Ok(Command::Fix(command, more)) => {
             let task = fix_task(command, more);
+            run_task(alloc, &task, files, runner, lock, wire, disk, out, err)
+        }
+        Ok(Command::Plan(command)) => {
+            let task = Task {
+                command,
+                remedy: Remedy::Plan,
+            };
             run_task(alloc, &task, files, runner, lock, wire, disk, out, err)
         }
         Ok(Command::Bin(command, more)) => run_binaries(

@@ -1,4 +1,4 @@
-//! Runs of audits of lockfiles: `audit` and `fix`.
+//! Runs of audits of lockfiles: `audit`, `fix` and `plan`.
 ghost use Rattle.std.specs.Prelude.{◌≡◌, ◌≢◌, ◌⊎◌, ◌≤◌, ◌<◌, ◌++◌, [], ℕ, List, pos, Ok, Err, Some, None, IsTrue, IsSome, IfSome, IfNone};
 ghost use Rattle.tame_names.specs.Counts.{CountRose, CountRoseBy};
 ghost use Rattle.tame_names.specs.Standing.{IsInput, StaysButInput};
@@ -11,7 +11,7 @@ ghost use Rattle.audit_asked.specs.Places.{place_of};
 ghost use Rattle.audit_asked.specs.Settings.{settled};
 ghost use Rattle.audit_asked.specs.Starts.{StartsAtMost};
 ghost use Rattle.audit_asked.specs.declared.asking.Asked.{Asked};
-ghost use Rattle.audit_core.specs.Audits.{IsAuditOf, KeepsOthers, MakesAskedFolders};
+ghost use Rattle.audit_core.specs.Audits.{KeepsOthers, MakesAskedFolders};
 ghost use Rattle.audit_core.specs.Auditors.{auditor_of};
 ghost use Rattle.audit_core.specs.Checks.{asked_of, checks_of};
 ghost use Rattle.audit_core.specs.Turns.{AddsPart, StaysKept};
@@ -22,10 +22,11 @@ ghost use Rattle.audit_program.specs.Moments.{ending, given_telling, moment, sin
 ghost use Rattle.audit_program.specs.Outputs.{IsEnded, IsPutBy};
 ghost use Rattle.audit_program.specs.Runs.{IsGivenRun, IsRunOf};
 ghost use Rattle.audit_program.specs.Statuses.{fault_status, is_early};
+ghost use Rattle.audit_program.specs.declared.tasks.Remedy.TheVariants as Remedy;
 
-use crate::auditing::audit;
 use crate::ending::{Outcome, failed};
 use crate::fixing::finish;
+use crate::planning::audit_planned;
 use crate::tasks::Task;
 use audit_asked::{Asked, RunFault, Runner, ask};
 use audit_core::Auditor;
@@ -55,7 +56,7 @@ fn run_given<R: Runner, W: Wire, D: CacheDisk, O: Sink, E: Sink>(
         (starts (R.starts runner.old) (R.starts runner.new))
         (sinks (O.holds out.old) (O.holds out.new) (E.holds err.old) (E.holds err.new)
         (E.faults err.old) (E.faults err.new))
-        (ending result.fault result.status)) }
+        (ending result.fault result.status) result.plan) }
     ensures fault { IfSome result.fault (IsAskedFault given) }
     ensures rose { result.fault ≡ Some RunFault.Print
         → CountRose (O.faults out.old) (O.faults out.new)
@@ -70,6 +71,7 @@ fn run_given<R: Runner, W: Wire, D: CacheDisk, O: Sink, E: Sink>(
     ensures unstarted { IfNone result.audited (runner.new ≡ runner.old) }
     ensures binaries { result.binaries ≡ None }
     ensures generated { result.generated ≡ None }
+    ensures no_plan { IfNone result.audited (result.plan ≡ None) }
     ensures status { (f : RunFault) → result.fault ≡ Some f → result.status ≡ fault_status f }
     ensures unaudited_out { IfNone result.audited (out.new ≡ out.old) }
     ensures unaudited_err { E.tells → IfNone result.audited
@@ -98,7 +100,8 @@ fn run_given<R: Runner, W: Wire, D: CacheDisk, O: Sink, E: Sink>(
         → (q : List ℕ) → D.past disk.new q ≡ D.past disk.old q }
     ensures unmade { checks_of given.config ≢ Checks.Online → D.tells
         → D.folders disk.new ≡ D.folders disk.old }
-    ensures off { checks_of given.config ≡ Checks.Off → disk.new ≡ disk.old }
+    ensures off { task.now.remedy ≢ Remedy.Plan → checks_of given.config ≡ Checks.Off
+        → disk.new ≡ disk.old }
 {
     let Asked {
         config,
@@ -110,8 +113,9 @@ fn run_given<R: Runner, W: Wire, D: CacheDisk, O: Sink, E: Sink>(
     let Ok(auditor) = Auditor::of(alloc, &config, advisories) else {
         return failed(alloc, err, task.place(), RunFault::NoMemory, None, None);
     };
-    let audited = match audit(alloc, &auditor, text.as_str(), lock, wire, disk) {
-        Ok(audited) => audited,
+    let text = text.as_str();
+    let planned = match audit_planned(alloc, task.remedy, &auditor, text, lock, wire, disk) {
+        Ok(planned) => planned,
         Err(fault) => return failed(alloc, err, task.place(), fault, None, None),
     };
     let sheet = Sheet {
@@ -119,17 +123,23 @@ fn run_given<R: Runner, W: Wire, D: CacheDisk, O: Sink, E: Sink>(
         place: place.as_str(),
         database: database.as_str(),
         auditor: &auditor,
-        audited: &audited,
+        audited: &planned.audited,
     };
-    match finish(alloc, task, &sheet, runner, out, err) {
+    match finish(alloc, task, &sheet, &planned.plan, runner, out, err) {
         Ok(status) => Outcome {
             status,
-            audited: Some(audited),
+            audited: Some(planned.audited),
             binaries: None,
             generated: None,
+            plan: planned.plan,
             fault: None,
         },
-        Err(fault) => failed(alloc, err, task.place(), fault, Some(audited), None),
+        Err(fault) => {
+            let audited = Some(planned.audited);
+            let mut outcome = failed(alloc, err, task.place(), fault, audited, None);
+            outcome.plan = planned.plan;
+            outcome
+        }
     }
 }
 
@@ -153,12 +163,13 @@ pub fn run_task<F: Files, R: Runner, W: Wire, D: CacheDisk, O: Sink, E: Sink>(
         (starts (R.starts runner.old) (R.starts runner.new))
         (sinks (O.holds out.old) (O.holds out.new) (E.holds err.old) (E.holds err.new)
         (E.faults err.old) (E.faults err.new))
-        (ending result.fault result.status)) }
+        (ending result.fault result.status) result.plan) }
     ensures has_audit { (result.fault ≡ None) ⊎ (result.fault ≡ Some RunFault.Print)
         → IsSome result.audited }
     ensures no_audit { IfSome result.fault (λ f. IsTrue (is_early f) → result.audited ≡ None) }
     ensures binaries { result.binaries ≡ None }
     ensures generated { result.generated ≡ None }
+    ensures no_plan { IfNone result.audited (result.plan ≡ None) }
     ensures status { (f : RunFault) → result.fault ≡ Some f → result.status ≡ fault_status f }
     ensures unaudited_out { O.tells → IfNone result.audited
         (IsPutBy (O.holds out.old) [] result.fault (O.holds out.new)) }
@@ -222,7 +233,8 @@ pub fn run_task<F: Files, R: Runner, W: Wire, D: CacheDisk, O: Sink, E: Sink>(
         → checks_of config ≢ Checks.Online → D.folders disk.new ≡ D.folders disk.old }
     ensures off { F.tells → (config : AuditConfig)
         → settled task.now.command (F.host files.old) ≡ Ok config
-        → checks_of config ≡ Checks.Off → disk.new ≡ disk.old }
+        → task.now.remedy ≢ Remedy.Plan → checks_of config ≡ Checks.Off
+        → disk.new ≡ disk.old }
 {
     match ask(alloc, &task.command, files, runner) {
         Ok(given) => run_given(alloc, task, given, runner, lock, wire, disk, out, err),

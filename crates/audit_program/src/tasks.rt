@@ -13,6 +13,8 @@ pub enum Remedy {
     Report,
     /// Updates are planned and started as well; in a dry run cargo is told to change nothing.
     Fix { dry_run: bool },
+    /// For each vulnerable package the version that it may go to is told, in place of a report.
+    Plan,
 }
 
 /// An audit of a lockfile.

@@ -12,7 +12,7 @@ use Rattle.audit_words.specs.declared.drafts.Stop.{Stop}
 use Rattle.audit_words.specs.declared.drafts.Stop.TheVariants as stop
 use Rattle.audit_words.specs.declared.options.Meaning.{Meaning}
 use Rattle.audit_words.specs.declared.options.Phase.{Phase}
-use Rattle.audit_words.specs.declared.options.Phase.TheVariants.{Before, Audit, Fix, Bin, Paths, Generate, Generated}
+use Rattle.audit_words.specs.declared.options.Phase.TheVariants.{Before, Audit, Fix, Bin, Paths, Plan, Generate, Generated}
 
 abbrev ended_well : Command → Result Command Stop
 ended_well c = Ok c
@@ -35,6 +35,7 @@ phase_case : (p : Phase) (d : Draft) (n : ℕ) → finish_phase p d ≡ Ok (comm
 phase_case Before d n h = cc
 phase_case Audit d n h = cc
 phase_case Fix d n h = cc
+phase_case Plan d n h = cc
 phase_case Bin d n h = paths_case (is_empty d.bin.binary_paths) (command.Bin d.audit d.bin) n (λ no. cc) h
 phase_case Paths d n h = paths_case (is_empty d.bin.binary_paths) (command.Bin d.audit d.bin) n (λ no. cc) h
 phase_case Generate d n h = cc

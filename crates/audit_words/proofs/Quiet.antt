@@ -7,7 +7,7 @@ use Rattle.audit_words.specs.Reading.{add_listed, allowed, alone, and_then, begu
 use Rattle.audit_words.specs.Laws.{drafted, quieted, was_quiet}
 use Rattle.audit_words.proofs.Places.{closed, drafted_append, from_drafted, to_drafted}
 use Rattle.audit_words.specs.declared.options.Phase.{Phase}
-use Rattle.audit_words.specs.declared.options.Phase.TheVariants.{Before, Audit, Fix, Bin, Paths, Generate, Generated}
+use Rattle.audit_words.specs.declared.options.Phase.TheVariants.{Before, Audit, Fix, Bin, Paths, Plan, Generate, Generated}
 use Rattle.audit_words.specs.declared.options.Flag.{Flag}
 use Rattle.audit_words.specs.declared.options.Flag.TheVariants.{Help, Version, Verbose, NoYanked, NoFetch, Stale, Quiet, Json, Verdicts, DryRun, PathsFollow}
 use Rattle.audit_words.specs.declared.options.Single.{Single}
@@ -231,6 +231,7 @@ generates Before = false
 generates Audit = false
 generates Fix = false
 generates Bin = false
+generates Plan = false
 generates Paths = false
 generates Generate = true
 generates (Generated n) = true
@@ -286,14 +287,18 @@ well_plain Before word d same =
     (well_made (λ d. record d { phase = Audit }) d same refl refl) (well_err stop.Wrong d)
 well_plain Audit word d same =
     well_cond (bytes_eq word (codes "fix")) (λ d. ok (record d { phase = Fix }))
-    (λ d. cond (bytes_eq word (codes "bin")) (ok (record d { phase = Bin })) (cond (bytes_eq word (codes "generate")) (begun_generate (is_bare d.audit) d) (Err stop.Wrong))) d
+    (λ d. cond (bytes_eq word (codes "bin")) (ok (record d { phase = Bin })) (cond (bytes_eq word (codes "plan")) (ok (record d { phase = Plan })) (cond (bytes_eq word (codes "generate")) (begun_generate (is_bare d.audit) d) (Err stop.Wrong)))) d
     (well_made (λ d. record d { phase = Fix }) d same refl refl)
     (well_cond (bytes_eq word (codes "bin")) (λ d. ok (record d { phase = Bin }))
-    (λ d. cond (bytes_eq word (codes "generate")) (begun_generate (is_bare d.audit) d) (Err stop.Wrong)) d
+    (λ d. cond (bytes_eq word (codes "plan")) (ok (record d { phase = Plan })) (cond (bytes_eq word (codes "generate")) (begun_generate (is_bare d.audit) d) (Err stop.Wrong))) d
     (well_made (λ d. record d { phase = Bin }) d same refl refl)
+    (well_cond (bytes_eq word (codes "plan")) (λ d. ok (record d { phase = Plan }))
+    (λ d. cond (bytes_eq word (codes "generate")) (begun_generate (is_bare d.audit) d) (Err stop.Wrong)) d
+    (well_made (λ d. record d { phase = Plan }) d same refl refl)
     (well_cond (bytes_eq word (codes "generate")) (λ d. begun_generate (is_bare d.audit) d) (λ d. Err stop.Wrong) d
-    (λ e h l. begun_case (Loud d × (begun_generate (is_bare (quiet d).audit) (quiet d) ≡ Ok (quiet e))) (is_bare d.audit) d e h l) (well_err stop.Wrong d)))
+    (λ e h l. begun_case (Loud d × (begun_generate (is_bare (quiet d).audit) (quiet d) ≡ Ok (quiet e))) (is_bare d.audit) d e h l) (well_err stop.Wrong d))))
 well_plain Fix word d same = well_err stop.Wrong d
+well_plain Plan word d same = well_err stop.Wrong d
 well_plain Bin word d same = well_made (with_path word) d same refl refl
 well_plain Paths word d same = well_made (with_path word) d same refl refl
 well_plain Generate word d same = λ e h l.
@@ -305,6 +310,7 @@ options_generate_nothing Before h = refl
 options_generate_nothing Audit h = refl
 options_generate_nothing Fix h = refl
 options_generate_nothing Bin h = refl
+options_generate_nothing Plan h = refl
 options_generate_nothing Paths h = refl
 options_generate_nothing Generate h = cc
 options_generate_nothing (Generated n) h = cc
@@ -415,6 +421,7 @@ phase_case : (p : Phase) (e : Draft) (c : Command) → finish_phase p e ≡ Ok c
 phase_case Before e c h q = cc
 phase_case Audit e c h q = (refl, made_case e (command.Audit e.audit) c refl h q)
 phase_case Fix e c h q = (refl, made_case e (command.Fix e.audit e.fix) c refl h q)
+phase_case Plan e c h q = (refl, made_case e (command.Plan e.audit) c refl h q)
 phase_case Bin e c h q = (refl, bin_case (is_empty e.bin.binary_paths) e c h q)
 phase_case Paths e c h q = (refl, bin_case (is_empty e.bin.binary_paths) e c h q)
 phase_case Generate e c h q = cc

@@ -61,6 +61,7 @@ was_quiet command.Version = None
 was_quiet (command.Audit a) = Some a.quiet
 was_quiet (command.Fix a f) = Some a.quiet
 was_quiet (command.Bin a b) = Some a.quiet
+was_quiet (command.Plan a) = Some a.quiet
 was_quiet (command.Generate n) = None
 
 -- the same command, quiet
@@ -70,4 +71,5 @@ quieted command.Version = command.Version
 quieted (command.Audit a) = command.Audit (record a { quiet = true })
 quieted (command.Fix a f) = command.Fix (record a { quiet = true }) f
 quieted (command.Bin a b) = command.Bin (record a { quiet = true }) b
+quieted (command.Plan a) = command.Plan (record a { quiet = true })
 quieted (command.Generate n) = command.Generate n

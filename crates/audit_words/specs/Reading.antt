@@ -6,7 +6,7 @@ use Rattle.audit_settings.specs.declared.commands.AuditCommand.{AuditCommand}
 use Rattle.audit_words.specs.Options.{options, by_long, by_letter, is_flag}
 use Rattle.audit_words.specs.Values.{is_empty, color_of, unless_empty, number, is_makeable, packages_of, after, without_equals, name_part, joined_value}
 use Rattle.audit_words.specs.declared.options.Phase.{Phase}
-use Rattle.audit_words.specs.declared.options.Phase.TheVariants.{Before, Audit, Fix, Bin, Paths, Generate, Generated}
+use Rattle.audit_words.specs.declared.options.Phase.TheVariants.{Before, Audit, Fix, Bin, Paths, Plan, Generate, Generated}
 use Rattle.audit_words.specs.declared.options.Flag.{Flag}
 use Rattle.audit_words.specs.declared.options.Flag.TheVariants.{Help, Version, Verbose, NoYanked, NoFetch, Stale, Quiet, Json, Verdicts, DryRun, PathsFollow}
 use Rattle.audit_words.specs.declared.options.Single.{Single}
@@ -201,9 +201,11 @@ read_plain Before word d =
 read_plain Audit word d =
     if bytes_eq word (codes "fix") then Ok (record d { phase = Fix })
     else if bytes_eq word (codes "bin") then Ok (record d { phase = Bin })
+    else if bytes_eq word (codes "plan") then Ok (record d { phase = Plan })
     else if bytes_eq word (codes "generate") then begun_generate (is_bare d.audit) d
     else Err stop.Wrong
 read_plain Fix word d = Err stop.Wrong
+read_plain Plan word d = Err stop.Wrong
 read_plain Bin word d = Ok (with_path word d)
 read_plain Paths word d = Ok (with_path word d)
 read_plain Generate word d =
@@ -216,6 +218,7 @@ has_options Before = true
 has_options Audit = true
 has_options Fix = true
 has_options Bin = true
+has_options Plan = true
 has_options Paths = false
 has_options Generate = false
 has_options (Generated n) = false
@@ -240,6 +243,7 @@ abbrev pub finish_phase : Phase → Draft → Result Command Stop
 finish_phase Before d = Err stop.Wrong
 finish_phase Audit d = Ok (command.Audit d.audit)
 finish_phase Fix d = Ok (command.Fix d.audit d.fix)
+finish_phase Plan d = Ok (command.Plan d.audit)
 finish_phase Bin d =
     if is_empty d.bin.binary_paths then Err stop.Wrong else Ok (command.Bin d.audit d.bin)
 finish_phase Paths d =

@@ -49,6 +49,8 @@ pub enum Command {
     Fix(AuditCommand, FixCommand),
     /// Audit programs.
     Bin(AuditCommand, BinCommand),
+    /// Audit a lockfile and tell which version each vulnerable package may go to.
+    Plan(AuditCommand),
     /// Make a world of so many packages, 1 to 5,000, and audit it twice.
     Generate(u64),
 }

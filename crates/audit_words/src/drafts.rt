@@ -318,6 +318,7 @@ impl Draft {
             (Phase::Before, "audit") => self.phase = Phase::Audit,
             (Phase::Audit, "fix") => self.phase = Phase::Fix,
             (Phase::Audit, "bin") => self.phase = Phase::Bin,
+            (Phase::Audit, "plan") => self.phase = Phase::Plan,
             (Phase::Audit, "generate") => {
                 if !is_bare(&self.audit) {
                     return Err(Stop::Wrong);
@@ -327,9 +328,8 @@ impl Draft {
             (Phase::Generate, _) => {
                 self.phase = Phase::Generated(packages_of(word).ok_or(Stop::Wrong)?);
             }
-            (Phase::Before | Phase::Audit | Phase::Fix | Phase::Generated(_), _) => {
-                return Err(Stop::Wrong);
-            }
+            (Phase::Before | Phase::Audit | Phase::Fix | Phase::Plan | Phase::Generated(_), _) =>
+                return Err(Stop::Wrong),
             (Phase::Bin | Phase::Paths, _) => return self.add_path(alloc, word),
         }
         Ok(())
@@ -339,7 +339,7 @@ impl Draft {
         ensures { result ≡ spec.has_options self.now.phase }
     {
         match self.phase {
-            Phase::Before | Phase::Audit | Phase::Fix | Phase::Bin => true,
+            Phase::Before | Phase::Audit | Phase::Fix | Phase::Bin | Phase::Plan => true,
             Phase::Paths | Phase::Generate | Phase::Generated(_) => false,
         }
     }
@@ -388,6 +388,7 @@ impl Draft {
             }
             Phase::Audit => Ok(Command::Audit(self.audit)),
             Phase::Fix => Ok(Command::Fix(self.audit, self.fix)),
+            Phase::Plan => Ok(Command::Plan(self.audit)),
             Phase::Bin | Phase::Paths => {
                 if self.bin.binary_paths.as_slice().is_empty() {
                     Err(Stop::Wrong)

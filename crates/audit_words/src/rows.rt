@@ -2,7 +2,7 @@
 ghost use Rattle.std.specs.Prelude.{◌≡◌, codes, [], ◌∷◌, true, Some, None, Ok, Err};
 ghost use Rattle.audit_words.specs.Reading.{command_of, start};
 ghost use Rattle.audit_words.specs.Values.{number};
-ghost use Rattle.audit_words.specs.declared.commands.Command.TheVariants.{Audit, Bin, Fix, Generate, Help};
+ghost use Rattle.audit_words.specs.declared.commands.Command.TheVariants.{Audit, Bin, Fix, Generate, Help, Plan};
 ghost use Rattle.audit_advisory.specs.declared.outputs.DenyOption.TheVariants.{Yanked};
 ghost use Rattle.audit_words.specs.declared.commands.WordsFault.TheVariants.{Usage};
 
@@ -19,6 +19,8 @@ pub fn accepted()
     ensures paths { command_of
         (codes "audit" ∷ codes "bin" ∷ codes "a" ∷ codes "--" ∷ codes "-h" ∷ [])
         ≡ Ok (Bin start.audit (record start.bin { binary_paths = codes "a" ∷ codes "-h" ∷ [] })) }
+    ensures plan { command_of (codes "audit" ∷ codes "-q" ∷ codes "plan" ∷ [])
+        ≡ Ok (Plan (record start.audit { quiet = true })) }
     ensures made_packages { command_of (codes "audit" ∷ codes "generate" ∷ codes "5000" ∷ [])
         ≡ Ok (Generate 5000) }
     ensures largest { number (codes "18446744073709551615") ≡ Some 18446744073709551615 }
@@ -48,6 +50,8 @@ pub fn refused()
         (codes "audit" ∷ codes "-q" ∷ codes "generate" ∷ codes "5" ∷ []) ≡ Err (Usage 2) }
     ensures word_behind_number { command_of
         (codes "audit" ∷ codes "generate" ∷ codes "5" ∷ codes "-h" ∷ []) ≡ Err (Usage 3) }
+    ensures word_behind_plan { command_of (codes "audit" ∷ codes "plan" ∷ codes "-q" ∷ [])
+        ≡ Err (Usage 2) }
     ensures no_version_behind_fix { command_of (codes "audit" ∷ codes "fix" ∷ codes "-V" ∷ [])
         ≡ Err (Usage 2) }
 {}

@@ -11,33 +11,47 @@ Looks up the packages of a lockfile among the security advisories, and asks the
 index whether their versions are yanked.
 
 Usage:
-  cargo audit [OPTION]..                      a lockfile
-  cargo audit [OPTION].. fix [FIX OPTION]..   and update what is vulnerable
+  cargo audit [OPTION]..
+      a lockfile
+  cargo audit [OPTION].. fix [FIX OPTION]..
+      and update what is vulnerable
   cargo audit [OPTION].. bin [BIN OPTION].. PATH..
-                                              files that hold a lockfile between the lines
-                                              `#cargo-lock begin` and `#cargo-lock end`
-  cargo audit generate N                      N made packages, 1 to 5000, audited twice in
-                                              memory, without files or an index
+      files that hold a lockfile between the lines `#cargo-lock begin` and
+      `#cargo-lock end`
+  cargo audit [OPTION].. plan
+      the version that each vulnerable package may go to
+  cargo audit generate N
+      N made packages, 1 to 5000, audited twice in memory, without files or an
+      index
 
 Before audit may stand:
   -v, --verbose            read, but not used
   -h, --help; -V, --version
 
-Options (defaults are those without settings; --ignore and --deny add to their lists):
-  -f, --file PATH          the lockfile, `-` for standard input (default: Cargo.lock)
-  -d, --db PATH            the advisories' folder (default: advisory-db in cargo's home)
-  -D, --deny KIND          end with 1 on a warning too: warnings (any but notices, and
-                           advisories on cargo-audit itself), unmaintained, unsound or
-                           yanked (default: none); repeatable
-      --ignore ID          leave out the advisory with this id (default: none); repeatable
-      --target-arch ARCH   only what affects this architecture (default: all); repeatable
-      --target-os OS       only what affects this system (default: all); repeatable
+Options (defaults are those without settings; --ignore and --deny add to their
+lists):
+  -f, --file PATH          the lockfile, `-` for standard input
+                           (default: Cargo.lock)
+  -d, --db PATH            the advisories' folder
+                           (default: advisory-db in cargo's home)
+  -D, --deny KIND          end with 1 on a warning too: warnings (any but
+                           notices, and advisories on cargo-audit itself),
+                           unmaintained, unsound or yanked (default: none);
+                           repeatable
+      --ignore ID          leave out the advisory with this id (default: none);
+                           repeatable
+      --target-arch ARCH   only what affects this architecture (default: all);
+                           repeatable
+      --target-os OS       only what affects this system (default: all);
+                           repeatable
       --no-yanked          don't check for yanked versions (default: check)
   -n, --no-fetch           don't ask the index, only its cache (default: ask)
       --format FORM        terminal, json or sarif (default: terminal)
       --json               the same as --format json, and stronger
-  -q, --quiet              fewer status lines and no dependency trees (default: both)
-      --verdicts           print for each package whether it is yanked, and no report
+  -q, --quiet              fewer status lines and no dependency trees
+                           (default: both)
+      --verdicts           print for each package whether it is yanked, and no
+                           report
   -u, --url URL            read, but not used
       --stale              read, but not used
   -c, --color WHEN         always, auto or never; read, but not used
@@ -46,35 +60,40 @@ Options (defaults are those without settings; --ignore and --deny add to their l
 
 Fix options:
   -f, --file PATH          the lockfile (default: that of the options in front)
-      --dry-run            pass --dry-run on to cargo (default: change the lockfile)
+      --dry-run            pass --dry-run on to cargo
+                           (default: change the lockfile)
   -h, --help               print this text
 
 Bin options:
       --max-binary-size N         bytes that a file may have, 0 for any number
                                   (default: 104857600)
-      --audit-data-size-limit N   bytes that its lockfile may have (default: 8388608)
+      --audit-data-size-limit N   bytes that its lockfile may have
+                                  (default: 8388608)
       --                          only paths follow
   -h, --help                      print this text
 
-The value of an option x is given as --x=v, --x v, -xv, -x=v or -x v; one that begins
-with a dash is joined: --x=-v. Options of one letter without a value may be joined: -nq.
-Only repeatable options may be repeated.
+The value of an option x is given as --x=v, --x v, -xv, -x=v or -x v; one that
+begins with a dash is joined: --x=-v. Options of one letter without a value may
+be joined: -nq. Only repeatable options may be repeated.
 
 Exit status:
   0   nothing was found that makes the audit fail
   1   a vulnerability, or a warning that is denied
-  2   a fault: a bad word, bad settings, a file that can't be read or is refused;
-      under bin, where nothing makes an audit fail, also an advisory on cargo-audit
-      itself with -D warnings
+  2   a fault: a bad word, bad settings, a file that can't be read or is
+      refused; under bin, where nothing makes an audit fail, also an advisory on
+      cargo-audit itself with -D warnings
   3   out of memory
-  Under fix: 2 also where cargo couldn't be started, 1 in a dry run where something has
-  no patched version, and otherwise 0. This program starts no cargo, so fix ends with 2
-  where there is something to update.
+  Under fix: 2 also where cargo couldn't be started, 1 in a dry run where
+  something has no patched version, and otherwise 0. This program starts no
+  cargo, so fix ends with 2 where there is something to update.
+  Under plan: 1 where a vulnerable package has no safe version or no record,
+  otherwise 0.
 
 Environment:
   CARGO_HOME            cargo's home (default: .cargo in HOME)
   CARGO_AUDIT_INDEX     the folder of the cache (default: index-cache)
-  CARGO_AUDIT_MIRROR    the folder that stands for the index (default: index-mirror)
+  CARGO_AUDIT_MIRROR    the folder that stands for the index
+                        (default: index-mirror)
 
 Files:
   .cargo/audit.toml     the settings; without it, audit.toml in cargo's home

@@ -33,6 +33,7 @@ fn cache_use(rt: &HostRuntime, words: &[String]) -> Result<CacheUse, StartFault>
     match read_words(rt.alloc(), words) {
         Ok(Command::Audit(options)) => Ok(use_of(&options)),
         Ok(Command::Fix(options, _more)) => Ok(use_of(&options)),
+        Ok(Command::Plan(options)) => Ok(use_of(&options)),
         Ok(Command::Bin(options, _more)) => Ok(use_of(&options)),
         Ok(Command::Help) => Ok(CacheUse::Nothing),
         Ok(Command::Version) => Ok(CacheUse::Nothing),

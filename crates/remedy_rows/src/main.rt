@@ -4,11 +4,13 @@
 //!
 //! - `baseline`: texts of findings, what they read to and write, and audits against them;
 //! - `plan`: versions that are compatible, and plans for the packages of small lockfiles, by disks
-//!   in memory.
+//!   in memory;
+//! - `vendor`: registries that are made of audited lockfiles.
 #![tactic(auto)]
 
 mod baseline;
 mod plan;
+mod vendor;
 
 use row_fixtures::{Row, RowFault, Table, answer_lines};
 use std::alloc::Global;
@@ -20,6 +22,7 @@ enum Section {
     Unnamed,
     Baseline(baseline::Stage),
     Plan(plan::Stage),
+    Vendor(vendor::Stage),
 }
 
 impl Section {
@@ -29,6 +32,7 @@ impl Section {
         *self = match name {
             "baseline" => Section::Baseline(baseline::Stage::new(alloc)),
             "plan" => Section::Plan(plan::Stage::new(alloc)),
+            "vendor" => Section::Vendor(vendor::Stage::new(alloc)?),
             _ => return Err(RowFault::Unread),
         };
         Ok(format!(in alloc; "== {name}")?)
@@ -45,6 +49,7 @@ impl Table for Section {
             Section::Unnamed => Err(RowFault::Unread),
             Section::Baseline(stage) => baseline::answer(alloc, stage, row),
             Section::Plan(stage) => plan::answer(alloc, stage, row),
+            Section::Vendor(stage) => vendor::answer(alloc, stage, row),
         }
     }
 }

@@ -6,10 +6,10 @@ use Rattle.audit_words.specs.declared.commands.Command.TheVariants as command
 use Rattle.audit_asked.specs.declared.faults.RunFault.TheVariants as fault
 use Rattle.audit_core.proofs.Exchanged.{keeps_nothing, part_none}
 use Rattle.audit_program.specs.Outputs.{NeedsNoHost, words_place}
-use Rattle.audit_program.specs.Tasks.{AsksForBinaries, fix_task, task_of}
-use Rattle.audit_program.specs.declared.tasks.Remedy.TheVariants.{Report}
+use Rattle.audit_program.specs.Tasks.{AsksForBinaries, AsksForPlan, fix_task, task_of}
+use Rattle.audit_program.specs.declared.tasks.Remedy.TheVariants.{Report, Plan}
 use Rattle.audit_program.proofs.Commands.{accepted_by, bin_cause, if_none, if_none_then, made_cause, made_run, no_memory_called, not_both, plain_none, plain_put, task_cause}
-use Rattle.audit_program.proofs.Completing.{bin_complete, made_complete, task_complete}
+use Rattle.audit_program.proofs.Completing.{made_complete, task_complete}
 use Rattle.audit_program.proofs.Ended.{ended_by}
 use Rattle.audit_program.proofs.Putting.{put_nothing}
 use Rattle.audit_program.proofs.Starting.{none_started}
@@ -187,3 +187,50 @@ pub run_generated-requires : goal.run_generated-requires
 run_generated-requires g c =
     let mine = rw c.in-Ok-Generate.field-0-is at c.in-Ok-Generate.ensures.ok in
     (bounded (map string_bytes c.args.words.now) c.in-Ok-Generate.count mine).1
+
+pub returns-in-Ok-Plan-clause-cause : goal.returns-in-Ok-Plan-clause-cause
+returns-in-Ok-Plan-clause-cause g c =
+    let mine = rw c.in-Ok-Plan.field-0-is at c.in-Ok-Plan.ensures.ok in
+    task_cause g.F.Files.tells (map string_bytes c.args.words.now) (g.F.Files.host c.args.files.now) (record { command = c.in-Ok-Plan.command; remedy = Plan }) c.run_task-in-Ok-Plan.result.fault (ap task_of mine) c.run_task-in-Ok-Plan.ensures.cause
+
+pub returns-in-Ok-Plan-clause-complete : goal.returns-in-Ok-Plan-clause-complete
+returns-in-Ok-Plan-clause-complete g c told ready quiet =
+    let mine = rw c.in-Ok-Plan.field-0-is at c.in-Ok-Plan.ensures.ok in
+    task_complete g.F.Files.tells (map string_bytes c.args.words.now) (g.F.Files.host c.args.files.now) (record { command = c.in-Ok-Plan.command; remedy = Plan }) _ _ c.run_task-in-Ok-Plan.result.fault (ap task_of mine) ready told c.run_task-in-Ok-Plan.ensures.cause
+    (record { print = c.run_task-in-Ok-Plan.ensures.rose; file = c.run_task-in-Ok-Plan.ensures.file_rose; start = c.run_task-in-Ok-Plan.ensures.start_rose }) quiet
+
+pub returns-in-Ok-Plan-clause-part : goal.returns-in-Ok-Plan-clause-part
+returns-in-Ok-Plan-clause-part g c told_files told given packages accepts =
+    let mine = rw c.in-Ok-Plan.field-0-is at c.in-Ok-Plan.ensures.ok in
+    c.run_task-in-Ok-Plan.ensures.part told_files told given packages (accepted_by (map string_bytes c.args.words.now) (g.F.Files.host c.args.files.now) (record { command = c.in-Ok-Plan.command; remedy = Plan }) given packages (ap task_of mine) accepts) accepts.lockfile
+
+pub returns-in-Ok-Plan-clause-folders : goal.returns-in-Ok-Plan-clause-folders
+returns-in-Ok-Plan-clause-folders g c told_files told given packages accepts =
+    let mine = rw c.in-Ok-Plan.field-0-is at c.in-Ok-Plan.ensures.ok in
+    c.run_task-in-Ok-Plan.ensures.folders told_files told given packages (accepted_by (map string_bytes c.args.words.now) (g.F.Files.host c.args.files.now) (record { command = c.in-Ok-Plan.command; remedy = Plan }) given packages (ap task_of mine) accepts) accepts.lockfile
+
+pub returns-in-Ok-Plan-clause-others : goal.returns-in-Ok-Plan-clause-others
+returns-in-Ok-Plan-clause-others g c told_files told given packages accepts q other =
+    let mine = rw c.in-Ok-Plan.field-0-is at c.in-Ok-Plan.ensures.ok in
+    c.run_task-in-Ok-Plan.ensures.others told_files told given packages (accepted_by (map string_bytes c.args.words.now) (g.F.Files.host c.args.files.now) (record { command = c.in-Ok-Plan.command; remedy = Plan }) given packages (ap task_of mine) accepts) accepts.lockfile q other
+
+pub returns-in-Ok-Plan-clause-unaccepted : goal.returns-in-Ok-Plan-clause-unaccepted
+returns-in-Ok-Plan-clause-unaccepted g c told task is none =
+    let mine = rw c.in-Ok-Plan.field-0-is at c.in-Ok-Plan.ensures.ok in
+    c.run_task-in-Ok-Plan.ensures.unaccepted told (λ given packages gives lock. none given packages
+    (record { task = record { command = c.in-Ok-Plan.command; remedy = Plan }; is_task = ap task_of mine; gives = gives; lockfile = lock }))
+
+pub returns-in-Ok-Plan-clause-uncalled : goal.returns-in-Ok-Plan-clause-uncalled
+returns-in-Ok-Plan-clause-uncalled g c nothing =
+    let mine = rw c.in-Ok-Plan.field-0-is at c.in-Ok-Plan.ensures.ok in
+    absurd (subst NeedsNoHost mine nothing)
+
+pub returns-in-Ok-Plan-clause-unstarted : goal.returns-in-Ok-Plan-clause-unstarted
+returns-in-Ok-Plan-clause-unstarted g c is =
+    let mine = rw c.in-Ok-Plan.field-0-is at c.in-Ok-Plan.ensures.ok in
+    absurd (subst AsksForBinaries mine is)
+
+pub returns-in-Ok-Plan-clause-off : goal.returns-in-Ok-Plan-clause-off
+returns-in-Ok-Plan-clause-off g c told config settles other off =
+    let mine = rw c.in-Ok-Plan.field-0-is at c.in-Ok-Plan.ensures.ok in
+    absurd (other (subst AsksForPlan (sym mine) tt))

@@ -19,46 +19,66 @@ returns-in_default-clause-part g c told packages is = part_none _ _ _ refl
 pub returns-in-Err-clause-others : goal.returns-in-Err-clause-others
 returns-in-Err-clause-others g c told packages is q other =
     let checks : c.in-Ok.auditor.checks ≡ checks_of c.args.given.config = ap (λ (a : Auditor). a.checks) c.in-Ok.ensures in
-    (rw checks at (c.audit.ensures.others told packages (rw c.as_str.ensures is))) q other
+    (rw checks at (c.audit_planned.ensures.others told packages (rw c.as_str-text.ensures is))) q other
 
 pub returns-in-Ok-finish-clause-others : goal.returns-in-Ok-finish-clause-others
 returns-in-Ok-finish-clause-others g c told packages is q other =
     let checks : c.in-Ok.auditor.checks ≡ checks_of c.args.given.config = ap (λ (a : Auditor). a.checks) c.in-Ok.ensures in
-    (rw checks at (c.audit.ensures.others told packages (rw c.as_str.ensures is))) q other
+    (rw checks at (c.audit_planned.ensures.others told packages (rw c.as_str-text.ensures is))) q other
 
 pub returns-clause-audited : goal.returns-clause-audited
 returns-clause-audited g c =
-    let f = rw (c.in-Ok.ensures, c.as_str-2.ensures, c.as_str-3.ensures) at c.in-Err-finish.ensures.finished in
-    let end = c.failed-in-Err-finish.ensures.fault in
-    rw c.failed-in-Err-finish.ensures.audited record {
-      audit = rw (c.in-Ok.ensures, c.as_str.ensures) at c.in-Ok-audit.ensures.audited;
+    let f = rw (c.in-Ok.ensures, c.as_str.ensures, c.as_str-2.ensures) at c.in-Err-finish.ensures.finished in
+    let end = c.failed-outcome.ensures.fault in
+    rw c.failed-outcome.ensures.audited record {
+      audit = rw (c.in-Ok.ensures, c.as_str-text.ensures) at c.in-Ok-audit_planned.ensures.audited;
       statuses = f.statuses;
-      started = started_failed _ _ _ _ _ c.in-Err-finish.fault c.failed-in-Err-finish.result.fault end f.started;
-      out = λ told. c.failed-in-Err-finish.ensures.put _ _ _ (rw (c.in-Ok.ensures, c.as_str-2.ensures, c.as_str-3.ensures) at (c.in-Err-finish.ensures.out told));
+      started = started_failed _ _ _ _ _ c.in-Err-finish.fault c.failed-outcome.result.fault end f.started;
+      out = λ told. c.failed-outcome.ensures.put _ _ _ (rw (c.in-Ok.ensures, c.as_str.ensures, c.as_str-2.ensures) at (c.in-Err-finish.ensures.out told));
       err = λ told.
-          ended_from _ _ _ c.failed-in-Err-finish.result.fault _ _ _ _ c.in-Err-finish.ensures.err_later c.failed-in-Err-finish.ensures.later
-          (rw c.place-in-Err-finish.ensures at (c.failed-in-Err-finish.ensures.ended told _ _ (f.put told)));
-      status = λ none. has_fault c.in-Err-finish.fault c.failed-in-Err-finish.result.fault end none;
+          ended_from _ _ _ c.failed-outcome.result.fault _ _ _ _ c.in-Err-finish.ensures.err_later c.failed-outcome.ensures.later
+          (rw c.place-in-Err-finish.ensures at (c.failed-outcome.ensures.ended told _ _ (f.put told)));
+      status = λ none. has_fault c.in-Err-finish.fault c.failed-outcome.result.fault end none;
     }
 
 pub returns-clause-fault : goal.returns-clause-fault
 returns-clause-fault g c =
     let P : RunFault → Type 0 = λ f. IsAskedFault c.args.given f in
-    ends_with P c.failed-in-Err-finish.result.fault c.in-Err-finish.fault c.failed-in-Err-finish.ensures.fault
+    ends_with P c.failed-outcome.result.fault c.in-Err-finish.fault c.failed-outcome.ensures.fault
     (finish_case P c.in-Err-finish.fault c.in-Err-finish.ensures.only tt (λ failed some. some) tt) tt
 
 pub returns-clause-no_audit : goal.returns-clause-no_audit
 returns-clause-no_audit g c =
-    let P : RunFault → Type 0 = λ f. IsTrue (is_early f) → c.failed-in-Err-finish.result.audited ≡ None in
-    ends_with P c.failed-in-Err-finish.result.fault c.in-Err-finish.fault c.failed-in-Err-finish.ensures.fault
+    let P : RunFault → Type 0 = λ f. IsTrue (is_early f) → c.failed-outcome.result.audited ≡ None in
+    ends_with P c.failed-outcome.result.fault c.in-Err-finish.fault c.failed-outcome.ensures.fault
     (finish_case P c.in-Err-finish.fault c.in-Err-finish.ensures.only (λ no. late_print no) (λ failed some no. late_start failed no) (λ no. late_memory no)) (λ no. late_memory no)
 
 pub returns-clause-others : goal.returns-clause-others
 returns-clause-others g c told packages is q other =
     let checks : c.in-Ok.auditor.checks ≡ checks_of c.args.given.config = ap (λ (a : Auditor). a.checks) c.in-Ok.ensures in
-    (rw checks at (c.audit.ensures.others told packages (rw c.as_str.ensures is))) q other
+    (rw checks at (c.audit_planned.ensures.others told packages (rw c.as_str-text.ensures is))) q other
 
 pub returns-clause-unchanged : goal.returns-clause-unchanged
 returns-clause-unchanged g c other told q =
     let checks : c.in-Ok.auditor.checks ≡ checks_of c.args.given.config = ap (λ (a : Auditor). a.checks) c.in-Ok.ensures in
-    c.audit.ensures.unchanged (λ on. other (sym checks ∙ on)) told q
+    c.audit_planned.ensures.unchanged (λ on. other (sym checks ∙ on)) told q
+
+pub returns-in-Ok-finish-clause-unchanged : goal.returns-in-Ok-finish-clause-unchanged
+returns-in-Ok-finish-clause-unchanged g c other told q =
+    let checks : c.in-Ok.auditor.checks ≡ checks_of c.args.given.config = ap (λ (a : Auditor). a.checks) c.in-Ok.ensures in
+    c.audit_planned.ensures.unchanged (λ on. other (sym checks ∙ on)) told q
+
+pub returns-clause-unasked : goal.returns-clause-unasked
+returns-clause-unasked g c other =
+    let checks : c.in-Ok.auditor.checks ≡ checks_of c.args.given.config = ap (λ (a : Auditor). a.checks) c.in-Ok.ensures in
+    c.audit_planned.ensures.unasked (λ on. other (sym checks ∙ on))
+
+pub returns-clause-unmade : goal.returns-clause-unmade
+returns-clause-unmade g c other told =
+    let checks : c.in-Ok.auditor.checks ≡ checks_of c.args.given.config = ap (λ (a : Auditor). a.checks) c.in-Ok.ensures in
+    c.audit_planned.ensures.unmade (λ on. other (sym checks ∙ on)) told
+
+pub returns-clause-off : goal.returns-clause-off
+returns-clause-off g c report off =
+    let checks : c.in-Ok.auditor.checks ≡ checks_of c.args.given.config = ap (λ (a : Auditor). a.checks) c.in-Ok.ensures in
+    c.audit_planned.ensures.off report (checks ∙ off)

@@ -65,9 +65,9 @@ returns-in-Ok-clause-unaccepted g c told none =
     (λ fault is. c.run_given.ensures.refused fault is)
 
 pub returns-in-Ok-clause-off : goal.returns-in-Ok-clause-off
-returns-in-Ok-clause-off g c told config settles off =
+returns-in-Ok-clause-off g c told config settles other off =
     let same : c.in-Ok.given.config ≡ config = asked_config c.args.task.now.command (g.F.Files.host c.args.files.now) c.in-Ok.given config (c.in-Ok.ensures.gives told).ok settles in
-    c.run_given.ensures.off (ap (λ (x : AuditConfig). checks_of x) same ∙ off)
+    c.run_given.ensures.off other (ap (λ (x : AuditConfig). checks_of x) same ∙ off)
 
 pub returns-in-Err-clause-started : goal.returns-in-Err-clause-started
 returns-in-Err-clause-started g c told_files told =

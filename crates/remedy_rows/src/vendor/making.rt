@@ -1,0 +1,83 @@
+//! Audits whose packages are vendored.
+use crate::vendor::stage::Stage;
+use audit_core::{AuditConfig, AuditError, Audited, Auditor};
+use row_fixtures::{Row, RowFault};
+use std::alloc::Global;
+use tame_cache::MemCacheDisk;
+use tame_local::LocalRegistry;
+use tame_names::{FileLock, Files, Items, Text};
+use tame_sparse::MemWire;
+use vendor_registry::{VendorFault, vendor};
+
+/// The audit of a lockfile without advisories and without checks for yanked versions.
+fn audit(alloc: Global, text: &str, lock: &FileLock) -> Result<Audited, RowFault> {
+    let mut config = AuditConfig::new(alloc)?;
+    config.yanked.enabled = false;
+    let auditor = match Auditor::new(alloc, &config, &Items::new(alloc)) {
+        Ok(auditor) => auditor,
+        Err(_) => return Err(RowFault::NoMemory),
+    };
+    let mut wire = MemWire::new(alloc, Items::new(alloc));
+    let mut disk = MemCacheDisk::new(alloc, Vec::new(alloc));
+    match auditor.audit_text(alloc, text, lock, &mut wire, &mut disk) {
+        Ok(audited) => Ok(audited),
+        Err(AuditError::NoMemory) => Err(RowFault::NoMemory),
+        Err(_) => Err(RowFault::Unread),
+    }
+}
+
+/// A refusal, with the digest that was found as its text.
+fn refused(alloc: Global, fault: &VendorFault) -> Result<String, RowFault> {
+    match fault {
+        VendorFault::Digest { package, found } => {
+            let digest = found.to_text(alloc)?;
+            Ok(format!(in alloc; "Digest {{ package: {package}, found: {digest} }}")?)
+        }
+        fault => Ok(format!(in alloc; "{fault:?}")?),
+    }
+}
+
+/// `vendor CRATES TO`
+pub fn vendor_row(
+    alloc: Global,
+    stage: &mut Stage,
+    mut words: Row<'_>,
+) -> Result<String, RowFault> {
+    let lock = FileLock::unlocked();
+    let audited = audit(alloc, stage.lockfile.as_str(), &lock)?;
+    let crates = words.word();
+    let to = Text::of(alloc, words.word())?;
+    let before = stage.files.file_faults();
+    let made = vendor(
+        alloc,
+        &audited,
+        &stage.index,
+        crates,
+        to,
+        &mut stage.files,
+        &lock,
+        &mut stage.disk,
+    );
+    let faults = stage.files.file_faults() - before;
+    match made {
+        Ok(made) => {
+            let index = made.registry.index().path();
+            Ok(format!(in alloc;
+                "vendored {} packages, {} bytes, index {index}",
+                made.packages, made.bytes
+            )?)
+        }
+        Err(fault) => {
+            let text = refused(alloc, &fault)?;
+            Ok(format!(in alloc; "{text}, {faults} failed")?)
+        }
+    }
+}
+
+/// `validate PATH`
+pub fn validate(alloc: Global, stage: &mut Stage, mut words: Row<'_>) -> Result<String, RowFault> {
+    let path = Text::of(alloc, words.word())?;
+    let registry = LocalRegistry::open(alloc, &mut stage.files, path, true)?;
+    let index = registry.index().path();
+    Ok(format!(in alloc; "valid, index {index}")?)
+}

@@ -1,0 +1,10 @@
+mod Ahead
+mod Changed
+mod Entries
+mod Exact
+mod Facts
+mod FolderPaths
+mod Inserting
+mod RegistryPaths
+mod Standings
+mod Whole

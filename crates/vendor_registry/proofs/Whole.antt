@@ -1,0 +1,82 @@
+-- A folder that was built of what was checked is vendored.
+use Rattle.std.proofs.Common.{◌≡◌, ℕ, ◌-◌, ◌^◌, List, [], length, true, Result, Ok, Err, refl, sym, ap, ◌∙◌, subst}
+use Rattle.std.specs.Prelude.{min}
+use Rattle.tame_names.specs.Changes.{is_folder}
+use Rattle.tame_names.specs.Standing.{Host, Standing, Nothing, File, Folder, Other}
+use Rattle.tame_names.specs.declared.host.Listed.{Listed}
+use Rattle.tame_local.specs.Builders.{after}
+use Rattle.tame_local.specs.Builders as builders
+use Rattle.tame_local.specs.Inserts.{StandsPlain}
+use Rattle.tame_local.specs.Refusals.{Refusal}
+use Rattle.tame_local.specs.Refusals as local
+use Rattle.tame_local.specs.Registries.{folder_at, index_of, registry_at, validated}
+use Rattle.audit_lock.specs.declared.resolving.Package.{Package}
+use Rattle.vendor_registry.proofs.Exact.{all_size, holds_exactly, known}
+use Rattle.vendor_registry.proofs.Facts.{facts_of, pathed}
+use Rattle.vendor_registry.specs.Built.{all_made}
+use Rattle.vendor_registry.specs.Checks.{Stock, all_checked}
+use Rattle.vendor_registry.specs.Looked.{looked}
+use Rattle.vendor_registry.specs.Named.{ArePathed, AreTexts}
+use Rattle.vendor_registry.specs.Vendored.{HoldsExactly, IsBare, IsVendored, vendored_files}
+use Rattle.vendor_registry.specs.declared.checks.Checked.{Checked}
+use Rattle.vendor_registry.specs.declared.vendoring.Vendored.{Vendored}
+
+-- ---- a registry that was opened
+
+parts : {A B : Type 0} (f : A → Result B Refusal) (r : Result A Refusal) (b : B) → local.and_then f r ≡ Ok b → (a : A) × (r ≡ Ok a) × (f a ≡ Ok b)
+parts f (Ok a) b h = (a, refl, h)
+parts f (Err e) b h = cc
+
+folder_there : (path : List ℕ) (s : Standing) (entries : List Listed) → folder_at path s ≡ Ok entries → is_folder s ≡ true
+folder_there path Nothing entries h = cc
+folder_there path (File bs) entries h = cc
+folder_there path (Folder es) entries h = refl
+folder_there path Other entries h = cc
+
+done_ok : (r : Result Unit Refusal) (a : Unit) → r ≡ Ok a → r ≡ Ok tt
+done_ok r a h = h
+
+abbrev path_in : Result (List ℕ) Refusal → List ℕ
+path_in (Ok p) = p
+path_in (Err e) = []
+
+pub record IsOpened (host : Host) (folder path : List ℕ) : Type 0 where
+  pub index : is_folder (host.stands (index_of folder)) ≡ true
+  pub agrees : validated host (index_of folder) ≡ Ok tt
+  pub path_is : path ≡ index_of folder
+
+pub opened : (host : Host) (folder path : List ℕ) → registry_at host folder true ≡ Ok path → IsOpened host folder path
+opened host folder path h =
+    let index : List ℕ = index_of folder in
+    let entries = parts (λ entries. local.and_then (λ done. Ok index) (validated host index)) (folder_at index (host.stands index)) path h in
+    let done = parts (λ done. Ok index) (validated host index) path entries.2 in
+    record {
+      index = folder_there index (host.stands index) entries.0 entries.1;
+      agrees = done_ok (validated host index) done.0 done.1;
+      path_is = sym (ap path_in done.2);
+    }
+
+-- ---- the paths of what was checked
+
+pub checked_pathed : (stock : Stock) (packages : List Package) (cs : List Checked) → all_checked stock (looked packages) ≡ Ok cs → ArePathed cs
+checked_pathed stock packages cs h = pathed stock (looked packages) cs (facts_of stock (looked packages) cs h)
+
+-- ---- the folder
+
+pub is_vendored : (stock : Stock) (packages : List Package) (to : List ℕ) (now : Host) (made : Vendored) (cs : List Checked)
+    → all_checked stock (looked packages) ≡ Ok cs → AreTexts cs → StandsPlain stock.host.stands → IsBare stock.host to
+    → now ≡ after (all_made to cs) stock.host → registry_at now to true ≡ Ok made.registry.index.path → made.packages ≡ length cs
+    → made.bytes ≡ min (builders.size_of (all_made to cs)) (2 ^ 64 - 1) → IsVendored stock packages to now made
+is_vendored stock packages to now made cs checks texts plain bare built open_at count bytes =
+    let known_all = known stock (looked packages) cs (facts_of stock (looked packages) cs checks) texts in
+    let there = opened now to made.registry.index.path open_at in
+    record {
+      checked = cs;
+      are_checked = checks;
+      files = subst (λ host. HoldsExactly host to (vendored_files cs)) (sym built) (holds_exactly stock to cs stock.host plain bare known_all);
+      index_folder = there.index;
+      agrees = there.agrees;
+      registry = there.path_is;
+      crate_files = count;
+      bytes = bytes ∙ ap (λ n. min n (2 ^ 64 - 1)) (all_size to cs);
+    }

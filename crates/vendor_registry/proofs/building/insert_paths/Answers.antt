@@ -1,0 +1,45 @@
+use Rattle.std.proofs.Common.{◌≡◌, ◌≤◌, ℕ, suc, ◌+◌, ◌-◌, ◌^◌, min, List, ◌∷◌, drop, sym, ap, ◌∙◌, arith}
+use Rattle.audit_core.proofs.Lists.{drop_at}
+use Rattle.tame_local.specs.Builders.{after, size_of}
+use Rattle.vendor_registry.specs.Built.{path_made, paths_made}
+use Rattle.vendor_registry.specs.Vendored.{on}
+use Rattle.vendor_registry.proofs.Inserting.{count_more, made_more, none_left, size_more}
+use Rattle.vendor_registry.proofs.building.insert_paths.Goals as goal
+
+next_left : (ps : List (List ℕ)) (i : ℕ) (p : List ℕ) → drop i ps ≡ p ∷ drop (suc i) ps → drop i ps ≡ p ∷ drop (i + 1) ps
+next_left ps i p h = let next : suc i ≡ i + 1 = omega arith in h ∙ ap (λ n. p ∷ drop n ps) next
+
+pub loop-path-preserved : goal.loop-path-preserved
+loop-path-preserved g c =
+    let ps : List (List ℕ) = c.args.paths.now in
+    let i : ℕ = c.loop-path.path-index in
+    let q : List ℕ = c.path-item.result in
+    let folder : List ℕ = c.args.builder.now.path in
+    let cs = c.args.checked.now in
+    let inv = c.loop-path.invariant in
+    let at = next_left ps i q (drop_at ps i q c.loop-path-test.true c.path-item.is) in
+    let same : c.as_str.result.now ≡ q = c.as_str.ensures in
+    record {
+      later = omega (arith, inv.later, c.in-Ok.ensures.later);
+      made = λ told pathed.
+          made_more folder cs q (drop (i + 1) ps) (drop i ps) _ (g.F.Files.host c.loop-path.files) _ at (inv.made told pathed)
+          (c.in-Ok.ensures.made told pathed ∙ ap (λ p. after (path_made folder p (on p cs)) (g.F.Files.host c.loop-path.files)) same);
+      fits = omega (arith, c.saturating_add-written.ensures);
+      count = λ pathed.
+          count_more _ c.loop-path.written c.in-Ok.count _ (size_of (path_made folder q (on q cs))) (size_of (paths_made folder cs (drop (i + 1) ps))) (size_of (paths_made folder cs (drop i ps)))
+          (inv.count pathed) (size_more folder cs q (drop (i + 1) ps) (drop i ps) at)
+          (c.in-Ok.ensures.count pathed ∙ ap (λ p. min (size_of (path_made folder p (on p cs))) (2 ^ 64 - 1)) same) c.saturating_add-written.ensures;
+    }
+
+pub returns-clause-made : goal.returns-clause-made
+returns-clause-made g c = λ told pathed.
+    let none = none_left c.args.paths.now c.loop-path.path-index (omega (arith, c.loop-path-test.false)) in
+    sym (c.loop-path.invariant.made told pathed ∙ ap (λ l. after (paths_made c.args.builder.now.path c.args.checked.now l) (g.F.Files.host c.loop-path.files)) none)
+
+last_count : (all w l : ℕ) → min all (2 ^ 64 - 1) ≡ min (w + l) (2 ^ 64 - 1) → l ≡ 0 → w ≤ 2 ^ 64 - 1 → w ≡ min all (2 ^ 64 - 1)
+last_count all w l h k i = omega (arith, h, k, i)
+
+pub returns-clause-count : goal.returns-clause-count
+returns-clause-count g c = λ pathed.
+    let none = none_left c.args.paths.now c.loop-path.path-index (omega (arith, c.loop-path-test.false)) in
+    last_count _ c.loop-path.written _ (c.loop-path.invariant.count pathed) (ap (λ l. size_of (paths_made c.args.builder.now.path c.args.checked.now l)) none) c.loop-path.invariant.fits

@@ -1,0 +1,17 @@
+use Rattle.std.proofs.Common.{◌≡◌, ◌≤◌, ◌+◌, ◌-◌, ◌^◌, min, drop}
+use Rattle.tame_local.specs.Builders.{after, size_of}
+use Rattle.vendor_registry.specs.Built.{paths_made}
+use Rattle.vendor_registry.specs.Named.{ArePathed}
+use Rattle.vendor_registry.proofs.building.insert_paths.Given as goal
+
+-- what is left is what is to be done
+abbrev pub invariant-loop-path : goal.invariant-loop-path
+invariant-loop-path g l = record {
+  later : g.F.Files.faults l.fn.files ≤ g.F.Files.faults l.files;
+  made : g.F.Files.tells → ArePathed l.checked
+      → after (paths_made l.builder.path l.checked l.paths) (g.F.Files.host l.fn.files)
+      ≡ after (paths_made l.builder.path l.checked (drop l.path-index l.paths)) (g.F.Files.host l.files);
+  fits : l.written ≤ 2 ^ 64 - 1;
+  count : ArePathed l.checked → min (size_of (paths_made l.builder.path l.checked l.paths)) (2 ^ 64 - 1)
+      ≡ min (l.written + size_of (paths_made l.builder.path l.checked (drop l.path-index l.paths))) (2 ^ 64 - 1);
+}

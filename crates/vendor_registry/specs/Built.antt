@@ -1,0 +1,95 @@
+-- What a builder of a registry makes of what was checked, and why it is refused (this project,
+-- after cargo's local registries).
+use Rattle.std.specs.Prelude.{◌≡◌, ◌⊎◌, ℕ, List, [], ◌∷◌, length, map, flat_map, unwrap_or, Bool, true, false, Option, Some, None, Err}
+use Rattle.tame_names.specs.Paths.{join, parent}
+use Rattle.tame_names.specs.Standing.{Host, Standing, Nothing, Folder}
+use Rattle.tame_names.specs.declared.errors.Error.{Error}
+use Rattle.tame_records.specs.Written.{json_lines}
+use Rattle.tame_local.specs.Builders.{Change, Makes, Creates, after, created}
+use Rattle.tame_local.specs.Refusals.{refused as refused_by}
+use Rattle.tame_local.specs.Registries.{index_of, registry_at}
+use Rattle.vendor_registry.specs.Checks.{crate_path}
+use Rattle.vendor_registry.specs.Named.{ArePathed}
+use Rattle.vendor_registry.specs.Vendored.{on, paths_of}
+use Rattle.vendor_registry.specs.declared.checks.Checked.{Checked}
+use Rattle.vendor_registry.specs.declared.faults.VendorFault.{VendorFault}
+use Rattle.vendor_registry.specs.declared.faults.VendorFault.TheVariants as fault
+
+-- ---- changes
+
+-- the crate file of what was checked
+abbrev pub crate_made : List ℕ → Checked → Change
+crate_made folder c = Creates (crate_path folder c.version.name c.version.version) c.bytes
+
+-- what is put on a path: the folder of its index file, that file, and the crate files in order
+abbrev pub path_made : List ℕ → List ℕ → List Checked → List Change
+path_made folder q [] = []
+path_made folder q (c ∷ cs) =
+    Makes (unwrap_or (parent (join (index_of folder) q)) [])
+    ∷ Creates (join (index_of folder) q) (json_lines (map (λ c. c.version) (c ∷ cs)))
+    ∷ map (crate_made folder) (c ∷ cs)
+
+-- what is put on these paths, one after the other
+abbrev pub paths_made : List ℕ → List Checked → List (List ℕ) → List Change
+paths_made folder cs qs = flat_map (λ q. path_made folder q (on q cs)) qs
+
+-- the folder of the index, and then path by path
+abbrev pub all_made : List ℕ → List Checked → List Change
+all_made folder cs = created folder ∷ paths_made folder cs (paths_of cs)
+
+-- ---- refusals
+
+-- what is at the folder of a registry before it is made: nothing, an empty folder, or a refusal
+abbrev pub free_fault : Standing → Option VendorFault
+free_fault Nothing = None
+free_fault (Folder []) = None
+free_fault (Folder (entry ∷ entries)) = Some (fault.NotEmpty (length (entry ∷ entries)))
+free_fault standing = Some fault.NotADirectory
+
+-- the refusals of a builder that begins: what is there already, a call that failed, and want of
+-- memory
+abbrev pub IsBeginFault : VendorFault → Type 0
+IsBeginFault (fault.NotEmpty count) = Unit {0}
+IsBeginFault fault.NotADirectory = Unit {0}
+IsBeginFault (fault.File path) = Unit {0}
+IsBeginFault fault.NoMemory = Unit {0}
+IsBeginFault e = ⊥
+
+-- the same of a builder that goes on
+abbrev pub IsInsertFault : VendorFault → Type 0
+IsInsertFault (fault.NotEmpty count) = Unit {0}
+IsInsertFault (fault.File path) = Unit {0}
+IsInsertFault fault.NoMemory = Unit {0}
+IsInsertFault e = ⊥
+
+-- the refusals of a registry that is built: the same, and why it doesn't agree with its index
+abbrev pub IsBuildFault : VendorFault → Type 0
+IsBuildFault (fault.NotEmpty count) = Unit {0}
+IsBuildFault fault.NotADirectory = Unit {0}
+IsBuildFault (fault.File path) = Unit {0}
+IsBuildFault (fault.ReadBack why) = Unit {0}
+IsBuildFault fault.NoMemory = Unit {0}
+IsBuildFault e = ⊥
+
+-- a refusal by what stands at the folder beforehand; or one entry, at an index file that has come
+-- meanwhile
+abbrev pub IsOccupied : Standing → VendorFault → Type 0
+IsOccupied standing (fault.NotEmpty count) =
+    (free_fault standing ≡ Some (fault.NotEmpty count))
+    ⊎ ((free_fault standing ≡ None) × (count ≡ 1))
+IsOccupied standing fault.NotADirectory = free_fault standing ≡ Some fault.NotADirectory
+IsOccupied standing e = Unit {0}
+
+-- what was built doesn't agree with its index, for this reason
+pub record IsReadBack (folder : List ℕ) (cs : List Checked) (before now : Host)
+    (why : Error) : Type 0 where
+  pub free : free_fault (before.stands folder) ≡ None
+  pub made : ArePathed cs → now ≡ after (all_made folder cs) before
+  pub refused : registry_at now folder true ≡ Err (refused_by why)
+
+-- a refusal behind the checks, by what is there and not by a call
+abbrev pub is_behind : VendorFault → Bool
+is_behind (fault.NotEmpty count) = true
+is_behind fault.NotADirectory = true
+is_behind (fault.ReadBack why) = true
+is_behind e = false

@@ -1,0 +1,5 @@
+pub mod Built
+pub mod Checks
+pub mod Looked
+pub mod Named
+pub mod Vendored

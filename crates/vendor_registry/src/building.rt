@@ -1,0 +1,237 @@
+//! A registry that is built of what was checked.
+ghost use Rattle.std.specs.Prelude.{◌≡◌, ◌≤◌, ◌-◌, ◌^◌, min, ℕ, List, [], ◌∷◌, map, Ok, Err, Some, None, IfOk, IfErr, OnOk, true};
+ghost use Rattle.tame_names.specs.Counts.{CountRose};
+ghost use Rattle.tame_records.specs.Record.{record_of};
+ghost use Rattle.tame_records.specs.Written.{line};
+ghost use Rattle.tame_local.specs.Builders.{after, after_change, crates_made, created, size_of};
+ghost use Rattle.tame_local.specs.Registries.{registry_at};
+ghost use Rattle.vendor_registry.specs.Built.{IsBeginFault, IsBuildFault, IsInsertFault, IsOccupied, IsReadBack, all_made, crate_made, free_fault, path_made, paths_made};
+ghost use Rattle.vendor_registry.specs.Named.{ArePathed};
+ghost use Rattle.vendor_registry.specs.Vendored.{on, paths_of};
+ghost use Rattle.audit_core.specs.Paths as spec;
+
+use crate::checks::Checked;
+use crate::faults::VendorFault;
+use std::alloc::Global;
+use tame_local::{LocalRegistry, LocalRegistryBuilder, ValidKrate};
+use tame_names::{Error, Files, IoKind, Items, MemSink, NoMemory, Text};
+use tame_records::{IndexKrate, IndexVersion};
+
+// ---- what is put on a path
+
+/// A copy of a record, by its line.
+fn copied(alloc: Global, version: &IndexVersion) -> Result<IndexVersion, NoMemory>
+    ensures same { IfOk result (λ copy. copy ≡ version.now) }
+    ensures reads_back { OnOk result (record_of (line version.now) ≡ Some version.now) }
+{
+    let mut sink = MemSink::new(alloc, Items::new(alloc));
+    match version.write_line(alloc, &mut sink) {
+        Ok(_) => {}
+        Err(_) => return Err(NoMemory),
+    }
+    match IndexVersion::read_line(alloc, sink.bytes()) {
+        Ok(copy) => Ok(copy),
+        Err(_) => Err(NoMemory),
+    }
+}
+
+/// The records that are put on a path.
+fn krate_on(alloc: Global, path: &str, checked: &[Checked]) -> Result<IndexKrate, NoMemory>
+    ensures { IfOk result (λ krate. krate.versions
+        ≡ map (λ c. c.version) (on path.now checked.now)) }
+{
+    let mut versions = Items::new(alloc);
+    for one in checked {
+        if one.path.as_str() == path {
+            versions.add(copied(alloc, &one.version)?)?;
+        }
+    }
+    Ok(IndexKrate { versions })
+}
+
+/// The crate file of what was checked, which has the digest of its record.
+fn valid_krate<'c>(alloc: Global, one: &'c Checked) -> Result<ValidKrate<'c>, NoMemory>
+    ensures { (folder : List ℕ) → IfOk result (λ krate.
+        crates_made folder (krate ∷ []) ≡ crate_made folder one.now ∷ []) }
+{
+    let bytes = one.bytes.clone()?;
+    match ValidKrate::validate(alloc, bytes, &one.version) {
+        Ok(krate) => Ok(krate),
+        Err(_) => Err(NoMemory),
+    }
+}
+
+/// The crate files that are put beside a path.
+fn krates_on<'c>(
+    alloc: Global,
+    path: &str,
+    checked: &'c [Checked],
+) -> Result<Items<ValidKrate<'c>>, NoMemory>
+    ensures { (folder : List ℕ) → IfOk result (λ krates.
+        crates_made folder krates ≡ map (crate_made folder) (on path.now checked.now)) }
+{
+    let mut krates = Items::new(alloc);
+    for one in checked {
+        if one.path.as_str() == path {
+            krates.add(valid_krate(alloc, one)?)?;
+        }
+    }
+    Ok(krates)
+}
+
+// ---- the builder
+
+/// Puts what was checked on a path into a registry: its index file and its crate files. Answers
+/// the number of bytes written, at most 2^64 - 1; 0 where there is nothing on the path.
+fn insert_path<F: Files>(
+    alloc: Global,
+    builder: &LocalRegistryBuilder,
+    path: &str,
+    checked: &[Checked],
+    files: &mut F,
+) -> Result<u64, VendorFault>
+    ensures made { F.tells → ArePathed checked.now → OnOk result (F.host files.new
+        ≡ after (path_made builder.now.path path.now (on path.now checked.now))
+        (F.host files.old)) }
+    ensures count { ArePathed checked.now → IfOk result (λ n. n ≡ min (size_of
+        (path_made builder.now.path path.now (on path.now checked.now))) (2 ^ 64 - 1)) }
+    ensures only { IfErr result IsInsertFault }
+    ensures occupied { F.tells → (n : ℕ) → result ≡ Err (VendorFault.NotEmpty n) → n ≡ 1 }
+    ensures file { (at : List ℕ) → result ≡ Err (VendorFault.File at)
+        → CountRose (F.faults files.old) (F.faults files.new) }
+    ensures later { F.faults files.old ≤ F.faults files.new }
+{
+    let krate = krate_on(alloc, path, checked)?;
+    if krate.versions.is_empty() {
+        return Ok(0);
+    }
+    let krates = krates_on(alloc, path, checked)?;
+    match builder.insert(alloc, files, &krate, krates.as_slice()) {
+        Ok(count) => Ok(count),
+        Err(Error::IoPath(IoKind::AlreadyExists(count), _)) => Err(VendorFault::NotEmpty(count)),
+        Err(Error::IoPath(IoKind::Failed, path)) => Err(VendorFault::File { path }),
+        Err(_) => Err(VendorFault::NoMemory),
+    }
+}
+
+/// The paths of what was checked, each once.
+fn distinct_paths(alloc: Global, checked: &[Checked]) -> Result<Items<Text>, NoMemory>
+    ensures { IfOk result (λ paths. paths ≡ paths_of checked.now) }
+{
+    let mut paths = Items::new(alloc);
+    for one in checked {
+        if !is_among(&one.path, &paths) {
+            paths.add(one.path.try_clone(alloc)?)?;
+        }
+    }
+    Ok(paths)
+}
+
+/// Whether a path is among paths.
+fn is_among(path: &Text, paths: &Items<Text>) -> bool
+    ensures { result ≡ spec.is_among path.now paths.now }
+{
+    paths.iter().any(|other| other.as_str() == path.as_str())
+}
+
+/// Puts what was checked on these paths into a registry, one after the other. Answers the number of
+/// bytes written, at most 2^64 - 1.
+fn insert_paths<F: Files>(
+    alloc: Global,
+    builder: &LocalRegistryBuilder,
+    paths: &[Text],
+    checked: &[Checked],
+    files: &mut F,
+) -> Result<u64, VendorFault>
+    ensures made { F.tells → ArePathed checked.now → OnOk result (F.host files.new
+        ≡ after (paths_made builder.now.path checked.now paths.now) (F.host files.old)) }
+    ensures count { ArePathed checked.now → IfOk result (λ n. n ≡ min (size_of
+        (paths_made builder.now.path checked.now paths.now)) (2 ^ 64 - 1)) }
+    ensures only { IfErr result IsInsertFault }
+    ensures occupied { F.tells → (n : ℕ) → result ≡ Err (VendorFault.NotEmpty n) → n ≡ 1 }
+    ensures file { (at : List ℕ) → result ≡ Err (VendorFault.File at)
+        → CountRose (F.faults files.old) (F.faults files.new) }
+    ensures later { F.faults files.old ≤ F.faults files.new }
+{
+    let mut written: u64 = 0;
+    for path in paths {
+        match insert_path(alloc, builder, path.as_str(), checked, files) {
+            Ok(count) => written = written.saturating_add(count),
+            Err(fault) => return Err(fault),
+        }
+    }
+    Ok(written)
+}
+
+// ---- the whole
+
+/// A builder of a registry in a folder, which has to be empty or absent.
+fn begin<F: Files>(
+    alloc: Global,
+    to: Text,
+    files: &mut F,
+) -> Result<LocalRegistryBuilder, VendorFault>
+    ensures path { IfOk result (λ builder. builder.path ≡ to) }
+    ensures made { F.tells → OnOk result (F.host files.new
+        ≡ after_change (created to) (F.host files.old)) }
+    ensures free { F.tells → OnOk result
+        (free_fault ((F.host files.old).stands to) ≡ None) }
+    ensures occupied { F.tells → IfErr result
+        (IsOccupied ((F.host files.old).stands to)) }
+    ensures only { IfErr result IsBeginFault }
+    ensures file { (at : List ℕ) → result ≡ Err (VendorFault.File at)
+        → CountRose (F.faults files.old) (F.faults files.new) }
+    ensures later { F.faults files.old ≤ F.faults files.new }
+{
+    match LocalRegistryBuilder::create(alloc, files, to) {
+        Ok(builder) => Ok(builder),
+        Err(Error::IoPath(IoKind::AlreadyExists(count), _)) => Err(VendorFault::NotEmpty(count)),
+        Err(Error::IoPath(IoKind::NotADirectory, _)) => Err(VendorFault::NotADirectory),
+        Err(Error::IoPath(IoKind::Failed, path)) => Err(VendorFault::File { path }),
+        Err(_) => Err(VendorFault::NoMemory),
+    }
+}
+
+/// A registry that was built, and the number of bytes written, at most 2^64 - 1.
+#[derive(Drop)]
+pub struct Built {
+    pub registry: LocalRegistry,
+    pub bytes: u64,
+}
+
+/// Builds a registry in a folder, which has to be empty or absent, of what was checked, and
+/// validates it. `NotEmpty` and `NotADirectory` of the folder, before anything is written;
+/// `ReadBack` where it doesn't agree with its index.
+pub fn build<F: Files>(
+    alloc: Global,
+    to: Text,
+    checked: &[Checked],
+    files: &mut F,
+) -> Result<Built, VendorFault>
+    ensures made { F.tells → ArePathed checked.now → OnOk result (F.host files.new
+        ≡ after (all_made to checked.now) (F.host files.old)) }
+    ensures count { ArePathed checked.now → IfOk result (λ built. built.bytes
+        ≡ min (size_of (all_made to checked.now)) (2 ^ 64 - 1)) }
+    ensures opened { F.tells → IfOk result (λ built.
+        registry_at (F.host files.new) to true ≡ Ok built.registry.index.path) }
+    ensures free { F.tells → OnOk result
+        (free_fault ((F.host files.old).stands to) ≡ None) }
+    ensures occupied { F.tells → IfErr result
+        (IsOccupied ((F.host files.old).stands to)) }
+    ensures read_back { F.tells → (why : Error) → result ≡ Err (VendorFault.ReadBack why)
+        → IsReadBack to checked.now (F.host files.old) (F.host files.new) why }
+    ensures only { IfErr result IsBuildFault }
+    ensures file { (at : List ℕ) → result ≡ Err (VendorFault.File at)
+        → CountRose (F.faults files.old) (F.faults files.new) }
+    ensures later { F.faults files.old ≤ F.faults files.new }
+{
+    let builder = begin(alloc, to, files)?;
+    let paths = distinct_paths(alloc, checked)?;
+    let bytes = insert_paths(alloc, &builder, paths.as_slice(), checked, files)?;
+    match builder.finalize(alloc, files, true) {
+        Ok(registry) => Ok(Built { registry, bytes }),
+        Err(Error::IoPath(IoKind::Failed, path)) => Err(VendorFault::File { path }),
+        Err(Error::NoMemory) => Err(VendorFault::NoMemory),
+        Err(error) => Err(VendorFault::ReadBack(error)),
+    }
+}

@@ -1,0 +1,22 @@
+//! A local registry of the packages that were audited.
+//!
+//! Promises: each package is checked whole before the next, and all before anything is written; a
+//! refusal is the first of a table; the folder that is made holds exactly the deciding records of
+//! the audited versions and their crate files, and agrees with its index.
+//! Stands on the builder of `tame_local`, the cache of `tame_sparse` and the audits of
+//! `audit_core`.
+//!
+//! ```ignore
+//! let made = vendor(alloc, &audited, &index, "crates", to, &mut files, &lock, &mut disk)?;
+//! println!(rt; "vendored {} packages, {} bytes", made.packages, made.bytes)?;
+//! ```
+#![tactic(auto)]
+
+mod building;
+mod checks;
+mod faults;
+mod looking;
+mod vendoring;
+
+pub use faults::VendorFault;
+pub use vendoring::{Vendored, vendor};
