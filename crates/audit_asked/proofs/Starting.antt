@@ -17,6 +17,8 @@ early_by T true xs (fault.TooLarge path len) k f = let h : true ≡ false = f re
 early_by T true xs (fault.File path) k f = inl refl
 early_by T true xs (fault.Lockfile reason) k f = absurd k
 early_by T true xs (fault.Advisory n reason) k f = let h : true ≡ false = f refl in cc
+early_by T true xs (fault.Baseline line) k f = let h : true ≡ false = f refl in cc
+early_by T true xs (fault.Vendor reason) k f = absurd k
 early_by T true xs fault.Print k f = absurd k
 early_by T true xs (fault.Generate status) k f = absurd k
 early_by T true xs (fault.Start failed) k f = absurd k
@@ -39,6 +41,8 @@ late true before now s (Err (fault.TooLarge path len)) k h = h
 late true before now s (Err (fault.File path)) k h = inr h
 late true before now s (Err (fault.Lockfile reason)) k h = absurd k
 late true before now s (Err (fault.Advisory n reason)) k h = h
+late true before now s (Err (fault.Baseline line)) k h = h
+late true before now s (Err (fault.Vendor reason)) k h = absurd k
 late true before now s (Err fault.Print) k h = absurd k
 late true before now s (Err (fault.Generate status)) k h = absurd k
 late true before now s (Err (fault.Start failed)) k h = absurd k
@@ -60,6 +64,8 @@ unstarted (fault.TooLarge path len) failed k is = cc
 unstarted (fault.File path) failed k is = cc
 unstarted (fault.Lockfile reason) failed k is = absurd k
 unstarted (fault.Advisory n reason) failed k is = cc
+unstarted (fault.Baseline line) failed k is = cc
+unstarted (fault.Vendor reason) failed k is = absurd k
 unstarted fault.Print failed k is = absurd k
 unstarted (fault.Generate status) failed k is = absurd k
 unstarted (fault.Start one) failed k is = absurd k

@@ -130,3 +130,8 @@ IsReadingCall host paths told call =
 -- the reading of the lockfile
 abbrev pub IsLockfileCall : List ℕ → List ℕ → FailedCall → Type 0
 IsLockfileCall place told call = (told ≡ place) × (call ≡ reading_call place)
+
+-- the reading of a baseline, where one is named
+abbrev pub IsBaselineCall : Option (List ℕ) → List ℕ → FailedCall → Type 0
+IsBaselineCall None told call = ⊥
+IsBaselineCall (Some path) told call = IsCallOn file_call.Read path told call

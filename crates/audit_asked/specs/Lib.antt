@@ -3,6 +3,7 @@ pub mod Asked
 pub mod Calls
 pub mod Databases
 pub mod ForBinaries
+pub mod KnownFindings
 pub mod Places
 pub mod Refusals
 pub mod Settings

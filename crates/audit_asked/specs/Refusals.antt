@@ -12,8 +12,8 @@ abbrev pub limit : ℕ
 limit = 67108864
 
 -- the settings are refused; nothing is at a path; what is there isn't UTF-8, has too many bytes, or
--- is no file; the n-th advisory is refused; cargo ended with another status than 0; the last one is
--- told by no host
+-- is no file; the n-th advisory is refused; a line of the baseline is no finding; cargo ended with
+-- another status than 0; the last one is told by no host
 pub data Refused : Type 0 where
   settings : (reason : Refusal) → Refused
   missing : (path : List ℕ) → Refused
@@ -21,6 +21,7 @@ pub data Refused : Type 0 where
   too_large : (path : List ℕ) → (len : ℕ) → Refused
   no_file : (path : List ℕ) → Refused
   advisory : (n : ℕ) → (reason : AdvisoryFault) → Refused
+  baseline : (line : ℕ) → Refused
   generate : (status : ℤ) → Refused
   untold : Refused
 
@@ -31,6 +32,7 @@ refused (fault.Missing path) = missing path
 refused (fault.NotUtf8 path) = not_utf8 path
 refused (fault.TooLarge path len) = too_large path len
 refused (fault.Advisory n reason) = advisory n reason
+refused (fault.Baseline line) = baseline line
 refused (fault.Generate status) = generate status
 refused _ = untold
 
@@ -38,6 +40,7 @@ refused _ = untold
 abbrev pub is_told : RunFault → Bool
 is_told (fault.File path) = false
 is_told (fault.Start failed) = false
+is_told (fault.Vendor reason) = false
 is_told fault.NoMemory = false
 is_told _ = true
 
@@ -50,6 +53,7 @@ IsReadFault (fault.NotUtf8 path) = Unit {0}
 IsReadFault (fault.TooLarge path len) = limit < len
 IsReadFault (fault.File path) = Unit {0}
 IsReadFault (fault.Advisory n reason) = reason ≢ advisory_fault.NoMemory
+IsReadFault (fault.Baseline line) = Unit {0}
 IsReadFault fault.NoMemory = Unit {0}
 IsReadFault _ = ⊥
 

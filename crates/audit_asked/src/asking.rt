@@ -11,12 +11,14 @@ ghost use Rattle.audit_asked.specs.Starts.{HasRunStartCause, RunStartsWhere, Sta
 use crate::advisories::advisories;
 use crate::databases::{database, database_path};
 use crate::faults::RunFault;
+use crate::known::baseline;
 use crate::places::place;
 use crate::runners::Runner;
 use crate::settings::settled;
 use crate::texts::input_or_text;
 use audit_advisory::Advisory;
 use audit_settings::{AuditCommand, AuditConfig};
+use known_findings::Baseline;
 use std::alloc::Global;
 use tame_names::{Files, Items, Text};
 
@@ -31,6 +33,8 @@ pub struct Asked {
     pub database: Text,
     /// The advisories, in the byte order of their folders and files.
     pub advisories: Items<Advisory>,
+    /// The baseline, where one is named.
+    pub baseline: Option<Baseline>,
     /// The lockfile's text.
     pub text: Text,
 }
@@ -45,26 +49,32 @@ fn path_of(text: &Option<Text>) -> Option<&str>
     }
 }
 
-/// Asks the host for the advisories and for the lockfile's text, under these settings.
+/// Asks the host for the advisories, for a baseline, where one is named, and for the lockfile's
+/// text, under these settings.
 fn texts<F: Files>(
     alloc: Global,
     files: &mut F,
     config: AuditConfig,
+    named: Option<&str>,
     place: Text,
 ) -> Result<Asked, RunFault>
     ensures ok { F.tells → IfOk result (λ asked.
-        texts_asked (F.host files.old) config place ≡ Ok asked) }
+        texts_asked (F.host files.old) config (option_map (λ path. path.now) named.entry) place
+        ≡ Ok asked) }
     ensures refused { F.tells → IfErr result (λ e. IsTrue (is_told e)
-        → texts_asked (F.host files.old) config place ≡ Err (refused e)) }
+        → texts_asked (F.host files.old) config (option_map (λ path. path.now) named.entry) place
+        ≡ Err (refused e)) }
     ensures only { IfErr result IsReadFault }
     ensures cause { HasFileCause (F.faults files.old) (F.faults files.new) result }
-    ensures failed { F.tells → AddsFailed (IsTextsCall (F.host files.old) config place)
+    ensures failed { F.tells → AddsFailed (IsTextsCall (F.host files.old) config
+        (option_map (λ path. path.now) named.entry) place)
         (F.failed files.old) (F.failed files.new) result }
     ensures same { F.tells → StaysButInput (IsInput place)
         (F.host files.old) (F.host files.new) }
 {
     let database = database(alloc, files, &config.database.path)?;
     let advisories = advisories(alloc, files, &database)?;
+    let baseline = baseline(alloc, files, named)?;
     let text = input_or_text(alloc, files, place.as_str())?;
     let database = database_path(alloc, database)?;
     Ok(Asked {
@@ -72,21 +82,25 @@ fn texts<F: Files>(
         place,
         database,
         advisories,
+        baseline,
         text,
     })
 }
 
 /// Asks the host for the settings, for the lockfile's place, for the advisories one after the
-/// other, and for the lockfile's text. The first that is refused ends it.
+/// other, for the baseline at a path, where one is named, and for the lockfile's text. The first
+/// that is refused ends it.
 pub fn ask<F: Files, R: Runner>(
     alloc: Global,
     command: &AuditCommand,
+    named: Option<&str>,
     files: &mut F,
     runner: &mut R,
 ) -> Result<Asked, RunFault>
     // what was asked, or the first refusal
     ensures gives { F.tells
-        → Gives (asked command.now (F.host files.old) (status_told result)) result }
+        → Gives (asked command.now (option_map (λ path. path.now) named.entry) (F.host files.old)
+        (status_told result)) result }
     ensures only { IfErr result IsAskFault }
 
     // what was started
@@ -99,16 +113,18 @@ pub fn ask<F: Files, R: Runner>(
 
     // which call failed
     ensures cause { HasFileCause (F.faults files.old) (F.faults files.new) result }
-    ensures failed { F.tells → AddsFailed (IsAskedCall command.now (F.host files.old))
+    ensures failed { F.tells → AddsFailed (IsAskedCall command.now
+        (option_map (λ path. path.now) named.entry) (F.host files.old))
         (F.failed files.old) (F.failed files.new) result }
     // and what was started until then
-    ensures ordered { F.tells → R.tells → AddsFailed (IsOrderedCall command.now (F.host files.old)
-        (R.starts runner.old) (R.starts runner.new)) (F.failed files.old) (F.failed files.new)
-        result }
+    ensures ordered { F.tells → R.tells → AddsFailed (IsOrderedCall command.now
+        (option_map (λ path. path.now) named.entry) (F.host files.old)
+        (R.starts runner.old) (R.starts runner.new))
+        (F.failed files.old) (F.failed files.new) result }
     ensures same { F.tells → StaysButInput (IsInput (place_of command.now.file))
         (F.host files.old) (F.host files.new) }
 {
     let config = settled(alloc, command, files)?;
     let place = place(alloc, files, runner, path_of(&command.file))?;
-    texts(alloc, files, config, place)
+    texts(alloc, files, config, named, place)
 }

@@ -5,6 +5,7 @@ use audit_advisory::AdvisoryFault;
 use audit_lock::LockfileFault;
 use audit_settings::SettingsFault;
 use tame_names::{NoMemory, Text};
+use vendor_faults::VendorFault;
 
 /// Why a run ended without its output. No reason that a fault holds is want of memory.
 #[derive(Debug, Drop)]
@@ -25,6 +26,10 @@ pub enum RunFault {
     Lockfile(LockfileFault),
     /// The advisory with this number, counted from 0, is refused, for this reason.
     Advisory { n: usize, fault: AdvisoryFault },
+    /// This line of the baseline, counted from 0, is no finding.
+    Baseline { line: u64 },
+    /// No registry was made of the audit's packages, or it wasn't finished, for this reason.
+    Vendor(VendorFault),
     /// The output failed.
     Print,
     /// The start that should generate a lockfile ended with this status, which isn't 0.

@@ -1,14 +1,16 @@
 //! What a run asks of its host before it audits: the settings, the lockfile's place, the
-//! advisories and the lockfile's text; for audits of binaries the settings and the advisories.
+//! advisories, a baseline and the lockfile's text; for audits of binaries the settings and the
+//! advisories.
 //!
 //! Promises: an answer or a refusal is that of the definition over what the host has; one call
 //! failed at most, and it is one that may end a run so.
-//! Stands on the host `Files` of `tame_names`, the home of `tame_location`, and the readers of
-//! `audit_lock`, `audit_advisory` and `audit_settings`.
+//! Stands on the host `Files` of `tame_names`, the home of `tame_location`, the readers of
+//! `audit_lock`, `audit_advisory`, `audit_settings` and `known_findings`, and the refusals of
+//! `vendor_faults`.
 //!
 //! ```ignore
-//! let asked = ask(alloc, &command, &mut files, &mut runner)?; // or a RunFault
-//! let lockfile = asked.text.as_str();                         // of the file at asked.place
+//! let asked = ask(alloc, &command, None, &mut files, &mut runner)?; // or a RunFault
+//! let lockfile = asked.text.as_str();                               // of the file at asked.place
 //! ```
 #![tactic(auto)]
 
@@ -18,6 +20,7 @@ mod binaries;
 mod databases;
 mod faults;
 mod homes;
+mod known;
 mod listings;
 mod places;
 mod runners;

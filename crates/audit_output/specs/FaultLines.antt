@@ -9,6 +9,8 @@ use Rattle.audit_lock.specs.declared.lockfiles.LockfileFault.{LockfileFault}
 use Rattle.audit_lock.specs.declared.lockfiles.LockfileFault.TheVariants as lockfile_fault
 use Rattle.audit_settings.specs.declared.configs.SettingsFault.{SettingsFault}
 use Rattle.audit_settings.specs.declared.configs.SettingsFault.TheVariants as settings_fault
+use Rattle.vendor_faults.specs.declared.faults.VendorFault.{VendorFault}
+use Rattle.vendor_faults.specs.declared.faults.VendorFault.TheVariants as vendor_fault
 
 -- ---- settings
 
@@ -52,6 +54,24 @@ abbrev pub lockfile_kind : LockfileFault → List ℕ
 lockfile_kind (lockfile_fault.Rule package_ rule.Version) = codes "version error"
 lockfile_kind _ = codes "parse error"
 
+-- ---- vendored registries
+
+-- a refusal by its name, in lower case, and the package that it is of
+abbrev pub vendor_words : VendorFault → List ℕ
+vendor_words (vendor_fault.Name n) = codes "name" ++ of_package (Some n)
+vendor_words (vendor_fault.Store n) = codes "store" ++ of_package (Some n)
+vendor_words (vendor_fault.Absent n) = codes "absent" ++ of_package (Some n)
+vendor_words (vendor_fault.Record n) = codes "record" ++ of_package (Some n)
+vendor_words (vendor_fault.NoVersion n) = codes "noversion" ++ of_package (Some n)
+vendor_words (vendor_fault.NoCrate n) = codes "nocrate" ++ of_package (Some n)
+vendor_words (vendor_fault.TooLarge n len) = codes "toolarge" ++ of_package (Some n)
+vendor_words (vendor_fault.Digest n found) = codes "digest" ++ of_package (Some n)
+vendor_words (vendor_fault.NotEmpty count) = codes "notempty" ++ of_package None
+vendor_words vendor_fault.NotADirectory = codes "notadirectory" ++ of_package None
+vendor_words (vendor_fault.File path) = codes "file" ++ of_package None
+vendor_words (vendor_fault.ReadBack why) = codes "readback" ++ of_package None
+vendor_words vendor_fault.NoMemory = codes "nomemory" ++ of_package None
+
 -- ---- the line
 
 -- why a run ended; a lockfile's fault is told with the lockfile's path
@@ -67,6 +87,8 @@ fault_words place (fault.Lockfile reason) =
     lockfile_kind reason ++ codes ": couldn't load " ++ place ++ codes ": "
     ++ lockfile_words reason
 fault_words place (fault.Advisory n reason) = codes "parse error: advisory " ++ decimal n
+fault_words place (fault.Baseline line) = codes "baseline line " ++ decimal line
+fault_words place (fault.Vendor reason) = codes "vendor: " ++ vendor_words reason
 fault_words place fault.Print = codes "I/O error: output"
 fault_words place (fault.Generate status) =
     codes "non-zero exit status running `cargo update --workspace`: " ++ signed_decimal status

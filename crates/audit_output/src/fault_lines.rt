@@ -1,7 +1,7 @@
 //! The line that tells why a run ended without its output.
 ghost use Rattle.std.specs.Prelude.{◌≡◌, ◌++◌, codes, decimal, IfOk, OnOk, string_bytes};
 ghost use Rattle.std.specs.Fmt.{signed_decimal};
-ghost use Rattle.audit_output.specs.FaultLines.{fault_words, lockfile_words, of_package, settings_words};
+ghost use Rattle.audit_output.specs.FaultLines.{fault_words, lockfile_words, of_package, settings_words, vendor_words};
 ghost use Rattle.audit_output.specs.FaultLines as spec;
 
 use audit_asked::RunFault;
@@ -9,6 +9,7 @@ use audit_lock::{LockRule, LockfileFault};
 use audit_report::push_number;
 use audit_settings::SettingsFault;
 use std::alloc::{AllocError, Global};
+use vendor_faults::VendorFault;
 
 /// What is told of a lockfile that couldn't be generated, in front of cargo's status.
 const GENERATED: &str = "non-zero exit status running `cargo update --workspace`: ";
@@ -31,17 +32,12 @@ fn push_signed(alloc: Global, out: &mut String, number: &i32) -> Result<(), Allo
 }
 
 /// A text with a number behind it.
-fn push_numbered(
-    alloc: Global,
-    out: &mut String,
-    text: &str,
-    number: usize,
-) -> Result<(), AllocError>
+fn push_numbered(alloc: Global, out: &mut String, text: &str, number: u64) -> Result<(), AllocError>
     ensures { OnOk result (string_bytes out.new
         ≡ string_bytes out.old ++ (text.now ++ decimal number)) }
 {
     out.push_str(text)?;
-    push_number(alloc, out, number as u64)
+    push_number(alloc, out, number)
 }
 
 fn push_settings(out: &mut String, reason: &SettingsFault) -> Result<(), AllocError>
@@ -80,7 +76,7 @@ fn push_package(alloc: Global, out: &mut String, locked: Option<usize>) -> Resul
 {
     match locked {
         None => Ok(()),
-        Some(n) => push_numbered(alloc, out, " of package ", n),
+        Some(n) => push_numbered(alloc, out, " of package ", n as u64),
     }
 }
 
@@ -166,6 +162,54 @@ fn push_ended(alloc: Global, out: &mut String, text: &str, status: &i32) -> Resu
     push_signed(alloc, out, status)
 }
 
+/// A refusal's name, and the package that it is of.
+fn push_refusal(
+    alloc: Global,
+    out: &mut String,
+    name: &str,
+    locked: Option<usize>,
+) -> Result<(), AllocError>
+    ensures { OnOk result (string_bytes out.new
+        ≡ string_bytes out.old ++ (name.now ++ of_package locked)) }
+{
+    out.push_str(name)?;
+    push_package(alloc, out, locked)
+}
+
+fn push_vendor(alloc: Global, out: &mut String, reason: &VendorFault) -> Result<(), AllocError>
+    ensures { OnOk result (string_bytes out.new
+        ≡ string_bytes out.old ++ vendor_words reason.now) }
+{
+    match reason {
+        VendorFault::Name { package: n } => push_refusal(alloc, out, "name", Some(*n)),
+        VendorFault::Store { package: n } => push_refusal(alloc, out, "store", Some(*n)),
+        VendorFault::Absent { package: n } => push_refusal(alloc, out, "absent", Some(*n)),
+        VendorFault::Record { package: n } => push_refusal(alloc, out, "record", Some(*n)),
+        VendorFault::NoVersion { package: n } => push_refusal(alloc, out, "noversion", Some(*n)),
+        VendorFault::NoCrate { package: n } => push_refusal(alloc, out, "nocrate", Some(*n)),
+        VendorFault::TooLarge { package: n, .. } => push_refusal(alloc, out, "toolarge", Some(*n)),
+        VendorFault::Digest { package: n, .. } => push_refusal(alloc, out, "digest", Some(*n)),
+        VendorFault::NotEmpty(_) => push_refusal(alloc, out, "notempty", None),
+        VendorFault::NotADirectory => push_refusal(alloc, out, "notadirectory", None),
+        VendorFault::File { .. } => push_refusal(alloc, out, "file", None),
+        VendorFault::ReadBack(_) => push_refusal(alloc, out, "readback", None),
+        VendorFault::NoMemory => push_refusal(alloc, out, "nomemory", None),
+    }
+}
+
+fn push_refused(
+    alloc: Global,
+    out: &mut String,
+    text: &str,
+    reason: &VendorFault,
+) -> Result<(), AllocError>
+    ensures { OnOk result (string_bytes out.new
+        ≡ string_bytes out.old ++ (text.now ++ vendor_words reason.now)) }
+{
+    out.push_str(text)?;
+    push_vendor(alloc, out, reason)
+}
+
 fn push_config(out: &mut String, reason: &SettingsFault) -> Result<(), AllocError>
     ensures { OnOk result (string_bytes out.new
         ≡ string_bytes out.old ++ (codes "config error: " ++ settings_words reason.now)) }
@@ -184,14 +228,20 @@ fn push_fault(
         ≡ string_bytes out.old ++ fault_words place.now fault.now) }
 {
     match fault {
-        RunFault::Usage { place: n } => push_numbered(alloc, out, "bad word at place ", *n),
+        RunFault::Usage { place: n } => {
+            push_numbered(alloc, out, "bad word at place ", *n as u64)
+        }
         RunFault::Settings(reason) => push_config(out, reason),
         RunFault::Missing { path } => push_two(out, path.as_str(), " isn't there"),
         RunFault::NotUtf8 { path } => push_two(out, path.as_str(), " isn't UTF-8"),
         RunFault::TooLarge { path, len } => push_too_large(alloc, out, path.as_str(), *len),
         RunFault::File { path } => push_two(out, "I/O error: ", path.as_str()),
         RunFault::Lockfile(reason) => push_lockfile(alloc, out, place, *reason),
-        RunFault::Advisory { n, .. } => { push_numbered(alloc, out, "parse error: advisory ", *n) }
+        RunFault::Advisory { n, .. } => {
+            push_numbered(alloc, out, "parse error: advisory ", *n as u64)
+        }
+        RunFault::Baseline { line } => push_numbered(alloc, out, "baseline line ", *line),
+        RunFault::Vendor(reason) => push_refused(alloc, out, "vendor: ", reason),
         RunFault::Print => out.push_str("I/O error: output"),
         RunFault::Generate { status } => push_ended(alloc, out, GENERATED, status),
         RunFault::Start { failed } => push_started(alloc, out, *failed),

@@ -8,10 +8,11 @@ use Rattle.audit_lock.specs.declared.resolving.Package.{Package}
 use Rattle.audit_settings.specs.declared.commands.AuditCommand.{AuditCommand}
 use Rattle.audit_settings.specs.declared.configs.AuditConfig.{AuditConfig}
 use Rattle.audit_asked.specs.Advisories.{advisories_asked}
-use Rattle.audit_asked.specs.Asked.{asked, texts_asked}
+use Rattle.audit_asked.specs.Asked.{texts_asked}
 use Rattle.audit_asked.specs.Calls.{AddsBy}
 use Rattle.audit_asked.specs.Databases.{database_asked}
 use Rattle.audit_asked.specs.ForBinaries.{asked_for_binaries}
+use Rattle.audit_asked.specs.KnownFindings.{baseline_asked}
 use Rattle.audit_asked.specs.Places.{place_asked}
 use Rattle.audit_asked.specs.Refusals.{Refused}
 use Rattle.audit_asked.specs.Settings.{settled}
@@ -23,6 +24,10 @@ use Rattle.audit_asked.specs.declared.faults.RunFault.{RunFault}
 use Rattle.audit_asked.specs.declared.faults.RunFault.TheVariants as fault
 use Rattle.audit_asked.specs.declared.runners.Started.{Started}
 use Rattle.audit_program.specs.Calls.{AddsRunCall}
+use Rattle.audit_program.specs.Causes.{IsAskedFault, Refuses, TaskCause}
+use Rattle.audit_program.specs.Tasks.{baseline_path, task_asked}
+use Rattle.audit_program.specs.declared.tasks.Task.{Task}
+use Rattle.audit_program.proofs.Faults.{ends_with}
 use Rattle.tame_names.specs.Counts.{CountRoseBy}
 
 -- where all is accepted, the first part is, and the rest goes on with it
@@ -31,11 +36,12 @@ part (Ok a) next b is = (a, refl, is)
 part (Err e) next b is = absurd (cc)
 
 -- the settings are those under the command's options
-texts_config : (host : Host) (config : AuditConfig) (place : List ℕ) (given : Asked) → texts_asked host config place ≡ Ok given → given.config ≡ config
-texts_config host config place given is =
+texts_config : (host : Host) (config : AuditConfig) (named : Option (List ℕ)) (place : List ℕ) (given : Asked) → texts_asked host config named place ≡ Ok given → given.config ≡ config
+texts_config host config named place given is =
     let database = part (database_asked config.database.path host) _ given is in
     let advisories = part (advisories_asked host database.0) _ given database.2 in
-    let text = part (input_or_text host place) _ given advisories.2 in
+    let baseline = part (baseline_asked named host) _ given advisories.2 in
+    let text = part (input_or_text host place) _ given baseline.2 in
     let last = text.2 in
     cc (last)
 
@@ -44,11 +50,11 @@ pub lockfile_or_fault : {A : Type 0} (r : Result (List Package) LockfileFault) �
 lockfile_or_fault (Ok packages) good bad = good packages refl
 lockfile_or_fault (Err reason) good bad = bad reason refl
 
-pub asked_config : (command : AuditCommand) (host : Host) (given : Asked) (config : AuditConfig) → asked command host (pos 0) ≡ Ok given → settled command host ≡ Ok config → given.config ≡ config
-asked_config command host given config is settles =
-    let first = part (settled command host) _ given is in
-    let place = part (place_asked command.file host (pos 0)) _ given first.2 in
-    let mine = texts_config host first.0 place.0 given place.2 in
+pub asked_config : (task : Task) (host : Host) (given : Asked) (config : AuditConfig) → task_asked task host (pos 0) ≡ Ok given → settled task.command host ≡ Ok config → given.config ≡ config
+asked_config task host given config is settles =
+    let first = part (settled task.command host) _ given is in
+    let place = part (place_asked task.command.file host (pos 0)) _ given first.2 in
+    let mine = texts_config host first.0 (baseline_path task.remedy) place.0 given place.2 in
     let other = first.1 in
     cc (mine, other, settles)
 
@@ -88,6 +94,8 @@ call_case may before now (fault.Missing path) h = h
 call_case may before now (fault.NotUtf8 path) h = h
 call_case may before now (fault.TooLarge path len) h = h
 call_case may before now (fault.Advisory n reason) h = h
+call_case may before now (fault.Baseline line) h = h
+call_case may before now (fault.Vendor reason) h = h
 
 -- the same where memory ran out in telling it
 memory_case : (may : List ℕ → FailedCall → Type 0) (before now : List FailedCall) (f : RunFault) → AddsBy may before now f → AddsRunCall may before now (Some fault.NoMemory)
@@ -103,8 +111,55 @@ memory_case may before now (fault.Missing path) h = inl h
 memory_case may before now (fault.NotUtf8 path) h = inl h
 memory_case may before now (fault.TooLarge path len) h = inl h
 memory_case may before now (fault.Advisory n reason) h = inl h
+memory_case may before now (fault.Baseline line) h = inl h
+memory_case may before now (fault.Vendor reason) h = inl h
 
 pub call_told : (may : List ℕ → FailedCall → Type 0) (before now : List FailedCall) (f : RunFault) (o : Option RunFault) → (o ≡ Some f) ⊎ (o ≡ Some fault.NoMemory) → AddsBy may before now f
     → AddsRunCall may before now o
 call_told may before now f o (inl is) h = let P : Option RunFault → Type 0 = λ x. AddsRunCall may before now x in subst P (sym is) (call_case may before now f h)
 call_told may before now f o (inr is) h = let P : Option RunFault → Type 0 = λ x. AddsRunCall may before now x in subst P (sym is) (memory_case may before now f h)
+
+-- ---- causes
+
+pub ok_same : {A E : Type 0} (r : Result A E) (a b : A) → r ≡ Ok a → r ≡ Ok b → a ≡ b
+ok_same r a b is other = cc (is, other)
+
+-- the fault of a run that has what it asked for
+pub asked_cause : (told : Type 0) (task : Task) (host : Host) (given : Asked) (o : Option RunFault) → (told → task_asked task host (pos 0) ≡ Ok given) → IfSome o (IsAskedFault task given)
+    → IfSome o (TaskCause told task host)
+asked_cause told task host given None gives only = tt
+asked_cause told task host given (Some fault.Print) gives only = tt
+asked_cause told task host given (Some fault.NoMemory) gives only = tt
+asked_cause told task host given (Some (fault.Start failed)) gives only = only
+asked_cause told task host given (Some (fault.Vendor reason)) gives only = only
+asked_cause told task host given (Some (fault.Lockfile reason)) gives only = record { given = given; gives = gives; lockfile = only.1; no_memory = only.0 }
+asked_cause told task host given (Some (fault.File path)) gives only = record { gives = λ here no. cc (no); only = tt }
+asked_cause told task host given (Some (fault.Usage place)) gives only = absurd only
+asked_cause told task host given (Some (fault.Settings reason)) gives only = absurd only
+asked_cause told task host given (Some (fault.Missing path)) gives only = absurd only
+asked_cause told task host given (Some (fault.NotUtf8 path)) gives only = absurd only
+asked_cause told task host given (Some (fault.TooLarge path len)) gives only = absurd only
+asked_cause told task host given (Some (fault.Advisory n reason)) gives only = absurd only
+asked_cause told task host given (Some (fault.Baseline line)) gives only = absurd only
+asked_cause told task host given (Some (fault.Generate status)) gives only = absurd only
+
+-- the fault of asking
+one_cause : (told : Type 0) (task : Task) (host : Host) (f : RunFault) → Refuses told task host f → TaskCause told task host f
+one_cause told task host fault.Print refuses = tt
+one_cause told task host fault.NoMemory refuses = tt
+one_cause told task host (fault.Start failed) refuses = let one = refuses.only in omega (arith, one)
+one_cause told task host (fault.Vendor reason) refuses = absurd refuses.only
+one_cause told task host (fault.Lockfile reason) refuses = absurd refuses.only
+one_cause told task host (fault.File path) refuses = refuses
+one_cause told task host (fault.Usage place) refuses = refuses
+one_cause told task host (fault.Settings reason) refuses = refuses
+one_cause told task host (fault.Missing path) refuses = refuses
+one_cause told task host (fault.NotUtf8 path) refuses = refuses
+one_cause told task host (fault.TooLarge path len) refuses = refuses
+one_cause told task host (fault.Advisory n reason) refuses = refuses
+one_cause told task host (fault.Baseline line) refuses = refuses
+one_cause told task host (fault.Generate status) refuses = refuses
+
+pub refused_cause : (told : Type 0) (task : Task) (host : Host) (f : RunFault) (o : Option RunFault) → (o ≡ Some f) ⊎ (o ≡ Some fault.NoMemory) → Refuses told task host f
+    → IfSome o (TaskCause told task host)
+refused_cause told task host f o end refuses = ends_with (λ e. TaskCause told task host e) o f end (one_cause told task host f refuses) tt

@@ -7,7 +7,6 @@ use Rattle.audit_words.specs.Reading.{command_of}
 use Rattle.audit_words.specs.declared.commands.Command.{Command}
 use Rattle.audit_words.specs.declared.commands.Command.TheVariants as command
 use Rattle.audit_words.specs.declared.commands.WordsFault.{WordsFault}
-use Rattle.audit_asked.specs.Asked.{asked}
 use Rattle.audit_asked.specs.declared.asking.Asked.{Asked}
 use Rattle.audit_asked.specs.declared.faults.RunFault.{RunFault}
 use Rattle.audit_asked.specs.declared.faults.RunFault.TheVariants as fault
@@ -18,10 +17,10 @@ use Rattle.audit_words.specs.declared.commands.BinCommand.{BinCommand}
 use Rattle.audit_generator.specs.Moments.{IsGenerated}
 use Rattle.audit_generator.specs.declared.generating.Generated.{Generated}
 use Rattle.audit_output.specs.Outputs.{IsPrintFault}
-use Rattle.audit_program.specs.Causes.{Accepts, BinariesCause, CauseOf, CommandCause}
+use Rattle.audit_program.specs.Causes.{Accepts, BinariesCause, CauseOf, TaskCause}
 use Rattle.audit_program.specs.GeneratedRuns.{IsGeneratedRun}
-use Rattle.audit_program.specs.Outputs.{IsPutBy, plain_text}
-use Rattle.audit_program.specs.Tasks.{task_of}
+use Rattle.audit_program.specs.Outputs.{IsPutBy, NeedsNoHost, plain_text}
+use Rattle.audit_program.specs.Tasks.{AsksForBinaries, task_asked, task_of}
 use Rattle.audit_program.specs.declared.tasks.Task.{Task}
 use Rattle.audit_program.proofs.Faults.{print_case}
 use Rattle.audit_program.proofs.Putting.{put_nothing}
@@ -48,9 +47,12 @@ plain_none r s before now o is none same =
 
 -- no call failed
 pub none_called : (r : Result Command WordsFault) (host : Host) (before : List FailedCall) → AddsCalls r host before before (Some fault.NoMemory)
-none_called (Ok (command.Audit audit)) host before = inl refl
-none_called (Ok (command.Fix audit more)) host before = inl refl
-none_called (Ok (command.Plan audit)) host before = inl refl
+none_called (Ok (command.Audit audit)) host before = inl (inl refl)
+none_called (Ok (command.Fix audit more)) host before = inl (inl refl)
+none_called (Ok (command.Plan audit)) host before = inl (inl refl)
+none_called (Ok (command.Baseline audit path)) host before = inl (inl refl)
+none_called (Ok (command.WriteBaseline audit path)) host before = inl (inl refl)
+none_called (Ok (command.Vendor audit more)) host before = inl (inl refl)
 none_called (Ok (command.Bin audit more)) host before = inr (none_added more.binary_paths before)
 none_called (Ok command.Help) host before = refl
 none_called (Ok command.Version) host before = refl
@@ -62,7 +64,7 @@ no_memory_called r host before o (inl is) = let P : Option RunFault → Type 0 =
 no_memory_called r host before o (inr is) = let P : Option RunFault → Type 0 = λ x. AddsCalls r host before before x in subst P (sym is) (none_called r host before)
 
 -- the cause of an audit of a lockfile
-pub task_cause : (told : Type 0) (words : List (List ℕ)) (host : Host) (task : Task) (o : Option RunFault) → task_of (command_of words) ≡ Some task → IfSome o (CommandCause told task.command host)
+pub task_cause : (told : Type 0) (words : List (List ℕ)) (host : Host) (task : Task) (o : Option RunFault) → task_of (command_of words) ≡ Some task → IfSome o (TaskCause told task host)
     → IfSome o (CauseOf told words host)
 task_cause told words host task None is h = tt
 task_cause told words host task (Some fault.Print) is h = tt
@@ -75,6 +77,8 @@ task_cause told words host task (Some (fault.TooLarge path len)) is h = inl (tas
 task_cause told words host task (Some (fault.File path)) is h = inl (task, is, h)
 task_cause told words host task (Some (fault.Lockfile reason)) is h = inl (task, is, h)
 task_cause told words host task (Some (fault.Advisory n reason)) is h = inl (task, is, h)
+task_cause told words host task (Some (fault.Baseline line)) is h = inl (task, is, h)
+task_cause told words host task (Some (fault.Vendor reason)) is h = inl (task, is, h)
 task_cause told words host task (Some (fault.Generate status)) is h = inl (task, is, h)
 task_cause told words host task (Some (fault.Start failed)) is h = inl (task, is, h)
 
@@ -97,6 +101,8 @@ bin_cause told words host audit more (Some (fault.TooLarge path len)) is h = inr
 bin_cause told words host audit more (Some (fault.File path)) is h = inr (audit, more, is, h)
 bin_cause told words host audit more (Some (fault.Lockfile reason)) is h = inr (audit, more, is, h)
 bin_cause told words host audit more (Some (fault.Advisory n reason)) is h = inr (audit, more, is, h)
+bin_cause told words host audit more (Some (fault.Baseline line)) is h = inr (audit, more, is, h)
+bin_cause told words host audit more (Some (fault.Vendor reason)) is h = absurd h.only
 bin_cause told words host audit more (Some (fault.Generate status)) is h = inr (audit, more, is, h)
 bin_cause told words host audit more (Some (fault.Start failed)) is h = inr (audit, more, is, h)
 
@@ -109,14 +115,68 @@ made_run words n o is h =
 
 -- what was accepted is what this audit asked for
 pub accepted_by : (words : List (List ℕ)) (host : Host) (task : Task) (given : Asked) (packages : List Package) → task_of (command_of words) ≡ Some task → Accepts words host given packages
-    → asked task.command host (pos 0) ≡ Ok given
+    → task_asked task host (pos 0) ≡ Ok given
 accepted_by words host task given packages mine accepts =
     let other = accepts.is_task in
     let same : accepts.task ≡ task = cc (mine, other) in
-    let P : Task → Type 0 = λ t. asked t.command host (pos 0) ≡ Ok given in
+    let P : Task → Type 0 = λ t. task_asked t host (pos 0) ≡ Ok given in
     subst P same accepts.gives
 
 -- nothing is no value
 pub not_both : {A : Type 0} (o : Option A) (x : A) → o ≡ None → o ≡ Some x → ⊥
 not_both None x none is = cc (is)
 not_both (Some y) x none is = cc (none)
+
+-- ---- the words ask for an audit of a lockfile
+
+no_task : {X : Type 0} (task : Task) → None ≡ Some task → X
+no_task task is = cc
+
+-- then they need a host
+pub task_needs : {X : Type 0} (r : Result Command WordsFault) (task : Task) → task_of r ≡ Some task → NeedsNoHost r → X
+task_needs (Ok (command.Audit audit)) task is nothing = absurd nothing
+task_needs (Ok (command.Fix audit more)) task is nothing = absurd nothing
+task_needs (Ok (command.Plan audit)) task is nothing = absurd nothing
+task_needs (Ok (command.Baseline audit path)) task is nothing = absurd nothing
+task_needs (Ok (command.WriteBaseline audit path)) task is nothing = absurd nothing
+task_needs (Ok (command.Vendor audit more)) task is nothing = absurd nothing
+task_needs (Ok (command.Bin audit more)) task is nothing = absurd nothing
+task_needs (Ok command.Help) task is nothing = no_task task is
+task_needs (Ok command.Version) task is nothing = no_task task is
+task_needs (Ok (command.Generate n)) task is nothing = no_task task is
+task_needs (Err reason) task is nothing = no_task task is
+
+-- and for no binaries
+pub task_no_binaries : {X : Type 0} (r : Result Command WordsFault) (task : Task) → task_of r ≡ Some task → AsksForBinaries r → X
+task_no_binaries (Ok (command.Audit audit)) task is asks = absurd asks
+task_no_binaries (Ok (command.Fix audit more)) task is asks = absurd asks
+task_no_binaries (Ok (command.Plan audit)) task is asks = absurd asks
+task_no_binaries (Ok (command.Baseline audit path)) task is asks = absurd asks
+task_no_binaries (Ok (command.WriteBaseline audit path)) task is asks = absurd asks
+task_no_binaries (Ok (command.Vendor audit more)) task is asks = absurd asks
+task_no_binaries (Ok (command.Bin audit more)) task is asks = no_task task is
+task_no_binaries (Ok command.Help) task is asks = absurd asks
+task_no_binaries (Ok command.Version) task is asks = absurd asks
+task_no_binaries (Ok (command.Generate n)) task is asks = absurd asks
+task_no_binaries (Err reason) task is asks = absurd asks
+
+-- nothing is put without an audit
+pub task_plain : (r : Result Command WordsFault) (task : Task) → task_of r ≡ Some task → plain_text r ≡ []
+task_plain (Ok (command.Audit audit)) task is = refl
+task_plain (Ok (command.Fix audit more)) task is = refl
+task_plain (Ok (command.Plan audit)) task is = refl
+task_plain (Ok (command.Baseline audit path)) task is = refl
+task_plain (Ok (command.WriteBaseline audit path)) task is = refl
+task_plain (Ok (command.Vendor audit more)) task is = refl
+task_plain (Ok (command.Bin audit more)) task is = refl
+task_plain (Ok command.Help) task is = no_task task is
+task_plain (Ok command.Version) task is = no_task task is
+task_plain (Ok (command.Generate n)) task is = no_task task is
+task_plain (Err reason) task is = refl
+
+pub task_unaudited : {A B : Type 0} (a : Option A) (b : Option B) (r : Result Command WordsFault) (task : Task) (before now : List ℕ) (o : Option RunFault) → task_of r ≡ Some task
+    → IfNone a (IsPutBy before [] o now) → IfNone a (IfNone b (IsPutBy before (plain_text r) o now))
+task_unaudited (Some x) b r task before now o is h = tt
+task_unaudited None (Some y) r task before now o is h = tt
+task_unaudited None None r task before now o is h =
+    let P : List ℕ → Type 0 = λ x. IsPutBy before x o now in subst P (sym (task_plain r task is)) h

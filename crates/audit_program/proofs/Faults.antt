@@ -1,11 +1,18 @@
 -- Faults by cases.
-use Rattle.std.proofs.Common.{◌≡◌, ◌⊎◌, ◌<◌, inl, inr, ℕ, Option, Some, None, IsTrue, sym, ap, subst}
+use Rattle.std.proofs.Common.{◌≡◌, ◌≢◌, ◌⊎◌, ◌<◌, ◌≤◌, arith, inl, inr, ℕ, List, Option, Some, None, IsTrue, sym, ap, subst}
 use Rattle.std.specs.Prelude.{IfSome}
+use Rattle.tame_names.specs.Counts.{CountRose}
 use Rattle.audit_asked.specs.declared.faults.RunFault.{RunFault}
 use Rattle.audit_asked.specs.declared.faults.RunFault.TheVariants as fault
 use Rattle.audit_output.specs.Outputs.{IsPrintFault}
 use Rattle.audit_program.specs.Finishes.{IsFinishFault}
-use Rattle.audit_program.specs.Statuses.{is_early}
+use Rattle.audit_program.specs.Makings.{IsFileOf, IsMakingFault}
+use Rattle.audit_program.specs.Statuses.{IsEarly, is_early}
+use Rattle.audit_program.specs.Tasks.{MakesRegistry}
+use Rattle.audit_program.specs.declared.tasks.Remedy.{Remedy}
+use Rattle.audit_program.specs.declared.tasks.Remedy.TheVariants.{Report, Fix, Plan, Baseline, WriteBaseline, Vendor}
+use Rattle.vendor_faults.specs.declared.faults.VendorFault.{VendorFault}
+use Rattle.vendor_faults.specs.declared.faults.VendorFault.TheVariants as vendor_fault
 
 -- a run that fails with a fault ends with it, or for want of memory
 pub ends_with : (P : RunFault → Type 0) (o : Option RunFault) (f : RunFault) → (o ≡ Some f) ⊎ (o ≡ Some fault.NoMemory) → P f → P fault.NoMemory → IfSome o P
@@ -24,6 +31,8 @@ print_case P (fault.TooLarge path len) only print memory = absurd only
 print_case P (fault.File path) only print memory = absurd only
 print_case P (fault.Lockfile reason) only print memory = absurd only
 print_case P (fault.Advisory n reason) only print memory = absurd only
+print_case P (fault.Baseline line) only print memory = absurd only
+print_case P (fault.Vendor reason) only print memory = absurd only
 print_case P (fault.Generate status) only print memory = absurd only
 print_case P (fault.Start failed) only print memory = absurd only
 
@@ -49,14 +58,99 @@ finish_case P (fault.TooLarge path len) only print start memory = absurd only
 finish_case P (fault.File path) only print start memory = absurd only
 finish_case P (fault.Lockfile reason) only print start memory = absurd only
 finish_case P (fault.Advisory n reason) only print start memory = absurd only
+finish_case P (fault.Baseline line) only print start memory = absurd only
+finish_case P (fault.Vendor reason) only print start memory = absurd only
 finish_case P (fault.Generate status) only print start memory = absurd only
 
+-- a fault that is early of what is done with the audit is early
+pub early_of : (remedy : Remedy) (f : RunFault) → IsEarly remedy f → IsTrue (is_early f)
+early_of Report f early = early
+early_of (Fix dry_run) f early = early
+early_of Plan f early = early
+early_of (Baseline path) f early = early
+early_of (Vendor more) f early = early
+early_of (WriteBaseline path) (fault.File told) early = absurd early
+early_of (WriteBaseline path) (fault.Usage place) early = early
+early_of (WriteBaseline path) (fault.Settings reason) early = early
+early_of (WriteBaseline path) (fault.Missing told) early = early
+early_of (WriteBaseline path) (fault.NotUtf8 told) early = early
+early_of (WriteBaseline path) (fault.TooLarge told len) early = early
+early_of (WriteBaseline path) (fault.Lockfile reason) early = early
+early_of (WriteBaseline path) (fault.Advisory n reason) early = early
+early_of (WriteBaseline path) (fault.Baseline line) early = early
+early_of (WriteBaseline path) (fault.Vendor reason) early = early
+early_of (WriteBaseline path) fault.Print early = early
+early_of (WriteBaseline path) (fault.Generate status) early = early
+early_of (WriteBaseline path) (fault.Start failed) early = early
+early_of (WriteBaseline path) fault.NoMemory early = early
+
 -- none of these is early
-pub late_print : {X : Type 0} → IsTrue (is_early fault.Print) → X
-late_print early = cc
+pub late_print : {X : Type 0} (remedy : Remedy) → IsEarly remedy fault.Print → X
+late_print remedy early = let no : IsTrue (is_early fault.Print) = early_of remedy fault.Print early in cc
 
-pub late_start : {X : Type 0} (failed : ℕ) → IsTrue (is_early (fault.Start failed)) → X
-late_start failed early = cc
+pub late_start : {X : Type 0} (remedy : Remedy) (failed : ℕ) → IsEarly remedy (fault.Start failed) → X
+late_start remedy failed early = let no : IsTrue (is_early (fault.Start failed)) = early_of remedy (fault.Start failed) early in cc
 
-pub late_memory : {X : Type 0} → IsTrue (is_early fault.NoMemory) → X
-late_memory early = cc
+pub late_memory : {X : Type 0} (remedy : Remedy) → IsEarly remedy fault.NoMemory → X
+late_memory remedy early = let no : IsTrue (is_early fault.NoMemory) = early_of remedy fault.NoMemory early in cc
+
+late_vendor : {X : Type 0} (remedy : Remedy) (reason : VendorFault) → IsEarly remedy (fault.Vendor reason) → X
+late_vendor remedy reason early = let no : IsTrue (is_early (fault.Vendor reason)) = early_of remedy (fault.Vendor reason) early in cc
+
+-- nor is a fault of making
+late_file : {X : Type 0} (remedy : Remedy) (told : List ℕ) → IsFileOf remedy told → IsEarly remedy (fault.File told) → X
+late_file (WriteBaseline path) told only early = absurd early
+late_file Report told only early = absurd only
+late_file (Fix dry_run) told only early = absurd only
+late_file Plan told only early = absurd only
+late_file (Baseline path) told only early = absurd only
+late_file (Vendor more) told only early = absurd only
+
+pub late_making : {X : Type 0} (remedy : Remedy) (f : RunFault) → IsMakingFault remedy f → IsEarly remedy f → X
+late_making remedy fault.NoMemory only early = late_memory remedy early
+late_making remedy (fault.File told) only early = late_file remedy told only early
+late_making remedy (fault.Vendor reason) only early = late_vendor remedy reason early
+late_making remedy (fault.Usage place) only early = absurd only
+late_making remedy (fault.Settings reason) only early = absurd only
+late_making remedy (fault.Missing told) only early = absurd only
+late_making remedy (fault.NotUtf8 told) only early = absurd only
+late_making remedy (fault.TooLarge told len) only early = absurd only
+late_making remedy (fault.Lockfile reason) only early = absurd only
+late_making remedy (fault.Advisory n reason) only early = absurd only
+late_making remedy (fault.Baseline line) only early = absurd only
+late_making remedy fault.Print only early = absurd only
+late_making remedy (fault.Generate status) only early = absurd only
+late_making remedy (fault.Start failed) only early = absurd only
+
+-- what is so of each fault that making may have
+pub making_case : (P : RunFault → Type 0) (remedy : Remedy) (f : RunFault) → IsMakingFault remedy f → ((told : List ℕ) → IsFileOf remedy told → P (fault.File told))
+    → ((reason : VendorFault) → MakesRegistry remedy → reason ≢ vendor_fault.NoMemory → P (fault.Vendor reason)) → P fault.NoMemory → P f
+making_case P remedy (fault.File told) only file vendor memory = file told only
+making_case P remedy (fault.Vendor reason) only file vendor memory = vendor reason only.0 only.1
+making_case P remedy fault.NoMemory only file vendor memory = memory
+making_case P remedy (fault.Usage place) only file vendor memory = absurd only
+making_case P remedy (fault.Settings reason) only file vendor memory = absurd only
+making_case P remedy (fault.Missing told) only file vendor memory = absurd only
+making_case P remedy (fault.NotUtf8 told) only file vendor memory = absurd only
+making_case P remedy (fault.TooLarge told len) only file vendor memory = absurd only
+making_case P remedy (fault.Lockfile reason) only file vendor memory = absurd only
+making_case P remedy (fault.Advisory n reason) only file vendor memory = absurd only
+making_case P remedy (fault.Baseline line) only file vendor memory = absurd only
+making_case P remedy fault.Print only file vendor memory = absurd only
+making_case P remedy (fault.Generate status) only file vendor memory = absurd only
+making_case P remedy (fault.Start failed) only file vendor memory = absurd only
+
+-- the fault that a run ends with is the one that it failed with, but for want of memory
+pub same_fault : (f other : RunFault) (o : Option RunFault) → (o ≡ Some f) ⊎ (o ≡ Some fault.NoMemory) → o ≡ Some other → (fault.NoMemory ≡ other → ⊥) → f ≡ other
+same_fault f other o (inl mine) is differ = cc (mine, is)
+same_fault f other o (inr memory) is differ = absurd (differ (cc (memory, is)))
+
+pub memory_no_print : fault.NoMemory ≡ fault.Print → ⊥
+memory_no_print is = cc
+
+pub rose_later : (a b c d e : ℕ) → CountRose a b ⊎ CountRose c d → d ≤ e → CountRose a b ⊎ CountRose c e
+rose_later a b c d e (inl rose) later = inl rose
+rose_later a b c d e (inr rose) later = inr (omega (arith, rose, later))
+
+pub rose_before : (a b c : ℕ) → a ≤ b → CountRose b c → CountRose a c
+rose_before a b c later rose = omega (arith, later, rose)

@@ -4,8 +4,10 @@ pub mod Completing
 pub mod Ended
 pub mod Faults
 pub mod Finishing
-pub mod Planned
+pub mod Made
 pub mod Putting
+pub mod ReadSince
 pub mod Readings
 pub mod Reported
 pub mod Starting
+pub mod Stocked

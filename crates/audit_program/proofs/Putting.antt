@@ -16,6 +16,9 @@ use Rattle.audit_program.proofs.Faults.{print_case}
 pub part_whole : (before text now : List ℕ) → now ≡ before ++ text → AddsPrefix before text now
 part_whole before text now whole = (length text, whole ∙ ap (λ (xs : List ℕ). before ++ xs) (sym (take-length text)))
 
+pub put_all : (before text now : List ℕ) (reason : Option RunFault) → now ≡ before ++ text → IsPutBy before text reason now
+put_all before text now reason whole = record { part = part_whole before text now whole; whole = λ w. whole }
+
 -- of no text nothing is put
 pub put_nothing : (before : List ℕ) (reason : Option RunFault) → IsPutBy before [] reason before
 put_nothing before reason = record { part = part_none before []; whole = λ w. sym (append-nil before) }

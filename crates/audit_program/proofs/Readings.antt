@@ -108,6 +108,8 @@ by_asking command paths host before now (run_fault.NotUtf8 path) only h = h
 by_asking command paths host before now (run_fault.TooLarge path len) only h = h
 by_asking command paths host before now (run_fault.Lockfile reason) only h = absurd only
 by_asking command paths host before now (run_fault.Advisory n reason) only h = h
+by_asking command paths host before now (run_fault.Baseline line) only h = h
+by_asking command paths host before now (run_fault.Vendor reason) only h = absurd only
 by_asking command paths host before now (run_fault.Generate status) only h = absurd only
 by_asking command paths host before now (run_fault.Start failed) only h = absurd only
 
@@ -124,6 +126,8 @@ behind_asking command paths host before now (run_fault.NotUtf8 path) only h = in
 behind_asking command paths host before now (run_fault.TooLarge path len) only h = inr (of_none paths before now h)
 behind_asking command paths host before now (run_fault.Lockfile reason) only h = absurd only
 behind_asking command paths host before now (run_fault.Advisory n reason) only h = inr (of_none paths before now h)
+behind_asking command paths host before now (run_fault.Baseline line) only h = inr (of_none paths before now h)
+behind_asking command paths host before now (run_fault.Vendor reason) only h = absurd only
 behind_asking command paths host before now (run_fault.Generate status) only h = absurd only
 behind_asking command paths host before now (run_fault.Start failed) only h = absurd only
 

@@ -11,6 +11,7 @@ use Rattle.audit_asked.specs.declared.faults.RunFault.TheVariants as fault
 use Rattle.audit_asked.specs.declared.runners.Started.{Started}
 use Rattle.audit_program.specs.Calls.{StartsUnaudited, StartsWhere}
 use Rattle.audit_program.specs.Causes.{BinariesCause, IsAskedFault}
+use Rattle.audit_program.specs.declared.tasks.Task.{Task}
 
 -- ---- where asking failed
 
@@ -27,6 +28,8 @@ fault_case before now (fault.Missing path) most h = h
 fault_case before now (fault.NotUtf8 path) most h = h
 fault_case before now (fault.TooLarge path len) most h = h
 fault_case before now (fault.Advisory n reason) most h = h
+fault_case before now (fault.Baseline line) most h = h
+fault_case before now (fault.Vendor reason) most h = h
 
 pub failed_starts : (b : Bool) (before now : List Started) (f : RunFault) (o : Option RunFault) → (o ≡ Some f) ⊎ (o ≡ Some fault.NoMemory) → StartsAtMost before now → RunStartsWhere {T = Asked} b before now (Err f) → StartsWhere b before now o
 failed_starts true before now f o (inl is) most h = let P : Option RunFault → Type 0 = λ x. StartsUnaudited before now x in subst P (sym is) (fault_case before now f most h)
@@ -35,30 +38,32 @@ failed_starts false before now f o is most h = h
 
 -- ---- where asking was accepted, and nothing was audited
 
-given_starts : (b : Bool) (before now : List Started) (given : Asked) (o : Option RunFault) → RunStartsWhere b before now (Ok given) → StartsAtMost before now → IfSome o (IsAskedFault given)
+given_starts : (b : Bool) (before now : List Started) (task : Task) (given : Asked) (o : Option RunFault) → RunStartsWhere b before now (Ok given) → StartsAtMost before now → IfSome o (IsAskedFault task given)
     → ((n : ℕ) → o ≡ Some (fault.Start n) → ⊥) → StartsWhere b before now o
-given_starts false before now given o h most cause none = h
-given_starts true before now given None h most cause none = h
-given_starts true before now given (Some (fault.Lockfile reason)) h most cause none = h
-given_starts true before now given (Some fault.Print) h most cause none = h
-given_starts true before now given (Some fault.NoMemory) h most cause none = most
-given_starts true before now given (Some (fault.Start n)) h most cause none = absurd (none n refl)
-given_starts true before now given (Some (fault.Generate status)) h most cause none = absurd cause
-given_starts true before now given (Some (fault.File path)) h most cause none = absurd cause
-given_starts true before now given (Some (fault.Usage place)) h most cause none = absurd cause
-given_starts true before now given (Some (fault.Settings reason)) h most cause none = absurd cause
-given_starts true before now given (Some (fault.Missing path)) h most cause none = absurd cause
-given_starts true before now given (Some (fault.NotUtf8 path)) h most cause none = absurd cause
-given_starts true before now given (Some (fault.TooLarge path len)) h most cause none = absurd cause
-given_starts true before now given (Some (fault.Advisory n reason)) h most cause none = absurd cause
+given_starts false before now task given o h most cause none = h
+given_starts true before now task given None h most cause none = h
+given_starts true before now task given (Some (fault.Lockfile reason)) h most cause none = h
+given_starts true before now task given (Some fault.Print) h most cause none = h
+given_starts true before now task given (Some fault.NoMemory) h most cause none = most
+given_starts true before now task given (Some (fault.Start n)) h most cause none = absurd (none n refl)
+given_starts true before now task given (Some (fault.Generate status)) h most cause none = absurd cause
+given_starts true before now task given (Some (fault.File path)) h most cause none = inr h
+given_starts true before now task given (Some (fault.Usage place)) h most cause none = absurd cause
+given_starts true before now task given (Some (fault.Settings reason)) h most cause none = absurd cause
+given_starts true before now task given (Some (fault.Missing path)) h most cause none = absurd cause
+given_starts true before now task given (Some (fault.NotUtf8 path)) h most cause none = absurd cause
+given_starts true before now task given (Some (fault.TooLarge path len)) h most cause none = absurd cause
+given_starts true before now task given (Some (fault.Advisory n reason)) h most cause none = absurd cause
+given_starts true before now task given (Some (fault.Baseline line)) h most cause none = absurd cause
+given_starts true before now task given (Some (fault.Vendor reason)) h most cause none = h
 
-pub unaudited_starts : {T : Type 0} (a : Option T) (b : Bool) (before mid now : List Started) (given : Asked) (o : Option RunFault) → RunStartsWhere b before mid (Ok given) → StartsAtMost before mid
-    → IfSome o (IsAskedFault given) → ((n : ℕ) → o ≡ Some (fault.Start n) → IsSome a) → IfNone a (now ≡ mid) → IfNone a (StartsWhere b before now o)
-unaudited_starts (Some x) b before mid now given o h most cause some same = tt
-unaudited_starts None b before mid now given o h most cause some same =
+pub unaudited_starts : {T : Type 0} (a : Option T) (b : Bool) (before mid now : List Started) (task : Task) (given : Asked) (o : Option RunFault) → RunStartsWhere b before mid (Ok given) → StartsAtMost before mid
+    → IfSome o (IsAskedFault task given) → ((n : ℕ) → o ≡ Some (fault.Start n) → IsSome a) → IfNone a (now ≡ mid) → IfNone a (StartsWhere b before now o)
+unaudited_starts (Some x) b before mid now task given o h most cause some same = tt
+unaudited_starts None b before mid now task given o h most cause some same =
     let none : (n : ℕ) → o ≡ Some (fault.Start n) → ⊥ = λ n is. let no = some n is in cc in
     let P : List Started → Type 0 = λ x. StartsWhere b before x o in
-    subst P (sym same) (given_starts b before mid given o h most cause none)
+    subst P (sym same) (given_starts b before mid task given o h most cause none)
 
 -- one start failed where asking ended so
 pub asked_one : (f : RunFault) (o : Option RunFault) (n : ℕ) → (o ≡ Some f) ⊎ (o ≡ Some fault.NoMemory) → IsAskFault f → o ≡ Some (fault.Start n) → n ≡ 1
@@ -72,3 +77,9 @@ audited_some (Some x) P some = tt
 -- nothing is started for binaries
 pub none_started : {X : Type 0} (told : Type 0) (command : AuditCommand) (host : Host) (o : Option RunFault) (n : ℕ) → IfSome o (BinariesCause told command host) → o ≡ Some (fault.Start n) → X
 none_started told command host o n cause ended = let P : Option RunFault → Type 0 = λ x. IfSome x (BinariesCause told command host) in absurd ((subst P ended cause).only)
+
+-- nor where memory ran out at once
+pub memory_starts : (b : Bool) (before : List Started) (o : Option RunFault) → (o ≡ Some fault.NoMemory) ⊎ (o ≡ Some fault.NoMemory) → StartsWhere b before before o
+memory_starts false before o end = refl
+memory_starts true before o (inl is) = let P : Option RunFault → Type 0 = λ x. StartsUnaudited before before x in subst P (sym is) (inl refl)
+memory_starts true before o (inr is) = let P : Option RunFault → Type 0 = λ x. StartsUnaudited before before x in subst P (sym is) (inl refl)

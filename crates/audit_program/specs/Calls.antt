@@ -5,16 +5,22 @@ use Rattle.tame_names.specs.declared.host.FailedCall.{FailedCall}
 use Rattle.tame_names.specs.declared.host.FileCall.TheVariants as file_call
 use Rattle.audit_settings.specs.declared.commands.AuditCommand.{AuditCommand}
 use Rattle.audit_words.specs.declared.commands.Command.{Command}
-use Rattle.audit_words.specs.declared.commands.Command.TheVariants.{Audit, Bin, Fix, Plan}
+use Rattle.audit_words.specs.declared.commands.Command.TheVariants.{Bin}
 use Rattle.audit_words.specs.declared.commands.WordsFault.{WordsFault}
-use Rattle.audit_asked.specs.Asked.{IsAskedCall, generates}
+use Rattle.audit_asked.specs.Asked.{generates}
+use Rattle.audit_asked.specs.Calls.{IsCallOn}
 use Rattle.audit_asked.specs.ForBinaries.{IsForBinariesCall}
 use Rattle.audit_asked.specs.Settings.{settled}
 use Rattle.audit_asked.specs.Starts.{AddsStart, StartsAtMost}
 use Rattle.audit_asked.specs.declared.faults.RunFault.{RunFault}
 use Rattle.audit_asked.specs.declared.faults.RunFault.TheVariants as fault
 use Rattle.audit_asked.specs.declared.runners.Started.{Started}
-use Rattle.audit_program.specs.Tasks.{fix_command}
+use Rattle.tame_local.specs.Refusals.{IsCallFor}
+use Rattle.vendor_faults.specs.declared.faults.VendorFault.TheVariants as vendor_fault
+use Rattle.audit_program.specs.Tasks.{IsTaskCall, task_of}
+use Rattle.audit_program.specs.declared.tasks.Remedy.{Remedy}
+use Rattle.audit_program.specs.declared.tasks.Remedy.TheVariants.{Vendor, WriteBaseline}
+use Rattle.audit_program.specs.declared.tasks.Task.{Task}
 
 -- ---- failed calls in asking
 
@@ -55,27 +61,65 @@ AddsBinCalls command paths host before now (Some fault.Print) = AddsReadings pat
 AddsBinCalls command paths host before now None = AddsReadings paths before now
 AddsBinCalls command paths host before now (Some _) = now ≡ before
 
+-- ---- failed calls in making something of an audit
+
+-- a file couldn't be made at this path, which is told; where memory ran out that may have come
+-- before
+abbrev pub AddsFileCalls : List ℕ → List FailedCall → List FailedCall → Option RunFault → Type 0
+AddsFileCalls path before now (Some (fault.File told)) =
+    (call : FailedCall) × (now ≡ before ++ call ∷ []) × IsCallOn file_call.Create path told call
+AddsFileCalls path before now (Some fault.NoMemory) =
+    (now ≡ before) ⊎ AddsOne (IsCallOn file_call.Create path) before now
+AddsFileCalls path before now _ = now ≡ before
+
+-- a call for what is at the path that is told, where a registry was made
+abbrev pub AddsRegistryCalls : List FailedCall → List FailedCall → Option RunFault → Type 0
+AddsRegistryCalls before now (Some (fault.Vendor (vendor_fault.File told))) =
+    (call : FailedCall) × (now ≡ before ++ call ∷ []) × IsCallFor told call
+AddsRegistryCalls before now (Some fault.NoMemory) =
+    (now ≡ before) ⊎ AddsOne IsCallFor before now
+AddsRegistryCalls before now _ = now ≡ before
+
+-- else none is made
+abbrev pub AddsMakingCalls : Remedy → List FailedCall → List FailedCall → Option RunFault → Type 0
+AddsMakingCalls (WriteBaseline path) before now reason = AddsFileCalls path before now reason
+AddsMakingCalls (Vendor more) before now reason = AddsRegistryCalls before now reason
+AddsMakingCalls remedy before now reason = now ≡ before
+
 -- ---- by the words
+
+-- in asking, or once all that was asked for was given, in making
+abbrev pub AddsTaskCalls : Task → Host → List FailedCall → List FailedCall → Option RunFault
+    → Type 0
+AddsTaskCalls task host before now reason =
+    AddsRunCall (IsTaskCall task host) before now reason
+    ⊎ AddsMakingCalls task.remedy before now reason
+
+abbrev pub AddsOtherCalls : Result Command WordsFault → Host → List FailedCall → List FailedCall
+    → Option RunFault → Type 0
+AddsOtherCalls (Ok (Bin command more)) host before now reason =
+    AddsBinCalls command more.binary_paths host before now reason
+AddsOtherCalls _ host before now reason = now ≡ before
+
+abbrev pub AddsCallsBy : Option Task → Result Command WordsFault → Host → List FailedCall
+    → List FailedCall → Option RunFault → Type 0
+AddsCallsBy (Some task) words host before now reason = AddsTaskCalls task host before now reason
+AddsCallsBy None words host before now reason = AddsOtherCalls words host before now reason
 
 abbrev pub AddsCalls : Result Command WordsFault → Host → List FailedCall → List FailedCall
     → Option RunFault → Type 0
-AddsCalls (Ok (Audit command)) host before now reason =
-    AddsRunCall (IsAskedCall command host) before now reason
-AddsCalls (Ok (Fix command more)) host before now reason =
-    AddsRunCall (IsAskedCall (fix_command command more) host) before now reason
-AddsCalls (Ok (Plan command)) host before now reason =
-    AddsRunCall (IsAskedCall command host) before now reason
-AddsCalls (Ok (Bin command more)) host before now reason =
-    AddsBinCalls command more.binary_paths host before now reason
-AddsCalls _ host before now reason = now ≡ before
+AddsCalls words host before now reason = AddsCallsBy (task_of words) words host before now reason
 
 -- a lockfile is generated
+abbrev pub task_generates : Task → Host → Bool
+task_generates task host = generates task.command host (settled task.command host)
+
+abbrev pub generates_by : Option Task → Host → Bool
+generates_by (Some task) host = task_generates task host
+generates_by None host = false
+
 abbrev pub words_generate : Result Command WordsFault → Host → Bool
-words_generate (Ok (Audit command)) host = generates command host (settled command host)
-words_generate (Ok (Fix command more)) host =
-    generates (fix_command command more) host (settled (fix_command command more) host)
-words_generate (Ok (Plan command)) host = generates command host (settled command host)
-words_generate _ host = false
+words_generate words host = generates_by (task_of words) host
 
 -- ---- starts
 

@@ -11,14 +11,15 @@ use Rattle.audit_words.specs.Reading.{command_of}
 use Rattle.audit_words.specs.declared.commands.BinCommand.{BinCommand}
 use Rattle.audit_words.specs.declared.commands.Command.TheVariants.{Bin}
 use Rattle.audit_words.specs.declared.commands.WordsFault.TheVariants as words_fault
-use Rattle.audit_asked.specs.Asked.{asked, status_told}
+use Rattle.audit_asked.specs.Asked.{status_told}
 use Rattle.audit_asked.specs.ForBinaries.{asked_for_binaries}
 use Rattle.audit_asked.specs.Refusals.{IsAskFault, IsReadFault, is_told, refused}
 use Rattle.audit_asked.specs.Settings.{settled}
 use Rattle.audit_asked.specs.declared.asking.Asked.{Asked}
 use Rattle.audit_asked.specs.declared.faults.RunFault.{RunFault}
 use Rattle.audit_asked.specs.declared.faults.RunFault.TheVariants as fault
-use Rattle.audit_program.specs.Tasks.{options_of, task_of}
+use Rattle.audit_program.specs.Makings.{IsMakingFault}
+use Rattle.audit_program.specs.Tasks.{options_of, task_asked, task_of}
 use Rattle.audit_program.specs.declared.tasks.Task.{Task}
 
 -- ---- what was asked
@@ -29,7 +30,7 @@ pub record Accepts (words : List (List ℕ)) (host : Host) (given : Asked)
     (packages : List Package) : Type 0 where
   pub task : Task
   pub is_task : task_of (command_of words) ≡ Some task
-  pub gives : asked task.command host (pos 0) ≡ Ok given
+  pub gives : task_asked task host (pos 0) ≡ Ok given
   pub lockfile : locked given.text ≡ Ok packages
 
 -- the settings of the audits that the words ask for
@@ -41,33 +42,34 @@ Settles words host config =
 -- ---- causes in an audit of a lockfile
 
 -- what was asked has a text that is no lockfile, for this reason
-pub record HasNoLockfile (told : Type 0) (command : AuditCommand) (host : Host)
-    (reason : LockfileFault) : Type 0 where
+pub record HasNoLockfile (told : Type 0) (task : Task) (host : Host) (reason : LockfileFault)
+    : Type 0 where
   pub given : Asked
-  pub gives : told → asked command host (pos 0) ≡ Ok given
+  pub gives : told → task_asked task host (pos 0) ≡ Ok given
   pub lockfile : locked given.text ≡ Err reason
   pub no_memory : reason ≢ lockfile_fault.NoMemory
 
 -- what the host has gives this refusal, where the host decides it
-pub record Refuses (told : Type 0) (command : AuditCommand) (host : Host) (reason : RunFault)
+pub record Refuses (told : Type 0) (task : Task) (host : Host) (reason : RunFault)
     : Type 0 where
   pub gives : told → IsTrue (is_told reason)
-      → asked command host (status_told {T = Unit {0}} (Err reason)) ≡ Err (refused reason)
+      → task_asked task host (status_told {T = Unit {0}} (Err reason)) ≡ Err (refused reason)
   pub only : IsAskFault reason
 
--- what the host has, or the lockfile's text; that a count rose is said beside it
-abbrev pub CommandCause : Type 0 → AuditCommand → Host → RunFault → Type 0
-CommandCause told command host (fault.Lockfile reason) = HasNoLockfile told command host reason
-CommandCause told command host (fault.Start failed) = 0 < failed
-CommandCause told command host fault.Print = Unit {0}
-CommandCause told command host fault.NoMemory = Unit {0}
-CommandCause told command host reason = Refuses told command host reason
+-- what the host has, the lockfile's text, or what is made of the audit; that a count rose is said
+-- beside it
+abbrev pub TaskCause : Type 0 → Task → Host → RunFault → Type 0
+TaskCause told task host (fault.Lockfile reason) = HasNoLockfile told task host reason
+TaskCause told task host (fault.Vendor reason) = IsMakingFault task.remedy (fault.Vendor reason)
+TaskCause told task host (fault.Start failed) = 0 < failed
+TaskCause told task host fault.Print = Unit {0}
+TaskCause told task host fault.NoMemory = Unit {0}
+TaskCause told task host reason = Refuses told task host reason
 
 -- the words are those of an audit of a lockfile, and this is its cause
-abbrev pub TaskCause : Type 0 → List (List ℕ) → Host → RunFault → Type 0
-TaskCause told words host reason =
-    (task : Task) × (task_of (command_of words) ≡ Some task)
-    × CommandCause told task.command host reason
+abbrev pub WordsCause : Type 0 → List (List ℕ) → Host → RunFault → Type 0
+WordsCause told words host reason =
+    (task : Task) × (task_of (command_of words) ≡ Some task) × TaskCause told task host reason
 
 -- ---- causes in audits of binaries
 
@@ -96,7 +98,7 @@ CauseOf told words host (fault.Usage place) = command_of words ≡ Err (words_fa
 CauseOf told words host fault.Print = Unit {0}
 CauseOf told words host fault.NoMemory = Unit {0}
 CauseOf told words host reason =
-    TaskCause told words host reason ⊎ BinCause told words host reason
+    WordsCause told words host reason ⊎ BinCause told words host reason
 
 -- ---- kinds of faults
 
@@ -107,10 +109,9 @@ IsAuditFault fault.NoMemory = Unit {0}
 IsAuditFault _ = ⊥
 
 -- the fault that a run ends with once it has what it asked for
-abbrev pub IsAskedFault : Asked → RunFault → Type 0
-IsAskedFault given (fault.Lockfile reason) =
+abbrev pub IsAskedFault : Task → Asked → RunFault → Type 0
+IsAskedFault task given (fault.Lockfile reason) =
     (reason ≢ lockfile_fault.NoMemory) × (locked given.text ≡ Err reason)
-IsAskedFault given (fault.Start failed) = 0 < failed
-IsAskedFault given fault.Print = Unit {0}
-IsAskedFault given fault.NoMemory = Unit {0}
-IsAskedFault given _ = ⊥
+IsAskedFault task given (fault.Start failed) = 0 < failed
+IsAskedFault task given fault.Print = Unit {0}
+IsAskedFault task given reason = IsMakingFault task.remedy reason

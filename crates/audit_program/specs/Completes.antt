@@ -1,5 +1,5 @@
 -- When a run has no fault but want of memory (this project).
-use Rattle.std.specs.Prelude.{◌≡◌, ◌⊎◌, ℕ, ℤ, List, Some, Ok}
+use Rattle.std.specs.Prelude.{◌≡◌, ◌⊎◌, ℕ, ℤ, List, Option, Some, None, Ok}
 use Rattle.tame_names.specs.Counts.{CountStayed}
 use Rattle.tame_names.specs.Standing.{Host}
 use Rattle.audit_lock.specs.Locked.{locked}
@@ -8,11 +8,12 @@ use Rattle.audit_settings.specs.declared.commands.AuditCommand.{AuditCommand}
 use Rattle.audit_words.specs.Reading.{command_of}
 use Rattle.audit_words.specs.declared.commands.BinCommand.{BinCommand}
 use Rattle.audit_words.specs.declared.commands.Command.TheVariants.{Bin, Generate}
-use Rattle.audit_asked.specs.Asked.{asked}
 use Rattle.audit_asked.specs.ForBinaries.{asked_for_binaries}
 use Rattle.audit_asked.specs.declared.asking.Asked.{Asked}
 use Rattle.audit_asked.specs.declared.binaries.AskedForBinaries.{AskedForBinaries}
-use Rattle.audit_program.specs.Tasks.{task_of}
+use Rattle.audit_asked.specs.declared.faults.RunFault.{RunFault}
+use Rattle.audit_asked.specs.declared.faults.RunFault.TheVariants as fault
+use Rattle.audit_program.specs.Tasks.{task_asked, task_of}
 use Rattle.audit_program.specs.declared.tasks.Task.{Task}
 
 -- the words are those of an audit of a lockfile; what the host has gives all that it asks for,
@@ -21,7 +22,7 @@ pub record IsTaskReady (words : List (List ℕ)) (host : Host) : Type 0 where
   pub task : Task
   pub is_task : task_of (command_of words) ≡ Some task
   pub given : Asked
-  pub gives : (status : ℤ) → asked task.command host status ≡ Ok given
+  pub gives : (status : ℤ) → task_asked task host status ≡ Ok given
   pub packages : List Package
   pub lockfile : locked given.text ≡ Ok packages
 
@@ -54,3 +55,10 @@ pub record AllStayed (before now : FaultCounts) : Type 0 where
   pub starts : CountStayed before.starts now.starts
   pub out : CountStayed before.out now.out
   pub err : CountStayed before.err now.err
+
+-- a run ended without a fault, for want of memory, or without the registry that it was to make
+abbrev pub IsComplete : Option RunFault → Type 0
+IsComplete None = Unit {0}
+IsComplete (Some fault.NoMemory) = Unit {0}
+IsComplete (Some (fault.Vendor reason)) = Unit {0}
+IsComplete (Some _) = ⊥

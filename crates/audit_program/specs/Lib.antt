@@ -4,9 +4,10 @@ pub mod Causes
 pub mod Completes
 pub mod Finishes
 pub mod GeneratedRuns
+pub mod Jobs
+pub mod Makings
 pub mod Moments
 pub mod Outputs
-pub mod Plans
 pub mod Runs
 pub mod Statuses
 pub mod Steps

@@ -1,7 +1,11 @@
 -- What the objects outside tell, and what they hold at a moment, each record by its fields in
 -- their order (this project).
 use Rattle.std.specs.Prelude.{ℕ, List, Option}
+use Rattle.tame_names.specs.Standing.{Host}
 use Rattle.tame_names.specs.declared.host.FailedCall.{FailedCall}
+use Rattle.known_findings.specs.declared.findings.Finding.{Finding}
+use Rattle.audit_advisory.specs.declared.advisories.Advisory.{Advisory}
+use Rattle.audit_core.specs.declared.auditing.Audited.{Audited}
 use Rattle.tame_cache.specs.Kept.{Disk}
 use Rattle.tame_sparse.specs.declared.network.Exchange.{Exchange}
 use Rattle.audit_asked.specs.declared.faults.RunFault.{RunFault}
@@ -10,7 +14,8 @@ use Rattle.audit_core.specs.Audits.{Moment}
 use Rattle.audit_binaries.specs.Binaries.{Outside}
 use Rattle.audit_program.specs.BinaryRuns.{BinariesTelling}
 use Rattle.audit_program.specs.Completes.{FaultCounts}
-use Rattle.audit_program.specs.Runs.{Ending, GivenTelling, Sinks, Starts, Telling}
+use Rattle.audit_program.specs.Makings.{Making}
+use Rattle.audit_program.specs.Runs.{Ending, Hosts, Sinks, Starts, Telling}
 
 -- ---- what is told
 
@@ -24,10 +29,6 @@ telling files runner wire disk out err = record {
   out = out;
   err = err;
 }
-
-abbrev pub given_telling : Type 0 → Type 0 → Type 0 → Type 0 → Type 0 → GivenTelling
-given_telling runner wire disk out err =
-    record { runner = runner; wire = wire; disk = disk; out = out; err = err }
 
 -- by the host's files, its decoder, the wire, the disk, and the two outputs
 abbrev pub binaries_telling : Type 0 → Type 0 → Type 0 → Type 0 → Type 0 → Type 0
@@ -69,6 +70,25 @@ fault_counts files starts out err =
     record { files = files; starts = starts; out = out; err = err }
 
 -- ---- between two moments
+
+-- what the host had, and has
+abbrev pub hosts : Host → Host → Hosts
+hosts before now = record { before = before; now = now }
+
+-- what there is to make something of
+abbrev pub making : Type 0 → Type 0 → List Advisory → Option (List Finding) → Audited → Moment
+    → Moment → Host → Host → Making
+making files_tell disk_tells advisories known audited left ended host host_now = record {
+  files_tell = files_tell;
+  disk_tells = disk_tells;
+  advisories = advisories;
+  known = known;
+  audited = audited;
+  left = left;
+  ended = ended;
+  host = host;
+  host_now = host_now;
+}
 
 -- the starts of programs before, and after
 abbrev pub starts : List Started → List Started → Starts

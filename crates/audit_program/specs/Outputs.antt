@@ -1,5 +1,5 @@
 -- What a run puts on its two outputs (this project).
-use Rattle.std.specs.Prelude.{◌≡◌, ◌++◌, ℕ, ℤ, codes, nat_eq, List, [], length, Bool, true, false, Option, Some, None, if◌then◌else◌, Result, Ok, Err}
+use Rattle.std.specs.Prelude.{◌≡◌, ◌++◌, ℕ, ℤ, codes, decimal, nat_eq, List, [], length, Bool, true, false, Option, Some, None, if◌then◌else◌, Result, Ok, Err}
 use Rattle.tame_names.specs.Counts.{CountStayed}
 use Rattle.tame_names.specs.Output.{AddsPrefix}
 use Rattle.audit_advisory.specs.declared.advisories.Advisory.{Advisory}
@@ -10,6 +10,7 @@ use Rattle.audit_words.specs.declared.texts.TheConstants.{HELP_TEXT}
 use Rattle.audit_asked.specs.Places.{place_of}
 use Rattle.audit_asked.specs.declared.faults.RunFault.{RunFault}
 use Rattle.audit_asked.specs.declared.faults.RunFault.TheVariants as fault
+use Rattle.known_findings.specs.Baselines.{written}
 use Rattle.audit_core.specs.declared.auditing.Audited.{Audited}
 use Rattle.audit_fix.specs.Lines.{fix_lines}
 use Rattle.audit_generator.specs.Summaries.{summary_for}
@@ -17,10 +18,13 @@ use Rattle.audit_fix.specs.declared.plans.FixStep.{FixStep}
 use Rattle.audit_output.specs.FaultLines.{fault_line}
 use Rattle.audit_output.specs.Outputs.{Output}
 use Rattle.upgrade_plan.specs.Lines.{plan_lines}
-use Rattle.upgrade_plan.specs.declared.plans.PlanItem.{PlanItem}
-use Rattle.audit_program.specs.Tasks.{fix_command}
+use Rattle.vendor_registry.specs.declared.vendoring.Vendored.{Vendored}
+use Rattle.audit_program.specs.Tasks.{task_of}
+use Rattle.audit_program.specs.declared.making.Made.{Made}
+use Rattle.audit_program.specs.declared.making.Made.TheVariants as made
 use Rattle.audit_program.specs.declared.tasks.Remedy.{Remedy}
-use Rattle.audit_program.specs.declared.tasks.Remedy.TheVariants.{Report, Fix, Plan}
+use Rattle.audit_program.specs.declared.tasks.Remedy.TheVariants.{Fix}
+use Rattle.audit_program.specs.declared.tasks.Task.{Task}
 
 -- ---- the output without an audit
 
@@ -41,28 +45,44 @@ NeedsNoHost (Ok _) = ⊥
 NeedsNoHost (Err reason) = Unit {0}
 
 -- the lockfile's place by the words, for a fault that tells it
+abbrev pub place_by : Option Task → List ℕ
+place_by (Some task) = place_of task.command.file
+place_by None = []
+
 abbrev pub words_place : Result Command WordsFault → List ℕ
-words_place (Ok (command.Audit c)) = place_of c.file
-words_place (Ok (command.Fix c more)) = place_of (fix_command c more).file
-words_place (Ok (command.Plan c)) = place_of c.file
-words_place _ = []
+words_place words = place_by (task_of words)
 
--- ---- the output of a plan
+-- ---- the output of what was made of an audit
 
--- its lines in place of what an audit puts, where there is one
-abbrev pub planned_output : Output → Audited → Option (List PlanItem) → Output
-planned_output output audited None = output
-planned_output output audited (Some items) =
-    record { out = plan_lines audited.lockfile items; err = [] }
+abbrev pub vendored_line : Vendored → List ℕ
+vendored_line v =
+    codes "vendored " ++ decimal v.packages ++ codes " packages, "
+    ++ decimal v.bytes ++ codes " bytes\n"
+
+abbrev pub on_out : List ℕ → Output
+on_out text = record { out = text; err = [] }
+
+-- in place of what an audit puts: the lines of a plan, those of the findings that a baseline
+-- doesn't list, nothing of a baseline that was written, and the line of a registry
+abbrev pub made_output : Output → Audited → Made → Output
+made_output output audited made.Nothing = output
+made_output output audited (made.Planned items) = on_out (plan_lines audited.lockfile items)
+made_output output audited (made.Unlisted found) = on_out (written found)
+made_output output audited made.Written = on_out []
+made_output output audited (made.Vendored v) = on_out (vendored_line v)
+
+-- nothing is put where it couldn't be made
+abbrev pub output_by : Output → Audited → Result Made RunFault → Output
+output_by output audited (Ok it) = made_output output audited it
+output_by output audited (Err reason) = on_out []
 
 -- ---- the lines of `fix`
 
 -- by the statuses that its steps ended with, none where a step couldn't be started
 abbrev pub remedy_lines : Remedy → List Advisory → Audited → List (Option ℤ) → List ℕ
-remedy_lines Report advisories audited statuses = []
-remedy_lines Plan advisories audited statuses = []
 remedy_lines (Fix dry_run) advisories audited statuses =
     fix_lines dry_run advisories audited.lockfile audited.report.vulnerabilities statuses
+remedy_lines remedy advisories audited statuses = []
 
 -- none beside the lines of verdicts
 abbrev pub remedy_lines_in : Bool → Remedy → List Advisory → Audited → List (Option ℤ) → List ℕ

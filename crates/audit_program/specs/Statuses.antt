@@ -1,5 +1,5 @@
 -- How a run ends (this project, after cargo-audit).
-use Rattle.std.specs.Prelude.{ℕ, List, [], Bool, true, false, Option, Some, None, if◌then◌else◌}
+use Rattle.std.specs.Prelude.{ℕ, List, [], Bool, true, false, IsTrue, Option, Some, None, if◌then◌else◌}
 use Rattle.audit_advisory.specs.declared.advisories.Advisory.{Advisory}
 use Rattle.audit_asked.specs.declared.faults.RunFault.{RunFault}
 use Rattle.audit_asked.specs.declared.faults.RunFault.TheVariants as fault
@@ -9,10 +9,13 @@ use Rattle.audit_fix.specs.Endings.{fix_status}
 use Rattle.audit_fix.specs.Plans.{fix_plan}
 use Rattle.audit_fix.specs.declared.plans.FixPlan.{FixPlan}
 use Rattle.audit_fix.specs.declared.plans.FixStep.{FixStep}
+use Rattle.baseline_gate.specs.Gates.{gate_status}
 use Rattle.upgrade_plan.specs.Lines.{plan_status}
-use Rattle.upgrade_plan.specs.declared.plans.PlanItem.{PlanItem}
+use Rattle.audit_program.specs.declared.making.Made.{Made}
+use Rattle.audit_program.specs.declared.making.Made.TheVariants as made
 use Rattle.audit_program.specs.declared.tasks.Remedy.{Remedy}
-use Rattle.audit_program.specs.declared.tasks.Remedy.TheVariants.{Report, Fix, Plan}
+use Rattle.audit_program.specs.declared.tasks.Remedy.TheVariants.{Fix, WriteBaseline}
+use Rattle.audit_program.specs.declared.tasks.Task.{Task}
 
 -- ---- statuses
 
@@ -28,16 +31,19 @@ plan_of dry_run advisories audited =
 
 -- of an audit that ends without a fault: its exit, or by the plan that is started whole
 abbrev pub task_status : Remedy → List Advisory → Audited → ℕ
-task_status Report advisories audited = audited.exit
-task_status Plan advisories audited = audited.exit
 task_status (Fix dry_run) advisories audited =
     fix_status dry_run audited.report.vulnerabilities
     (plan_of dry_run advisories audited).unpatchable 0
+task_status remedy advisories audited = audited.exit
 
--- the same, but for a plan: by its items
-abbrev pub planned_status : Remedy → List Advisory → Audited → Option (List PlanItem) → ℕ
-planned_status remedy advisories audited None = task_status remedy advisories audited
-planned_status remedy advisories audited (Some items) = plan_status items
+-- by what was made of an audit: a plan by its items, the findings that a baseline doesn't list by
+-- whether there is one, and 0 for a baseline or a registry
+abbrev pub made_status : Remedy → List Advisory → Audited → Made → ℕ
+made_status remedy advisories audited made.Nothing = task_status remedy advisories audited
+made_status remedy advisories audited (made.Planned items) = plan_status items
+made_status remedy advisories audited (made.Unlisted found) = gate_status found
+made_status remedy advisories audited made.Written = 0
+made_status remedy advisories audited (made.Vendored v) = 0
 
 -- of audits of binaries: 1 where vulnerabilities were found, else 2 where errors were, else 0
 abbrev pub summary_status : MultiFileReportSummary → ℕ
@@ -50,15 +56,24 @@ summary_status summary =
 
 -- the faults that come before any audit; a start may fail before it or after it
 abbrev pub is_early : RunFault → Bool
+is_early (fault.Vendor reason) = false
 is_early fault.Print = false
 is_early (fault.Start failed) = false
 is_early fault.NoMemory = false
 is_early _ = true
 
+-- the same of what is done with the audit: the file of a baseline is made behind it
+abbrev pub IsEarly : Remedy → RunFault → Type 0
+IsEarly (WriteBaseline path) (fault.File told) = ⊥
+IsEarly remedy reason = IsTrue (is_early reason)
+
+abbrev pub IsEarlyBy : Option Task → RunFault → Type 0
+IsEarlyBy (Some task) reason = IsEarly task.remedy reason
+IsEarlyBy None reason = IsTrue (is_early reason)
+
 -- ---- steps
 
 -- the starts that are planned
 abbrev pub steps_of : Remedy → List Advisory → Audited → List FixStep
-steps_of Report advisories audited = []
-steps_of Plan advisories audited = []
 steps_of (Fix dry_run) advisories audited = (plan_of dry_run advisories audited).steps
+steps_of remedy advisories audited = []

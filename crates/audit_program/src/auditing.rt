@@ -1,5 +1,5 @@
 //! The audit of what was asked for.
-ghost use Rattle.std.specs.Prelude.{◌≡◌, ◌≢◌, ℕ, List, Ok, Err, IfOk, IfErr};
+ghost use Rattle.std.specs.Prelude.{◌≡◌, ◌≢◌, ◌≤◌, ℕ, List, Ok, Err, IfOk, IfErr};
 ghost use Rattle.audit_lock.specs.Locked.{locked};
 ghost use Rattle.audit_lock.specs.declared.lockfiles.LockfileFault.{LockfileFault};
 ghost use Rattle.audit_lock.specs.declared.resolving.Package.{Package};
@@ -32,6 +32,7 @@ pub fn audit<W: Wire, D: CacheDisk>(
         (moment (W.exchanges wire.new) (D.past disk.new) (W.faults wire.new) (D.faults disk.new))
         text.now) }
     ensures report { IfOk result (IsReportOf auditor.now.database) }
+    ensures later { IfOk result (λ _. D.faults disk.old ≤ D.faults disk.new) }
     ensures refused { (f : LockfileFault) → result ≡ Err (RunFault.Lockfile f)
         → locked text.now ≡ Err f }
     ensures only { IfErr result IsAuditFault }

@@ -1,24 +1,21 @@
-//! What is done once an audit of a lockfile stands: its output, and the steps and lines of `fix`.
+//! The output of an audit of a lockfile, and the steps and lines of `fix`.
 ghost use Rattle.std.specs.Prelude.{◌≡◌, ◌≤◌, ◌⊎◌, ◌++◌, ℕ, [], Err, IfOk, IfErr, string_bytes};
 ghost use Rattle.tame_names.specs.Counts.{CountRose, CountRoseBy};
 ghost use Rattle.audit_core.specs.Auditors.{IsReportOf};
 ghost use Rattle.audit_output.specs.Outputs.{IsPrintFault, output_of, shown_on};
 ghost use Rattle.audit_report.specs.Outputs.{IsPut};
 ghost use Rattle.audit_program.specs.Finishes.{IsFinishFault, IsFinished, end_of};
-ghost use Rattle.audit_program.specs.Outputs.{IsPutBy, planned_output, remedy_lines, remedy_lines_in};
-ghost use Rattle.audit_program.specs.Plans.{HasPlan};
-ghost use Rattle.audit_program.specs.Statuses.{plan_of, planned_status, task_status};
+ghost use Rattle.audit_program.specs.Outputs.{IsPutBy, remedy_lines_in};
+ghost use Rattle.audit_program.specs.Statuses.{plan_of, task_status};
 ghost use Rattle.audit_program.specs.Steps.{AreStarted};
 ghost use Rattle.audit_program.specs.declared.tasks.Remedy.TheVariants as Remedy;
 
-use crate::planning::put_plan;
 use crate::tasks::{Remedy, Task};
 use audit_asked::{RunFault, Runner};
 use audit_fix::{FixPlan, failed_starts, fix_lines, fix_status, start_steps};
 use audit_output::{Sheet, print, put_text};
 use std::alloc::Global;
-use tame_names::{Items, Sink};
-use upgrade_plan::PlanItem;
+use tame_names::Sink;
 
 /// Puts the lines of `fix`, by the statuses that its steps ended with; none beside the lines of
 /// verdicts.
@@ -100,7 +97,7 @@ fn fix<R: Runner, E: Sink>(
 
 /// Puts the output of an audit, and under `fix` starts its steps and puts its lines. Answers the
 /// status.
-fn print_and_fix<R: Runner, O: Sink, E: Sink>(
+pub fn print_and_fix<R: Runner, O: Sink, E: Sink>(
     alloc: Global,
     task: &Task,
     sheet: &Sheet<'_>,
@@ -135,57 +132,14 @@ fn print_and_fix<R: Runner, O: Sink, E: Sink>(
     ensures only { IfErr result IsFinishFault }
 {
     print(alloc, task.command.verdicts, sheet, out, err)?;
-    match task.remedy {
+    match &task.remedy {
+        Remedy::Fix { dry_run } => {
+            fix(alloc, *dry_run, task.command.verdicts, sheet, runner, err)
+        }
         Remedy::Report => Ok(sheet.audited.exit),
         Remedy::Plan => Ok(sheet.audited.exit),
-        Remedy::Fix { dry_run } => {
-            fix(alloc, dry_run, task.command.verdicts, sheet, runner, err)
-        }
-    }
-}
-
-/// Puts the output of an audit, and under `fix` starts its steps and puts its lines; or the lines
-/// of its plan alone, where there is one. Answers the status.
-pub fn finish<R: Runner, O: Sink, E: Sink>(
-    alloc: Global,
-    task: &Task,
-    sheet: &Sheet<'_>,
-    plan: &Option<Items<PlanItem>>,
-    runner: &mut R,
-    out: &mut O,
-    err: &mut E,
-) -> Result<u8, RunFault>
-    requires report { IsReportOf sheet.now.auditor.now.database sheet.now.audited.now }
-    requires plan { HasPlan task.now.remedy plan.now }
-    ensures out { O.tells → IsPutBy (O.holds out.old)
-        (planned_output (output_of task.now.command.verdicts (shown_on sheet.now)
-        sheet.now.place.now sheet.now.audited.now) sheet.now.audited.now plan.now).out
-        (end_of result) (O.holds out.new) }
-    ensures finished { IsFinished R.tells E.tells
-        (record {
-          verdicts = task.now.command.verdicts;
-          remedy = task.now.remedy;
-          advisories = sheet.now.auditor.now.database;
-          audited = sheet.now.audited.now;
-        })
-        (R.starts runner.old) (R.starts runner.new)
-        (planned_output (output_of task.now.command.verdicts (shown_on sheet.now)
-        sheet.now.place.now sheet.now.audited.now) sheet.now.audited.now plan.now).err
-        (E.holds err.old) (E.holds err.new) (end_of result) }
-    ensures status { IfOk result (λ status. status ≡ planned_status task.now.remedy
-        sheet.now.auditor.now.database sheet.now.audited.now plan.now) }
-    ensures out_later { O.faults out.old ≤ O.faults out.new }
-    ensures err_later { E.faults err.old ≤ E.faults err.new }
-    ensures starts_later { R.faults runner.old ≤ R.faults runner.new }
-    ensures print_rose { result ≡ Err RunFault.Print
-        → CountRose (O.faults out.old) (O.faults out.new)
-        ⊎ CountRose (E.faults err.old) (E.faults err.new) }
-    ensures start_rose { (failed : ℕ) → result ≡ Err (RunFault.Start failed)
-        → CountRoseBy failed (R.faults runner.old) (R.faults runner.new) }
-    ensures only { IfErr result IsFinishFault }
-{
-    match plan {
-        None => print_and_fix(alloc, task, sheet, runner, out, err),
-        Some(items) => put_plan(alloc, sheet, items.as_slice(), out),
+        Remedy::Baseline(_path) => Ok(sheet.audited.exit),
+        Remedy::WriteBaseline(_path) => Ok(sheet.audited.exit),
+        Remedy::Vendor(_more) => Ok(sheet.audited.exit),
     }
 }

@@ -2,7 +2,8 @@
 //! an updated cache.
 //!
 //! Promises: the audits are those of the words and of what the host has; out and err gain exactly
-//! their output; the steps of `fix` were started in order; each fault has its cause and its line.
+//! their output; the steps of `fix` were started in order; what is made of an audit is exactly
+//! that of its definition; each fault has its cause and its line.
 //! Stands on every crate below it, and on no real host: files, decoder, runner, wire, disk and
 //! sinks are traits.
 //!
@@ -20,12 +21,15 @@ mod binary_runs;
 mod ending;
 mod fixing;
 mod generating;
-mod planning;
+mod making;
 mod running;
 mod task_runs;
 mod tasks;
+mod telling;
 
 pub use audit_asked::RunFault;
-pub use audit_words::{BinCommand, Command, FixCommand, VERSION, WordsFault, read_words};
+pub use audit_words::{
+    BinCommand, Command, FixCommand, VERSION, VendorCommand, WordsFault, read_words,
+};
 pub use ending::Outcome;
 pub use running::run;

@@ -19,24 +19,26 @@ ghost use Rattle.audit_output.specs.Outputs.{IsPrintFault};
 ghost use Rattle.audit_program.specs.BinaryRuns.{ArePartlyRun, IsBinariesRun};
 ghost use Rattle.audit_program.specs.Calls.{AddsCalls, StartsWhere, words_generate};
 ghost use Rattle.audit_program.specs.Causes.{Accepts, CauseOf, Settles};
-ghost use Rattle.audit_program.specs.Completes.{AllStayed, IsReady};
+ghost use Rattle.audit_program.specs.Completes.{AllStayed, IsComplete, IsReady};
 ghost use Rattle.audit_program.specs.GeneratedRuns.{IsGeneratedRun};
-ghost use Rattle.audit_program.specs.Moments.{binaries_telling, ending, fault_counts, moment, outside, sinks, starts, telling};
+ghost use Rattle.audit_program.specs.Moments.{binaries_telling, ending, fault_counts, hosts, moment, outside, sinks, starts, telling};
 ghost use Rattle.audit_program.specs.Outputs.{NeedsNoHost, IsEnded, IsPutBy, plain_text, words_place};
 ghost use Rattle.audit_program.specs.Runs.{IsRun};
-ghost use Rattle.audit_program.specs.Statuses.{fault_status, is_early};
-ghost use Rattle.audit_program.specs.Tasks.{AsksForBinaries, AsksForPlan, task_of};
+ghost use Rattle.audit_program.specs.Statuses.{IsEarlyBy, fault_status};
+ghost use Rattle.audit_program.specs.Tasks.{AsksForBinaries, AsksWith, ReadsCache, WritesFiles, task_of};
+ghost use Rattle.vendor_faults.specs.declared.faults.VendorFault.{VendorFault};
+ghost use Rattle.vendor_faults.specs.declared.faults.VendorFault.TheVariants as VendorFault;
 ghost use Rattle.audit_program.specs.declared.tasks.Task.{Task};
 
 use crate::binary_runs::run_binaries;
 use crate::ending::{Outcome, failed};
 use crate::generating::run_generated;
 use crate::task_runs::run_task;
-use crate::tasks::{Remedy, Task, fix_task};
+use crate::tasks::{Job, read_job};
 use audit_asked::{RunFault, Runner};
 use audit_binaries::Decoder;
 use audit_output::print_text;
-use audit_words::{Command, HELP_TEXT, VERSION_TEXT, WordsFault, read_words};
+use audit_words::{HELP_TEXT, VERSION_TEXT, WordsFault};
 use std::alloc::Global;
 use tame_cache::CacheDisk;
 use tame_names::{FileLock, Files, Sink};
@@ -72,9 +74,11 @@ fn run_text<O: Sink, E: Sink>(alloc: Global, text: &str, out: &mut O, err: &mut 
 }
 
 /// Runs the command: reads the words, asks the host for settings, advisories and a lockfile or
-/// binaries, audits them, and prints the report or the verdicts; `fix` plans updates and starts
-/// them; `plan` tells which version each vulnerable package may go to; `generate` audits what it makes; help and the version are printed alone. A fault is told
-/// by a line on `err`.
+/// binaries, audits them, and prints the report or the verdicts; with a baseline it tells what is
+/// new, or writes what was found to a new one; `fix` plans updates and starts them; `plan` tells
+/// which version each vulnerable package may go to; `vendor` makes a local registry; `generate`
+/// audits what it makes; help and the version are printed alone. A fault is told by a line on
+/// `err`.
 pub fn run<F: Files, P: Decoder, R: Runner, W: Wire, D: CacheDisk, O: Sink, E: Sink>(
     alloc: Global,
     words: &[String],
@@ -87,13 +91,14 @@ pub fn run<F: Files, P: Decoder, R: Runner, W: Wire, D: CacheDisk, O: Sink, E: S
     out: &mut O,
     err: &mut E,
 ) -> Outcome
-    // the audit of `audit`, of `fix` and of `plan`: of what the host has, by the settings and
-    // advisories there, on the lockfile's text; what it says (the headline, what was asked and
-    // named, the verdicts, what is kept, and its causes); the plan that is made of it; what of its
-    // output was put, which steps were started, and the status
+    // the audit of a lockfile: of what the host has, by the settings and advisories there, on the
+    // lockfile's text; what it says (the headline, what was asked and named, the verdicts, what is
+    // kept, and its causes); what is made of it: a plan, what a baseline doesn't list, a baseline
+    // or a registry, or why it couldn't be made; what of its output was put, which steps were
+    // started, and the status
     ensures audited { IfSome result.audited (IsRun
         (telling F.tells R.tells W.tells D.tells O.tells E.tells)
-        (map string_bytes words.now) (F.host files.old)
+        (map string_bytes words.now) (hosts (F.host files.old) (F.host files.new))
         (moment (W.exchanges wire.old) (D.past disk.old) (W.faults wire.old) (D.faults disk.old))
         (moment (W.exchanges wire.new) (D.past disk.new) (W.faults wire.new) (D.faults disk.new))
         (starts (R.starts runner.old) (R.starts runner.new))
@@ -131,7 +136,11 @@ pub fn run<F: Files, P: Decoder, R: Runner, W: Wire, D: CacheDisk, O: Sink, E: S
     ensures has_generated { (n : ℕ) → command_of (map string_bytes words.now)
         ≡ Ok (Command.Generate n)
         → (result.fault ≡ None) ⊎ (result.fault ≡ Some RunFault.Print) → IsSome result.generated }
-    ensures no_audit { IfSome result.fault (λ f. IsTrue (is_early f)
+    // a registry that isn't made leaves the audit
+    ensures vendor_audit { (reason : VendorFault) → result.fault ≡ Some (RunFault.Vendor reason)
+        → IsSome result.audited }
+    ensures no_audit { IfSome result.fault (λ f.
+        IsEarlyBy (task_of (command_of (map string_bytes words.now))) f
         → (result.audited ≡ None) × (result.binaries ≡ None)) }
     ensures no_plan { IfNone result.audited (result.plan ≡ None) }
 
@@ -158,6 +167,11 @@ pub fn run<F: Files, P: Decoder, R: Runner, W: Wire, D: CacheDisk, O: Sink, E: S
         ⊎ CountRose (E.faults err.old) (E.faults err.new) }
     ensures file_rose { (path : List ℕ) → result.fault ≡ Some (RunFault.File path)
         → CountRose (F.faults files.old) (F.faults files.new) }
+    ensures crate_rose { (path : List ℕ)
+        → result.fault ≡ Some (RunFault.Vendor (VendorFault.File path))
+        → CountRose (F.faults files.old) (F.faults files.new) }
+    ensures store_rose { (at : ℕ) → result.fault ≡ Some (RunFault.Vendor (VendorFault.Store at))
+        → CountRose (D.faults disk.old) (D.faults disk.new) }
     ensures start_rose { (failed : ℕ) → result.fault ≡ Some (RunFault.Start failed)
         → CountRoseBy failed (R.faults runner.old) (R.faults runner.new) }
     // without an audit one start failed
@@ -168,17 +182,18 @@ pub fn run<F: Files, P: Decoder, R: Runner, W: Wire, D: CacheDisk, O: Sink, E: S
         → (result.fault ≡ Some (RunFault.Usage place)) ⊎ (result.fault ≡ Some RunFault.NoMemory) }
 
     // a run that has all that it asks for, and of which no call on host or outputs fails, ends
-    // without a fault but want of memory
+    // without a fault but want of memory, or that a registry couldn't be made
     ensures complete { F.tells → IsReady (map string_bytes words.now) (F.host files.old)
         → AllStayed
         (fault_counts (F.faults files.old) (R.faults runner.old) (O.faults out.old)
         (E.faults err.old))
         (fault_counts (F.faults files.new) (R.faults runner.new) (O.faults out.new)
         (E.faults err.new))
-        → (result.fault ≡ None) ⊎ (result.fault ≡ Some RunFault.NoMemory) }
+        → IsComplete result.fault }
 
     // which calls on the host failed, what was started without an audit, and that what the host has
-    // stays, but for standard input where it is the lockfile
+    // stays, but for standard input where it is the lockfile, and for the files of a baseline or a
+    // registry that are written behind an audit
     ensures failed { F.tells → AddsCalls (command_of (map string_bytes words.now))
         (F.host files.old) (F.failed files.old) (F.failed files.new) result.fault }
     ensures started { F.tells → R.tells → IfNone result.audited (StartsWhere
@@ -186,9 +201,13 @@ pub fn run<F: Files, P: Decoder, R: Runner, W: Wire, D: CacheDisk, O: Sink, E: S
         (R.starts runner.old) (R.starts runner.new) result.fault) }
     ensures at_most { R.tells → IfNone result.audited
         (StartsAtMost (R.starts runner.old) (R.starts runner.new)) }
-    ensures files_same { F.tells → StaysButInput
+    ensures files_same { F.tells
+        → (AsksWith WritesFiles (command_of (map string_bytes words.now)) → ⊥) → StaysButInput
         (IsInput (words_place (command_of (map string_bytes words.now))))
         (F.host files.old) (F.host files.new) }
+    ensures unaudited_files { F.tells → IfNone result.audited (StaysButInput
+        (IsInput (words_place (command_of (map string_bytes words.now))))
+        (F.host files.old) (F.host files.new)) }
 
     // however the run ends, a kept disk is kept at every moment where the exchanges were honest
     ensures kept { W.tells → D.tells → StaysKept (W.exchanges wire.old) (W.exchanges wire.new)
@@ -245,7 +264,8 @@ pub fn run<F: Files, P: Decoder, R: Runner, W: Wire, D: CacheDisk, O: Sink, E: S
         (moment (W.exchanges wire.new) (D.past disk.new) (W.faults wire.new) (D.faults disk.new))
         (D.folders disk.new) (F.failed files.new) (F.faults files.new) (P.faults decoder.new))) }
     // the wire isn't called but for online checks, and then alone a file of the cache may change
-    // and folders be made; where checks are off the disk isn't called but for a plan, which reads
+    // and folders be made; where checks are off the disk isn't called but for a plan and a
+    // registry, which read it
     ensures unasked { F.tells → (config : AuditConfig)
         → Settles (map string_bytes words.now) (F.host files.old) config
         → checks_of config ≢ Checks.Online → wire.new ≡ wire.old }
@@ -258,34 +278,19 @@ pub fn run<F: Files, P: Decoder, R: Runner, W: Wire, D: CacheDisk, O: Sink, E: S
         → checks_of config ≢ Checks.Online → D.folders disk.new ≡ D.folders disk.old }
     ensures off { F.tells → (config : AuditConfig)
         → Settles (map string_bytes words.now) (F.host files.old) config
-        → (AsksForPlan (command_of (map string_bytes words.now)) → ⊥)
+        → (AsksWith ReadsCache (command_of (map string_bytes words.now)) → ⊥)
         → checks_of config ≡ Checks.Off → disk.new ≡ disk.old }
 {
-    match read_words(alloc, words) {
-        Ok(Command::Audit(command)) => {
-            let task = Task {
-                command,
-                remedy: Remedy::Report,
-            };
+    match read_job(alloc, words) {
+        Ok(Job::Lockfile(task)) => {
             run_task(alloc, &task, files, runner, lock, wire, disk, out, err)
         }
-        Ok(Command::Fix(command, more)) => {
-            let task = fix_task(command, more);
-            run_task(alloc, &task, files, runner, lock, wire, disk, out, err)
-        }
-        Ok(Command::Plan(command)) => {
-            let task = Task {
-                command,
-                remedy: Remedy::Plan,
-            };
-            run_task(alloc, &task, files, runner, lock, wire, disk, out, err)
-        }
-        Ok(Command::Bin(command, more)) => run_binaries(
+        Ok(Job::Binaries(command, more)) => run_binaries(
             alloc, &command, &more, files, decoder, lock, wire, disk, out, err,
         ),
-        Ok(Command::Help) => run_text(alloc, HELP_TEXT, out, err),
-        Ok(Command::Version) => run_text(alloc, VERSION_TEXT, out, err),
-        Ok(Command::Generate(count)) => run_generated(alloc, count, out, err),
+        Ok(Job::Help) => run_text(alloc, HELP_TEXT, out, err),
+        Ok(Job::Version) => run_text(alloc, VERSION_TEXT, out, err),
+        Ok(Job::Generate(count)) => run_generated(alloc, count, out, err),
         Err(WordsFault::Usage { place }) => {
             failed(alloc, err, "", RunFault::Usage { place }, None, None)
         }

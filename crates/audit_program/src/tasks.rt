@@ -1,20 +1,33 @@
-//! The audits of lockfiles that words ask for.
-ghost use Rattle.std.specs.Prelude.{◌≡◌};
+//! The audits of lockfiles that words ask for, and what is done with them.
+ghost use Rattle.std.specs.Prelude.{◌≡◌, ◌≢◌, map, Ok, Err, IfOk, IfErr, option_map, string_bytes};
 ghost use Rattle.audit_asked.specs.Places.{place_of};
+ghost use Rattle.audit_words.specs.Reading.{command_of};
+ghost use Rattle.audit_words.specs.declared.commands.WordsFault.{WordsFault};
+ghost use Rattle.audit_words.specs.declared.commands.WordsFault.TheVariants as WordsFault;
+ghost use Rattle.audit_program.specs.Jobs.{IsJobOf};
+ghost use Rattle.audit_program.specs.Tasks.{baseline_path};
 ghost use Rattle.audit_program.specs.Tasks as spec;
 
 use audit_settings::AuditCommand;
-use audit_words::FixCommand;
+use audit_words::{BinCommand, Command, FixCommand, VendorCommand, WordsFault, read_words};
+use std::alloc::Global;
+use tame_names::Text;
 
-/// What is done about the vulnerabilities of an audit.
-#[derive(Clone, Copy, Debug, PartialEq, Eq)]
+/// What is done with an audit.
+#[derive(Debug, Drop)]
 pub enum Remedy {
-    /// They are reported.
+    /// What was found is reported.
     Report,
     /// Updates are planned and started as well; in a dry run cargo is told to change nothing.
     Fix { dry_run: bool },
     /// For each vulnerable package the version that it may go to is told, in place of a report.
     Plan,
+    /// What the baseline in the file at this path doesn't list is told, in place of a report.
+    Baseline(Text),
+    /// What was found is written as a baseline to a file at this path.
+    WriteBaseline(Text),
+    /// A local registry is made of the packages.
+    Vendor(VendorCommand),
 }
 
 /// An audit of a lockfile.
@@ -34,10 +47,20 @@ impl Task {
             None => "Cargo.lock",
         }
     }
+
+    /// The path of the baseline that is read.
+    pub fn baseline(&self) -> Option<&str>
+        ensures { option_map (λ path. path.now) result ≡ baseline_path self.now.remedy }
+    {
+        match &self.remedy {
+            Remedy::Baseline(path) => Some(path.as_str()),
+            _ => None,
+        }
+    }
 }
 
 /// The audit that `fix` makes. A lockfile that is named behind it stands for that of `audit`.
-pub fn fix_task(audit: AuditCommand, more: FixCommand) -> Task
+fn fix_task(audit: AuditCommand, more: FixCommand) -> Task
     ensures { result ≡ spec.fix_task audit more }
 {
     let FixCommand { file, dry_run } = more;
@@ -49,4 +72,49 @@ pub fn fix_task(audit: AuditCommand, more: FixCommand) -> Task
         command,
         remedy: Remedy::Fix { dry_run },
     }
+}
+
+/// What a command asks for, by what a run needs for it.
+#[derive(Debug, Drop)]
+pub enum Job {
+    /// The text for help.
+    Help,
+    /// The version.
+    Version,
+    /// Two audits of so many made packages.
+    Generate(u64),
+    /// Audits of binaries.
+    Binaries(AuditCommand, BinCommand),
+    /// An audit of a lockfile.
+    Lockfile(Task),
+}
+
+/// What a command asks for.
+fn job_of(command: Command) -> Job
+    ensures { IsJobOf (Ok command) result }
+{
+    let (command, remedy) = match command {
+        Command::Help => return Job::Help,
+        Command::Version => return Job::Version,
+        Command::Generate(count) => return Job::Generate(count),
+        Command::Bin(audit, more) => return Job::Binaries(audit, more),
+        Command::Fix(audit, more) => return Job::Lockfile(fix_task(audit, more)),
+        Command::Audit(audit) => (audit, Remedy::Report),
+        Command::Plan(audit) => (audit, Remedy::Plan),
+        Command::Baseline(audit, path) => (audit, Remedy::Baseline(path)),
+        Command::WriteBaseline(audit, path) => (audit, Remedy::WriteBaseline(path)),
+        Command::Vendor(audit, more) => (audit, Remedy::Vendor(more)),
+    };
+    Job::Lockfile(Task { command, remedy })
+}
+
+/// What the words ask for.
+pub fn read_job(alloc: Global, words: &[String]) -> Result<Job, WordsFault>
+    ensures ok { IfOk result (IsJobOf (command_of (map string_bytes words.now))) }
+    ensures refused { IfErr result (λ e. e ≢ WordsFault.NoMemory
+        → command_of (map string_bytes words.now) ≡ Err e) }
+    ensures usage { IfOk result (λ _. (e : WordsFault)
+        → command_of (map string_bytes words.now) ≡ Err e → ⊥) }
+{
+    Ok(job_of(read_words(alloc, words)?))
 }

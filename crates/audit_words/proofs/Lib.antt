@@ -1,6 +1,9 @@
+pub mod Behind
 pub mod Cuts
 pub mod Decimal
+pub mod Keeps
 pub mod Letters
+pub mod Lone
 pub mod Makeable
 pub mod Numbers
 pub mod Order
@@ -8,3 +11,4 @@ pub mod Places
 pub mod Quiet
 pub mod Spellings
 pub mod Stops
+pub mod Writes

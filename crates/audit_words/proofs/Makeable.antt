@@ -1,18 +1,17 @@
 -- What is generated has 1 to 5,000 packages.
-use Rattle.std.proofs.Common.{◌≡◌, ◌≤◌, ℕ, suc, List, [], ◌∷◌, Bool, true, false, ◌&&◌, cond, Option, Some, None, Result, Ok, Err, refl, sym, ap, ◌∙◌, rules, arith}
+use Rattle.std.proofs.Common.{◌≡◌, ◌≤◌, ℕ, suc, List, [], ◌∷◌, Bool, true, false, cond, Option, Some, None, Result, Ok, Err, refl, sym, ap, ◌∙◌, arith}
 use Rattle.std.proofs.lemmas.Grind.{common_steps}
-use Rattle.std.specs.Prelude.{nat_le}
-use Rattle.audit_words.specs.Reading.{command_of, ended, finish, finish_awaited, finish_phase, read_from, read_word, start, unless_ended}
+use Rattle.audit_settings.specs.declared.commands.AuditCommand.{AuditCommand}
+use Rattle.audit_words.specs.Reading.{audit_command, command_of, ended, finish, finish_awaited, finish_phase, read_from, read_word, start, unless_ended, vendor_command}
 use Rattle.audit_words.specs.Values.{is_empty, is_makeable}
 use Rattle.audit_words.specs.declared.commands.Command.{Command}
 use Rattle.audit_words.specs.declared.commands.Command.TheVariants as command
-use Rattle.audit_words.specs.declared.commands.WordsFault.{WordsFault}
 use Rattle.audit_words.specs.declared.drafts.Draft.{Draft}
 use Rattle.audit_words.specs.declared.drafts.Stop.{Stop}
 use Rattle.audit_words.specs.declared.drafts.Stop.TheVariants as stop
 use Rattle.audit_words.specs.declared.options.Meaning.{Meaning}
 use Rattle.audit_words.specs.declared.options.Phase.{Phase}
-use Rattle.audit_words.specs.declared.options.Phase.TheVariants.{Before, Audit, Fix, Bin, Paths, Plan, Generate, Generated}
+use Rattle.audit_words.specs.declared.options.Phase.TheVariants.{Before, Audit, Fix, Bin, Paths, Plan, Vendor, Generate, Generated}
 
 abbrev ended_well : Command → Result Command Stop
 ended_well c = Ok c
@@ -31,11 +30,22 @@ paths_case : (b : Bool) (c : Command) (n : ℕ) → (c ≡ command.Generate n �
 paths_case true c n other h = cc
 paths_case false c n other h = let same : c ≡ command.Generate n = cc in absurd (other same)
 
+audit_case : (b w : Option (List ℕ)) (a : AuditCommand) (n : ℕ) → ended_well (audit_command b w a) ≡ Ok (command.Generate n) → Bounded n
+audit_case (Some path) w a n h = cc
+audit_case None (Some path) a n h = cc
+audit_case None None a n h = cc
+
+vendor_case : (crates to : Option (List ℕ)) (a : AuditCommand) (n : ℕ) → vendor_command crates to a ≡ Ok (command.Generate n) → Bounded n
+vendor_case None to a n h = cc
+vendor_case (Some crates) None a n h = cc
+vendor_case (Some crates) (Some to) a n h = cc
+
 phase_case : (p : Phase) (d : Draft) (n : ℕ) → finish_phase p d ≡ Ok (command.Generate n) → Bounded n
 phase_case Before d n h = cc
-phase_case Audit d n h = cc
+phase_case Audit d n h = audit_case d.baseline d.write_baseline d.audit n h
 phase_case Fix d n h = cc
 phase_case Plan d n h = cc
+phase_case Vendor d n h = vendor_case d.vendor_crates d.vendor_to d.audit n h
 phase_case Bin d n h = paths_case (is_empty d.bin.binary_paths) (command.Bin d.audit d.bin) n (λ no. cc) h
 phase_case Paths d n h = paths_case (is_empty d.bin.binary_paths) (command.Bin d.audit d.bin) n (λ no. cc) h
 phase_case Generate d n h = cc

@@ -3,7 +3,8 @@ use Rattle.std.specs.Prelude.{◌≡◌, ℕ, List, [], ◌∷◌, Bool, true, f
 use Rattle.audit_words.specs.Options.{by_letter, by_long, is_flag, options}
 use Rattle.audit_words.specs.Values.{is_empty, without_equals}
 use Rattle.audit_words.specs.Reading.{allowed, alone, and_then, read_word, set_value}
-use Rattle.audit_words.specs.declared.options.Flag.TheVariants.{Help, Version, PathsFollow}
+use Rattle.audit_words.specs.declared.options.Flag.TheVariants.{Help, Version, Verdicts, PathsFollow}
+use Rattle.audit_words.specs.declared.options.Single.TheVariants.{Baseline, WriteBaseline}
 use Rattle.audit_words.specs.declared.options.Meaning.{Meaning}
 use Rattle.audit_words.specs.declared.options.Meaning.TheVariants.{Alone, Once, Many}
 use Rattle.audit_words.specs.declared.commands.Command.{Command}
@@ -52,6 +53,13 @@ set_by (Alone f) v d = and_then (λ n. alone n d) (allowed (Some (Alone f)) d)
 set_by (Once s) v d = given (Once s) v d
 set_by (Many l) v d = given (Many l) v d
 
+-- an option that gives something in place of the report
+abbrev pub replaces : Meaning → Bool
+replaces (Alone Verdicts) = true
+replaces (Once Baseline) = true
+replaces (Once WriteBaseline) = true
+replaces _ = false
+
 -- ---- quiet
 
 -- whether a command of `audit` is quiet; help, version and `generate` have no such option
@@ -62,6 +70,9 @@ was_quiet (command.Audit a) = Some a.quiet
 was_quiet (command.Fix a f) = Some a.quiet
 was_quiet (command.Bin a b) = Some a.quiet
 was_quiet (command.Plan a) = Some a.quiet
+was_quiet (command.Baseline a path) = Some a.quiet
+was_quiet (command.WriteBaseline a path) = Some a.quiet
+was_quiet (command.Vendor a v) = Some a.quiet
 was_quiet (command.Generate n) = None
 
 -- the same command, quiet
@@ -72,4 +83,7 @@ quieted (command.Audit a) = command.Audit (record a { quiet = true })
 quieted (command.Fix a f) = command.Fix (record a { quiet = true }) f
 quieted (command.Bin a b) = command.Bin (record a { quiet = true }) b
 quieted (command.Plan a) = command.Plan (record a { quiet = true })
+quieted (command.Baseline a path) = command.Baseline (record a { quiet = true }) path
+quieted (command.WriteBaseline a path) = command.WriteBaseline (record a { quiet = true }) path
+quieted (command.Vendor a v) = command.Vendor (record a { quiet = true }) v
 quieted (command.Generate n) = command.Generate n

@@ -6,11 +6,11 @@ use Rattle.audit_settings.specs.declared.commands.AuditCommand.{AuditCommand}
 use Rattle.audit_words.specs.Options.{options, by_long, by_letter, is_flag}
 use Rattle.audit_words.specs.Values.{is_empty, color_of, unless_empty, number, is_makeable, packages_of, after, without_equals, name_part, joined_value}
 use Rattle.audit_words.specs.declared.options.Phase.{Phase}
-use Rattle.audit_words.specs.declared.options.Phase.TheVariants.{Before, Audit, Fix, Bin, Paths, Plan, Generate, Generated}
+use Rattle.audit_words.specs.declared.options.Phase.TheVariants.{Before, Audit, Fix, Bin, Paths, Plan, Vendor, Generate, Generated}
 use Rattle.audit_words.specs.declared.options.Flag.{Flag}
 use Rattle.audit_words.specs.declared.options.Flag.TheVariants.{Help, Version, Verbose, NoYanked, NoFetch, Stale, Quiet, Json, Verdicts, DryRun, PathsFollow}
 use Rattle.audit_words.specs.declared.options.Single.{Single}
-use Rattle.audit_words.specs.declared.options.Single.TheVariants.{Color, Db, File, Url, Format, FixFile, MaxBinarySize, AuditDataSizeLimit}
+use Rattle.audit_words.specs.declared.options.Single.TheVariants.{Color, Db, File, Url, Format, Baseline, WriteBaseline, FixFile, MaxBinarySize, AuditDataSizeLimit}
 use Rattle.audit_words.specs.declared.options.Listed.{Listed}
 use Rattle.audit_words.specs.declared.options.Listed.TheVariants.{Deny, Ignore, TargetArch, TargetOs}
 use Rattle.audit_words.specs.declared.options.Meaning.{Meaning}
@@ -38,8 +38,12 @@ start = record {
   awaited = None;
   verbose = false;
   audit = no_option;
+  baseline = None;
+  write_baseline = None;
   fix = record { file = None; dry_run = false };
   bin = record { max_binary_size = None; audit_data_size_limit = None; binary_paths = [] };
+  vendor_crates = None;
+  vendor_to = None;
 }
 
 -- ---- what an option sets
@@ -58,7 +62,15 @@ set_flag Verdicts d = Ok (record d { audit = record d.audit { verdicts = true } 
 set_flag DryRun d = Ok (record d { fix = record d.fix { dry_run = true } })
 set_flag PathsFollow d = Ok (record d { phase = Paths })
 
--- whether a flag was met
+-- whether `--baseline` or `--write-baseline` was met
+abbrev pub has_baseline : Draft → Bool
+has_baseline d = is_some d.baseline || is_some d.write_baseline
+
+-- whether an option was met that gives something in place of the report
+abbrev pub replaces_report : Draft → Bool
+replaces_report d = d.audit.verdicts || has_baseline d
+
+-- whether a flag was met, or one that leaves it no room: only one option may replace the report
 abbrev pub has_flag : Flag → Draft → Bool
 has_flag Help d = false
 has_flag Version d = false
@@ -68,7 +80,7 @@ has_flag NoFetch d = d.audit.no_fetch
 has_flag Stale d = d.audit.stale
 has_flag Quiet d = d.audit.quiet
 has_flag Json d = d.audit.output_json
-has_flag Verdicts d = d.audit.verdicts
+has_flag Verdicts d = replaces_report d
 has_flag DryRun d = d.fix.dry_run
 has_flag PathsFollow d = false
 
@@ -82,19 +94,23 @@ set_single Url v d = Some (record d { audit = record d.audit { url = Some v } })
 set_single Format v d =
     option_map (λ f. record d { audit = record d.audit { output_format = Some f } })
     (output_format_of v)
+set_single Baseline v d = Some (record d { baseline = Some v })
+set_single WriteBaseline v d = Some (record d { write_baseline = Some v })
 set_single FixFile v d = Some (record d { fix = record d.fix { file = Some v } })
 set_single MaxBinarySize v d =
     option_map (λ n. record d { bin = record d.bin { max_binary_size = Some n } }) (number v)
 set_single AuditDataSizeLimit v d =
     option_map (λ n. record d { bin = record d.bin { audit_data_size_limit = Some n } }) (number v)
 
--- whether such a value was met
+-- whether such a value was met, or an option that leaves it no room
 abbrev pub has_single : Single → Draft → Bool
 has_single Color d = is_some d.audit.color
 has_single Db d = is_some d.audit.db
 has_single File d = is_some d.audit.file
 has_single Url d = is_some d.audit.url
 has_single Format d = is_some d.audit.output_format
+has_single Baseline d = replaces_report d
+has_single WriteBaseline d = replaces_report d
 has_single FixFile d = is_some d.fix.file
 has_single MaxBinarySize d = is_some d.bin.max_binary_size
 has_single AuditDataSizeLimit d = is_some d.bin.audit_data_size_limit
@@ -120,13 +136,13 @@ add_listed TargetOs v d =
 
 -- ---- one option
 
--- whether an option was met that may be given once
+-- whether an option was met that may be given once, or one that leaves it no room
 abbrev pub repeats : Meaning → Draft → Bool
 repeats (Alone f) d = has_flag f d
 repeats (Once s) d = has_single s d
 repeats (Many l) d = false
 
--- the option, if there is one and it isn't repeated against the rule
+-- the option, if there is one and it may be given behind what was met
 abbrev pub allowed : Option Meaning → Draft → Result Meaning Stop
 allowed None d = Err stop.Wrong
 allowed (Some m) d = if repeats m d then Err stop.Wrong else Ok m
@@ -194,18 +210,32 @@ abbrev pub begun_generate : Bool → Draft → Result Draft Stop
 begun_generate true d = Ok (record d { phase = Generate })
 begun_generate false d = Err stop.Wrong
 
+-- the command that follows `audit` and its options; none follows an option of a baseline
+abbrev pub begun : List ℕ → Draft → Result Draft Stop
+begun word d =
+    if has_baseline d then Err stop.Wrong
+    else if bytes_eq word (codes "fix") then Ok (record d { phase = Fix })
+    else if bytes_eq word (codes "bin") then Ok (record d { phase = Bin })
+    else if bytes_eq word (codes "plan") then Ok (record d { phase = Plan })
+    else if bytes_eq word (codes "vendor") then Ok (record d { phase = Vendor })
+    else if bytes_eq word (codes "generate") then begun_generate (is_bare d.audit) d
+    else Err stop.Wrong
+
+-- the next folder of `vendor`, where these were met: first that of the crate files, then that of
+-- the registry
+abbrev pub with_folder : Option (List ℕ) → Option (List ℕ) → List ℕ → Draft → Result Draft Stop
+with_folder None to word d = Ok (record d { vendor_crates = Some word })
+with_folder (Some crates) None word d = Ok (record d { vendor_to = Some word })
+with_folder (Some crates) (Some to) word d = Err stop.Wrong
+
 -- a word that is no option
 abbrev pub read_plain : Phase → List ℕ → Draft → Result Draft Stop
 read_plain Before word d =
     if bytes_eq word (codes "audit") then Ok (record d { phase = Audit }) else Err stop.Wrong
-read_plain Audit word d =
-    if bytes_eq word (codes "fix") then Ok (record d { phase = Fix })
-    else if bytes_eq word (codes "bin") then Ok (record d { phase = Bin })
-    else if bytes_eq word (codes "plan") then Ok (record d { phase = Plan })
-    else if bytes_eq word (codes "generate") then begun_generate (is_bare d.audit) d
-    else Err stop.Wrong
+read_plain Audit word d = begun word d
 read_plain Fix word d = Err stop.Wrong
 read_plain Plan word d = Err stop.Wrong
+read_plain Vendor word d = with_folder d.vendor_crates d.vendor_to word d
 read_plain Bin word d = Ok (with_path word d)
 read_plain Paths word d = Ok (with_path word d)
 read_plain Generate word d =
@@ -219,6 +249,7 @@ has_options Audit = true
 has_options Fix = true
 has_options Bin = true
 has_options Plan = true
+has_options Vendor = true
 has_options Paths = false
 has_options Generate = false
 has_options (Generated n) = false
@@ -239,11 +270,25 @@ read_word word d = read_awaited d.awaited word d
 
 -- ---- all words
 
+-- `audit` alone, or with its baseline
+abbrev pub audit_command : Option (List ℕ) → Option (List ℕ) → AuditCommand → Command
+audit_command (Some path) written a = command.Baseline a path
+audit_command None (Some path) a = command.WriteBaseline a path
+audit_command None None a = command.Audit a
+
+-- `vendor` with its folders
+abbrev pub vendor_command : Option (List ℕ) → Option (List ℕ) → AuditCommand → Result Command Stop
+vendor_command None to a = Err stop.Wrong
+vendor_command (Some crates) None a = Err stop.Wrong
+vendor_command (Some crates) (Some to) a =
+    Ok (command.Vendor a (record { crates = crates; to = to }))
+
 abbrev pub finish_phase : Phase → Draft → Result Command Stop
 finish_phase Before d = Err stop.Wrong
-finish_phase Audit d = Ok (command.Audit d.audit)
+finish_phase Audit d = Ok (audit_command d.baseline d.write_baseline d.audit)
 finish_phase Fix d = Ok (command.Fix d.audit d.fix)
 finish_phase Plan d = Ok (command.Plan d.audit)
+finish_phase Vendor d = vendor_command d.vendor_crates d.vendor_to d.audit
 finish_phase Bin d =
     if is_empty d.bin.binary_paths then Err stop.Wrong else Ok (command.Bin d.audit d.bin)
 finish_phase Paths d =

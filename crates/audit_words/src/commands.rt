@@ -36,6 +36,15 @@ pub struct BinCommand {
     pub binary_paths: Items<Text>,
 }
 
+/// The folders of `vendor`.
+#[derive(Debug, Drop, PartialEq, Eq)]
+pub struct VendorCommand {
+    /// The folder of the crate files.
+    pub crates: Text,
+    /// The folder of the registry that is made.
+    pub to: Text,
+}
+
 /// What is to be done.
 #[derive(Debug, Drop, PartialEq, Eq)]
 pub enum Command {
@@ -51,6 +60,12 @@ pub enum Command {
     Bin(AuditCommand, BinCommand),
     /// Audit a lockfile and tell which version each vulnerable package may go to.
     Plan(AuditCommand),
+    /// Audit a lockfile and tell what the baseline at this path hasn't.
+    Baseline(AuditCommand, Text),
+    /// Audit a lockfile and write what was found as the baseline at this path.
+    WriteBaseline(AuditCommand, Text),
+    /// Audit a lockfile and make a local registry of its packages.
+    Vendor(AuditCommand, VendorCommand),
     /// Make a world of so many packages, 1 to 5,000, and audit it twice.
     Generate(u64),
 }

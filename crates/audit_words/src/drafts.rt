@@ -1,14 +1,12 @@
 //! A command while its words are read.
 ghost use Rattle.std.specs.Prelude.{◌≡◌, ◌≢◌, ◌<◌, length, drop, IfSome, IfErr, OnOk, Ok, Err, option_map};
 ghost use Rattle.audit_words.specs.Options.{by_letter, options};
-ghost use Rattle.audit_words.specs.Reading.{Refuses, alone, first_meaning, long_given, or_wrong, read_dashed, start, with_path};
+ghost use Rattle.audit_words.specs.Reading.{Refuses, alone, first_meaning, long_given, or_wrong, read_dashed, start};
 ghost use Rattle.audit_words.specs.Reading as spec;
 
-use crate::commands::{BinCommand, Command, FixCommand};
+use crate::commands::{BinCommand, FixCommand};
 use crate::options::{Flag, Listed, Meaning, Phase, Single, by_letter, by_long};
-use crate::values::{
-    after, color_of, cut_equals, is_makeable, number, packages_of, unless_empty, without_equals,
-};
+use crate::values::{after, color_of, cut_equals, number, unless_empty, without_equals};
 use audit_advisory::{DenyOption, OutputFormat};
 use audit_settings::AuditCommand;
 use std::alloc::Global;
@@ -43,8 +41,15 @@ pub struct Draft {
     pub awaited: Option<Meaning>,
     pub verbose: bool,
     pub audit: AuditCommand,
+    /// The path of `--baseline`.
+    pub baseline: Option<Text>,
+    /// The path of `--write-baseline`.
+    pub write_baseline: Option<Text>,
     pub fix: FixCommand,
     pub bin: BinCommand,
+    /// The folders of `vendor`, as far as they are read.
+    pub vendor_crates: Option<Text>,
+    pub vendor_to: Option<Text>,
 }
 
 /// Whether a word is an option: it begins with `-` and isn't `-`.
@@ -52,27 +57,6 @@ fn is_option(word: &str) -> bool
     ensures { result ≡ spec.is_option word.now }
 {
     after(word, "-").is_some() && word != "-"
-}
-
-/// Whether no option of `audit` was given.
-fn is_bare(audit: &AuditCommand) -> bool
-    ensures { result ≡ spec.is_bare audit.now }
-{
-    audit.color.is_none()
-        && audit.db.is_none()
-        && audit.deny.as_slice().is_empty()
-        && audit.file.is_none()
-        && audit.ignore.as_slice().is_empty()
-        && !audit.no_yanked
-        && !audit.no_fetch
-        && !audit.stale
-        && audit.target_arch.as_slice().is_empty()
-        && audit.target_os.as_slice().is_empty()
-        && audit.url.is_none()
-        && !audit.quiet
-        && audit.output_format.is_none()
-        && !audit.output_json
-        && !audit.verdicts
 }
 
 /// The meaning of the first letter, and what is left behind it.
@@ -97,6 +81,8 @@ impl Draft {
             awaited: None,
             verbose: false,
             audit: AuditCommand::new(alloc),
+            baseline: None,
+            write_baseline: None,
             fix: FixCommand {
                 file: None,
                 dry_run: false,
@@ -106,6 +92,8 @@ impl Draft {
                 audit_data_size_limit: None,
                 binary_paths: Items::new(alloc),
             },
+            vendor_crates: None,
+            vendor_to: None,
         }
     }
 
@@ -129,6 +117,20 @@ impl Draft {
         Ok(())
     }
 
+    /// Whether `--baseline` or `--write-baseline` was met.
+    pub fn has_baseline(&self) -> bool
+        ensures { result ≡ spec.has_baseline self.now }
+    {
+        self.baseline.is_some() || self.write_baseline.is_some()
+    }
+
+    /// Whether an option was met that gives something in place of the report.
+    fn replaces_report(&self) -> bool
+        ensures { result ≡ spec.replaces_report self.now }
+    {
+        self.audit.verdicts || self.has_baseline()
+    }
+
     fn has_flag(&self, flag: Flag) -> bool
         ensures { result ≡ spec.has_flag flag self.now }
     {
@@ -140,7 +142,7 @@ impl Draft {
             Flag::Stale => self.audit.stale,
             Flag::Quiet => self.audit.quiet,
             Flag::Json => self.audit.output_json,
-            Flag::Verdicts => self.audit.verdicts,
+            Flag::Verdicts => self.replaces_report(),
             Flag::DryRun => self.fix.dry_run,
         }
     }
@@ -157,6 +159,8 @@ impl Draft {
             Single::Format => self.audit.output_format = Some(OutputFormat::from_str(value).ok_or(
                 Stop::Wrong,
             )?),
+            Single::Baseline => self.baseline = Some(Text::of(alloc, value)?),
+            Single::WriteBaseline => self.write_baseline = Some(Text::of(alloc, value)?),
             Single::FixFile => self.fix.file = Some(Text::of(alloc, value)?),
             Single::MaxBinarySize => self.bin.max_binary_size = Some(number(value).ok_or(
                 Stop::Wrong,
@@ -177,6 +181,7 @@ impl Draft {
             Single::File => self.audit.file.is_some(),
             Single::Url => self.audit.url.is_some(),
             Single::Format => self.audit.output_format.is_some(),
+            Single::Baseline | Single::WriteBaseline => self.replaces_report(),
             Single::FixFile => self.fix.file.is_some(),
             Single::MaxBinarySize => self.bin.max_binary_size.is_some(),
             Single::AuditDataSizeLimit => self.bin.audit_data_size_limit.is_some(),
@@ -213,7 +218,7 @@ impl Draft {
         }
     }
 
-    /// The option, if there is one and it isn't repeated against the rule.
+    /// The option, if there is one and it may be given behind what was met.
     fn allowed(&self, known: Option<Meaning>) -> Result<Meaning, Stop>
         ensures { result ≡ spec.allowed known self.now }
     {
@@ -301,45 +306,12 @@ impl Draft {
         }
     }
 
-    fn add_path(&mut self, alloc: Global, word: &str) -> Result<(), Stop>
-        ensures ok { OnOk result (self.new ≡ with_path word.now self.old) }
-        ensures refused { IfErr result (λ e. e ≡ Stop.NoMemory) }
-    {
-        self.bin.binary_paths.add(Text::of(alloc, word)?)?;
-        Ok(())
-    }
-
-    /// A word that is no option.
-    fn read_plain(&mut self, alloc: Global, word: &str) -> Result<(), Stop>
-        ensures ok { OnOk result (spec.read_plain self.old.phase word.now self.old ≡ Ok self.new) }
-        ensures refused { Refuses result (spec.read_plain self.old.phase word.now self.old) }
-    {
-        match (self.phase, word) {
-            (Phase::Before, "audit") => self.phase = Phase::Audit,
-            (Phase::Audit, "fix") => self.phase = Phase::Fix,
-            (Phase::Audit, "bin") => self.phase = Phase::Bin,
-            (Phase::Audit, "plan") => self.phase = Phase::Plan,
-            (Phase::Audit, "generate") => {
-                if !is_bare(&self.audit) {
-                    return Err(Stop::Wrong);
-                }
-                self.phase = Phase::Generate;
-            }
-            (Phase::Generate, _) => {
-                self.phase = Phase::Generated(packages_of(word).ok_or(Stop::Wrong)?);
-            }
-            (Phase::Before | Phase::Audit | Phase::Fix | Phase::Plan | Phase::Generated(_), _) =>
-                return Err(Stop::Wrong),
-            (Phase::Bin | Phase::Paths, _) => return self.add_path(alloc, word),
-        }
-        Ok(())
-    }
-
     fn has_options(&self) -> bool
         ensures { result ≡ spec.has_options self.now.phase }
     {
         match self.phase {
-            Phase::Before | Phase::Audit | Phase::Fix | Phase::Bin | Phase::Plan => true,
+            Phase::Before | Phase::Audit | Phase::Fix | Phase::Bin | Phase::Plan | Phase::Vendor =>
+                true,
             Phase::Paths | Phase::Generate | Phase::Generated(_) => false,
         }
     }
@@ -368,34 +340,5 @@ impl Draft {
         }
         self.awaited = None;
         self.set_value(alloc, meaning, word)
-    }
-
-    /// The command, where the words end.
-    pub fn finish(self) -> Result<Command, Stop>
-        ensures { result ≡ spec.finish self }
-    {
-        if self.awaited.is_some() {
-            return Err(Stop::Missing);
-        }
-        match self.phase {
-            Phase::Before | Phase::Generate => Err(Stop::Wrong),
-            Phase::Generated(count) => {
-                if is_makeable(count) {
-                    Ok(Command::Generate(count))
-                } else {
-                    Err(Stop::Wrong)
-                }
-            }
-            Phase::Audit => Ok(Command::Audit(self.audit)),
-            Phase::Fix => Ok(Command::Fix(self.audit, self.fix)),
-            Phase::Plan => Ok(Command::Plan(self.audit)),
-            Phase::Bin | Phase::Paths => {
-                if self.bin.binary_paths.as_slice().is_empty() {
-                    Err(Stop::Wrong)
-                } else {
-                    Ok(Command::Bin(self.audit, self.bin))
-                }
-            }
-        }
     }
 }

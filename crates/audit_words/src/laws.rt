@@ -2,11 +2,12 @@
 ghost use Rattle.std.specs.Prelude.{◌≡◌, ◌≢◌, ◌<◌, ◌≤◌, ◌+◌, ◌-◌, ◌*◌, ◌^◌, ℕ, codes, List, [], ◌∷◌, ◌++◌, true, false, Some, None, Ok, Err, length, take};
 ghost use Rattle.audit_advisory.specs.declared.outputs.TheConstants.{VERSION};
 ghost use Rattle.std.specs.Fmt.{decimal};
-ghost use Rattle.audit_words.specs.Laws.{CanJoin, IsLettered, IsNamed, drafted, given, is_setting, quieted, set_by, was_quiet};
-ghost use Rattle.audit_words.specs.Reading.{and_then, command_of, ended, finish, is_option, read_word, start, unless_ended};
+ghost use Rattle.audit_settings.specs.declared.commands.AuditCommand.{AuditCommand};
+ghost use Rattle.audit_words.specs.Laws.{CanJoin, IsLettered, IsNamed, drafted, given, is_setting, quieted, replaces, set_by, was_quiet};
+ghost use Rattle.audit_words.specs.Reading.{and_then, command_of, ended, finish, has_baseline, is_option, read_word, start, unless_ended};
 ghost use Rattle.audit_words.specs.Values.{number, value_from};
 ghost use Rattle.audit_words.specs.declared.commands.Command.{Command};
-ghost use Rattle.audit_words.specs.declared.commands.Command.TheVariants.{Generate};
+ghost use Rattle.audit_words.specs.declared.commands.Command.TheVariants.{Baseline, Generate, WriteBaseline};
 ghost use Rattle.audit_words.specs.declared.drafts.Draft.{Draft};
 ghost use Rattle.audit_words.specs.declared.drafts.Stop.{Stop};
 ghost use Rattle.audit_words.specs.declared.options.Meaning.{Meaning};
@@ -66,8 +67,23 @@ pub fn either_order()
         → and_then (set_by n w) (set_by m v d) ≡ and_then (set_by m v) (set_by n w d) }
 {}
 
+/// Behind an option that gives something in place of the report another one is refused, also the
+/// same once more; and behind an option of a baseline no word is a command. So a command with a
+/// baseline has no verdicts.
+pub fn baselines_stand_alone()
+    ensures options { (d : Draft) (m n : Meaning) (v w : List ℕ)
+        → replaces m ≡ true → replaces n ≡ true
+        → and_then (set_by n w) (set_by m v d) ≡ Err Stop.Wrong }
+    ensures commands { (d : Draft) (word : List ℕ) → d.phase ≡ Audit → d.awaited ≡ None
+        → has_baseline d ≡ true → is_option word ≡ false → read_word word d ≡ Err Stop.Wrong }
+    ensures compared { (words : List (List ℕ)) (a : AuditCommand) (path : List ℕ)
+        → command_of words ≡ Ok (Baseline a path) → a.verdicts ≡ false }
+    ensures written { (words : List (List ℕ)) (a : AuditCommand) (path : List ℕ)
+        → command_of words ≡ Ok (WriteBaseline a path) → a.verdicts ≡ false }
+{}
+
 /// A list that is accepted and isn't quiet is accepted with `-q` put behind `audit` too, or at any
-/// later place before `fix` or `bin` where no value is awaited: the same command, made quiet.
+/// later place before a command behind it where no value is awaited: the same command, made quiet.
 pub fn quiet_is_accepted()
     ensures behind_audit { (back : List (List ℕ)) (c : Command)
         → command_of (codes "audit" ∷ back) ≡ Ok c → was_quiet c ≡ Some false

@@ -12,18 +12,21 @@
 
 mod commands;
 mod drafts;
+mod endings;
 mod laws;
 mod options;
+mod plain_words;
 mod rows;
 mod texts;
 mod values;
 mod words;
 
 pub use audit_advisory::VERSION;
-pub use commands::{BinCommand, Command, FixCommand, WordsFault};
+pub use commands::{BinCommand, Command, FixCommand, VendorCommand, WordsFault};
 pub use laws::{
-    either_order, generated_packages_are_bounded, numbers_are_decimal, quiet_is_accepted,
-    reading_ends_at_its_word, same_drafts_same_command, spellings_agree, texts_name_the_version,
+    baselines_stand_alone, either_order, generated_packages_are_bounded, numbers_are_decimal,
+    quiet_is_accepted, reading_ends_at_its_word, same_drafts_same_command, spellings_agree,
+    texts_name_the_version,
 };
 pub use rows::{accepted, refused};
 pub use texts::{HELP_TEXT, VERSION_TEXT};

@@ -20,6 +20,9 @@ Usage:
       `#cargo-lock end`
   cargo audit [OPTION].. plan
       the version that each vulnerable package may go to
+  cargo audit [OPTION].. vendor CRATES TO
+      a local registry of the lockfile's packages, made in the folder TO from
+      the crate files in the folder CRATES
   cargo audit generate N
       N made packages, 1 to 5000, audited twice in memory, without files or an
       index
@@ -52,6 +55,11 @@ lists):
                            (default: both)
       --verdicts           print for each package whether it is yanked, and no
                            report
+      --baseline PATH      print the findings that this file doesn't have, and
+                           nothing else
+      --write-baseline PATH
+                           write the findings to this new file, and print
+                           nothing
   -u, --url URL            read, but not used
       --stale              read, but not used
   -c, --color WHEN         always, auto or never; read, but not used
@@ -74,7 +82,9 @@ Bin options:
 
 The value of an option x is given as --x=v, --x v, -xv, -x=v or -x v; one that
 begins with a dash is joined: --x=-v. Options of one letter without a value may
-be joined: -nq. Only repeatable options may be repeated.
+be joined: -nq. Only repeatable options may be repeated. Of --verdicts,
+--baseline and --write-baseline one may be given, and no command follows the
+last two.
 
 Exit status:
   0   nothing was found that makes the audit fail
@@ -87,6 +97,11 @@ Exit status:
   something has no patched version, and otherwise 0. This program starts no
   cargo, so fix ends with 2 where there is something to update.
   Under plan: 1 where a vulnerable package has no safe version or no record,
+  otherwise 0.
+  With --baseline: 2 also where the baseline is refused, 1 where a finding isn't
+  in it, whatever is denied, and otherwise 0.
+  With --write-baseline: 2 also where the file can't be made, and otherwise 0.
+  Under vendor: 2 also where a package or the folder TO is refused, and
   otherwise 0.
 
 Environment:

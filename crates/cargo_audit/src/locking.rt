@@ -29,12 +29,23 @@ fn use_of(options: &AuditCommand) -> CacheUse {
     }
 }
 
+/// The same where the cache is read behind the audit too.
+fn use_behind(options: &AuditCommand) -> CacheUse {
+    match use_of(options) {
+        CacheUse::Nothing => CacheUse::Reads,
+        used => used,
+    }
+}
+
 fn cache_use(rt: &HostRuntime, words: &[String]) -> Result<CacheUse, StartFault> {
     match read_words(rt.alloc(), words) {
         Ok(Command::Audit(options)) => Ok(use_of(&options)),
+        Ok(Command::Baseline(options, _path)) => Ok(use_of(&options)),
+        Ok(Command::WriteBaseline(options, _path)) => Ok(use_of(&options)),
         Ok(Command::Fix(options, _more)) => Ok(use_of(&options)),
-        Ok(Command::Plan(options)) => Ok(use_of(&options)),
         Ok(Command::Bin(options, _more)) => Ok(use_of(&options)),
+        Ok(Command::Plan(options)) => Ok(use_behind(&options)),
+        Ok(Command::Vendor(options, _more)) => Ok(use_behind(&options)),
         Ok(Command::Help) => Ok(CacheUse::Nothing),
         Ok(Command::Version) => Ok(CacheUse::Nothing),
         Ok(Command::Generate(_)) => Ok(CacheUse::Nothing),

@@ -26,11 +26,11 @@ of_entry index r body url_whole formed text_whole h =
 
 -- ---- a good file
 
-text_whole : (r : OwnedRevision) → is_honest_text (revision_text r) ≡ true → NoZero (entry_text (Http r))
+pub text_whole : (r : OwnedRevision) → is_honest_text (revision_text r) ≡ true → NoZero (entry_text (Http r))
 text_whole (Etag text) h = zero_free (entry_text (Http (Etag []))) text refl (honest_zero text h)
 text_whole (LastModified text) h = zero_free (entry_text (Http (LastModified []))) text refl (honest_zero text h)
 
-formed : (r : OwnedRevision) → is_honest_text (revision_text r) ≡ true → IsRevision (Http r)
+pub formed : (r : OwnedRevision) → is_honest_text (revision_text r) ≡ true → IsRevision (Http r)
 formed (Etag text) h = honest_utf8 text h
 formed (LastModified text) h = honest_utf8 text h
 

@@ -1,4 +1,6 @@
 pub mod Bodies
+pub mod Held
+pub mod HeldPlanning
 pub mod Hitting
 pub mod Lowering
 pub mod Planning

@@ -1,4 +1,5 @@
 pub mod Candidates
+pub mod HeldPlans
 pub mod LastFlags
 pub mod Least
 pub mod Lines

@@ -1,9 +1,11 @@
 -- The plan for the vulnerable packages of an audit, by what the cache keeps (this project).
-use Rattle.std.specs.Prelude.{◌≡◌, ◌≢◌, ◌⊎◌, ◌<◌, ℕ, List, length, get_or, IfSome, Bool, true, false, ◌==◌, Option, Some, None, slice_get}
-use Rattle.std.specs.List.{filter, list_any}
-use Rattle.tame_cache.specs.Disk.{File}
-use Rattle.tame_cache.specs.Kept.{cache_file_of}
+use Rattle.std.specs.Prelude.{◌≡◌, ◌≢◌, ◌⊎◌, ◌<◌, ℕ, List, [], length, map, get_or, IfSome, Bool, true, false, ◌==◌, Option, Some, None, slice_get}
+use Rattle.std.specs.List.{AllByRecursion, filter, list_any}
+use Rattle.tame_names.specs.Counts.{CountRoseBy}
+use Rattle.tame_cache.specs.Disk.{File, reads}
+use Rattle.tame_cache.specs.Kept.{Disk, cache_file_of}
 use Rattle.tame_cache.specs.declared.cache.IndexCache.{IndexCache}
+use Rattle.tame_sparse.specs.Exchanges.{crates_io_index}
 use Rattle.audit_lock.specs.declared.resolving.Package.{Package}
 use Rattle.audit_advisory.specs.Hits.{is_from_default}
 use Rattle.audit_advisory.specs.Places.{places_from, places_where}
@@ -11,6 +13,7 @@ use Rattle.audit_advisory.specs.Reports.{is_vulnerability}
 use Rattle.audit_advisory.specs.declared.advisories.Advisory.{Advisory}
 use Rattle.audit_advisory.specs.declared.reports.Vulnerability.{Vulnerability}
 use Rattle.audit_advisory.specs.declared.settings.Settings.{Settings}
+use Rattle.audit_core.specs.declared.auditing.Audited.{Audited}
 use Rattle.upgrade_plan.specs.Least.{IsLeastSafe}
 use Rattle.upgrade_plan.specs.Recorded.{file_records}
 use Rattle.upgrade_plan.specs.declared.records.NoRecord.TheVariants as why
@@ -106,3 +109,17 @@ is_store (outcome.NoRecord why.Record) = false
 -- how many items say so
 abbrev pub stores : List PlanItem → ℕ
 stores items = length (filter (λ item. is_store item.outcome) items)
+
+-- the cache of the index that audits ask
+abbrev pub crates_io_cache : IndexCache
+crates_io_cache = record { path = []; index = crates_io_index }
+
+-- one item for each package that has a vulnerability, in lockfile order, each by the file that a
+-- read of its path gives; at most as many entries couldn't be read as the disk's count rose by
+pub record IsPlanBy (told : Type 0) (advisories : List Advisory) (audited : Audited) (files : Disk)
+    (faults faults_now : ℕ) (items : List PlanItem) : Type 0 where
+  pub packages : map (λ item. item.«package») items
+      ≡ vulnerable_places audited.report.vulnerabilities audited.lockfile
+  pub planned : AllByRecursion (IsPlannedAt (IsPlanOf told audited.report.settings advisories
+      crates_io_cache (λ q. reads (files q))) audited.lockfile) items
+  pub stores : CountRoseBy (stores items) faults faults_now

@@ -5,6 +5,7 @@ use Rattle.tame_names.specs.declared.errors.Error.{Error}
 use Rattle.tame_names.specs.declared.errors.Error.TheVariants as error
 use Rattle.tame_names.specs.declared.errors.IoKind.TheVariants as io_kind
 use Rattle.tame_records.specs.Krates.{records_of}
+use Rattle.tame_records.specs.Lines.{lines}
 use Rattle.tame_records.specs.declared.versions.IndexVersion.{IndexVersion}
 use Rattle.tame_entry.specs.Entry.{ReadEntry, lines_in, read_entry}
 use Rattle.tame_entry.specs.Krates.{Item, iterated}
@@ -18,6 +19,10 @@ use Rattle.upgrade_plan.specs.declared.records.Recorded.TheVariants.{Versions, M
 abbrev pub if_recorded : Option (List IndexVersion) → Recorded
 if_recorded None = Missing why.Record
 if_recorded (Some versions) = Versions (record { versions = versions })
+
+-- by the lines of a body
+abbrev pub body_records : List ℕ → Recorded
+body_records body = if_recorded (records_of (lines body))
 
 abbrev pub read_records : Result ReadEntry CacheError → Recorded
 read_records (Ok e) = if_recorded (records_of (lines_in e.versions))

@@ -1,7 +1,8 @@
 //! For a vulnerable package the least safe version, by what the cache keeps of its crate.
 //!
 //! Promises: the version is the lowest of the candidates, or there is none, or the cause for which
-//! a package has no records is named; nothing is asked, and no file changes.
+//! a package has no records is named; nothing is asked, and no file changes. Behind an audit over an
+//! honest server it is by what the server held.
 //! Stands on the index of a registry (`tame_names` to `tame_sparse`), the lockfiles of `audit_lock`,
 //! the advisories of `audit_advisory`, the audits of `audit_core`, and `serde_json` and `semver`.
 //!
@@ -23,7 +24,8 @@ mod safest;
 mod vulnerable;
 
 pub use laws::{
-    files_have_the_records_of_bodies, records_say_what_lines_say, vulnerable_packages_are_hit,
+    files_have_the_records_of_bodies, plans_tell_what_the_server_held, records_say_what_lines_say,
+    vulnerable_packages_are_hit,
 };
 pub use lines::{plan_lines, plan_status};
 pub use plans::{PlanItem, PlanOutcome, plan};

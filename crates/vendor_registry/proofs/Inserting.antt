@@ -1,9 +1,10 @@
 -- What a builder did on one path, and on those that are left.
-use Rattle.std.proofs.Common.{◌≡◌, ℕ, ◌+◌, ◌-◌, ◌^◌, ◌≤◌, ◌==◌, List, [], ◌∷◌, length, map, drop, Bool, true, false, cond, Option, Some, None, Result, Ok, Err, refl, sym, ap, ◌∙◌, arith}
+use Rattle.std.proofs.Common.{◌≡◌, ℕ, ◌+◌, ◌-◌, ◌^◌, ◌≤◌, ◌==◌, List, [], ◌∷◌, ◌++◌, length, map, drop, IsTrue, Bool, true, false, cond, Option, Some, None, Result, Ok, Err, refl, sym, ap, ◌∙◌, subst, arith}
 use Rattle.std.specs.Prelude.{min, unwrap_or}
 use Rattle.std.proofs.lemmas.Bool.{false≢true}
 use Rattle.std.proofs.lemmas.List.{drop_all}
 use Rattle.std.proofs.lemmas.Slice.Eq.{bytes_eq-Decides}
+use Rattle.tame_names.specs.Changes.{is_nothing}
 use Rattle.tame_names.specs.Names.{NameRefusal, path, refusal_of, relative_path, separator}
 use Rattle.tame_names.specs.Paths.{join, parent}
 use Rattle.tame_names.specs.Standing.{Host, Standing, Nothing, File, Folder, Other}
@@ -11,16 +12,21 @@ use Rattle.tame_records.specs.Written.{json_lines}
 use Rattle.tame_records.specs.declared.versions.IndexVersion.{IndexVersion}
 use Rattle.tame_sparse.specs.Git.{first_name}
 use Rattle.tame_local.specs.Builders.{Makes, Creates, absent_at, after, crates_made, free_at, insertable, inserted, size_of, written}
-use Rattle.tame_local.specs.Refusals.{NotAFolder, Occupied, Refusal, and_then}
+use Rattle.tame_local.specs.Inserts.{AreWritten}
+use Rattle.tame_local.specs.Refusals.{NotAFolder, Occupied, Refusal, and_then, is_told}
+use Rattle.tame_local.specs.Refusals.{refused as refused_by}
+use Rattle.tame_names.specs.declared.errors.Error.{Error}
+use Rattle.tame_names.specs.declared.errors.Error.TheVariants as error
+use Rattle.tame_names.specs.declared.errors.IoKind.TheVariants as io_kind
 use Rattle.tame_local.specs.Registries.{index_file, index_of, named_unless}
 use Rattle.tame_local.specs.declared.digests.ValidKrate.{ValidKrate}
 use Rattle.vendor_registry.proofs.Changed.{after_append, size_append}
 use Rattle.vendor_registry.proofs.Facts.{path_of_name}
-use Rattle.vendor_registry.specs.Built.{crate_made, free_fault, path_made, paths_made}
+use Rattle.vendor_registry.specs.Built.{IsFilled, crate_made, free_fault, path_made, paths_made}
 use Rattle.vendor_registry.specs.Named.{ArePathed}
 use Rattle.vendor_registry.specs.Vendored.{is_on, on}
 use Rattle.vendor_registry.specs.declared.checks.Checked.{Checked}
-use Rattle.vendor_registry.specs.declared.faults.VendorFault.TheVariants as fault
+use Rattle.vendor_faults.specs.declared.faults.VendorFault.TheVariants as fault
 
 -- ---- one path
 
@@ -53,6 +59,58 @@ pub inserted_is : (folder q : List ℕ) (all : List Checked) (vs : List IndexVer
     → (length vs == 0) ≡ false → crates_made folder ks ≡ map (crate_made folder) (on q all) → inserted folder (first_name vs) vs ks ≡ path_made folder q (on q all)
 inserted_is folder q all vs ks pathed is some crates = inserted_at folder q (on q all) vs ks (pathed_on q all pathed) is some crates
 
+-- ---- an index file that is absent
+
+absent_there : (o : Option NameRefusal) (p : List ℕ) (s : Standing) → and_then (λ named. absent_at p s) (named_unless o) ≡ Ok tt → s ≡ Nothing
+absent_there None p Nothing h = refl
+absent_there None p (File bs) h = cc
+absent_there None p (Folder es) h = cc
+absent_there None p Other h = cc
+absent_there (Some why) p s h = cc
+
+filled_at : (folder q : List ℕ) (cs : List Checked) (vs : List IndexVersion) (host : Host) → ArePathedOn q cs → vs ≡ map (λ (c : Checked). c.version) cs
+    → AreWritten vs → insertable folder (first_name vs) host ≡ Ok tt → IsFilled folder q cs host
+filled_at folder q [] vs host are is written can = tt
+filled_at folder q (c ∷ cs) vs host are is written can =
+    let name : List ℕ = first_name vs in
+    let relative : relative_path (separator None) c.version.name ≡ q = (path_of_name c.version.name c.path are.0).1 ∙ are.1 in
+    let file_is : index_file (index_of folder) name ≡ join (index_of folder) q =
+    ap (λ (ws : List IndexVersion). index_file (index_of folder) (first_name ws)) is ∙ ap (join (index_of folder)) relative in (
+      ap host.stands (sym file_is) ∙ absent_there (refusal_of name) (index_file (index_of folder) name) (host.stands (index_file (index_of folder) name)) can,
+      subst AreWritten is written,
+    )
+
+pub filled_is : (folder q : List ℕ) (all : List Checked) (vs : List IndexVersion) (host : Host) → ArePathed all → vs ≡ map (λ (c : Checked). c.version) (on q all)
+    → AreWritten vs → insertable folder (first_name vs) host ≡ Ok tt → IsFilled folder q (on q all) host
+filled_is folder q all vs host pathed is written can = filled_at folder q (on q all) vs host (pathed_on q all pathed) is written can
+
+absent_some : (o : Option NameRefusal) (p : List ℕ) (s : Standing) (n : ℕ) (q : List ℕ) → and_then (λ named. absent_at p s) (named_unless o) ≡ Err (Occupied n q) → is_nothing s ≡ false
+absent_some None p Nothing n q h = cc
+absent_some None p (File bs) n q h = refl
+absent_some None p (Folder es) n q h = refl
+absent_some None p Other n q h = refl
+absent_some (Some why) p s n q h = cc
+
+taken_at : (folder q : List ℕ) (cs : List Checked) (vs : List IndexVersion) (host : Host) (n : ℕ) (p : List ℕ) → ArePathedOn q cs → vs ≡ map (λ (c : Checked). c.version) cs
+    → (length vs == 0) ≡ false → insertable folder (first_name vs) host ≡ Err (Occupied n p) → is_nothing (host.stands (join (index_of folder) q)) ≡ false
+taken_at folder q [] vs host n p are is some taken =
+    absurd (false≢true (sym some ∙ ap (λ (ws : List IndexVersion). length ws == 0) is))
+taken_at folder q (c ∷ cs) vs host n p are is some taken =
+    let name : List ℕ = first_name vs in
+    let relative : relative_path (separator None) c.version.name ≡ q = (path_of_name c.version.name c.path are.0).1 ∙ are.1 in
+    let file_is : index_file (index_of folder) name ≡ join (index_of folder) q =
+    ap (λ (ws : List IndexVersion). index_file (index_of folder) (first_name ws)) is ∙ ap (join (index_of folder)) relative in
+    ap (λ x. is_nothing (host.stands x)) (sym file_is)
+    ∙ absent_some (refusal_of name) (index_file (index_of folder) name) (host.stands (index_file (index_of folder) name)) n p taken
+
+pub taken_is : (folder q : List ℕ) (all : List Checked) (vs : List IndexVersion) (host : Host) (n : ℕ) (p : List ℕ) → ArePathed all → vs ≡ map (λ (c : Checked). c.version) (on q all)
+    → (length vs == 0) ≡ false → insertable folder (first_name vs) host ≡ Err (Occupied n p) → is_nothing (host.stands (join (index_of folder) q)) ≡ false
+taken_is folder q all vs host n p pathed is some taken = taken_at folder q (on q all) vs host n p (pathed_on q all pathed) is some taken
+
+pub written_more : (vs : List IndexVersion) (v : IndexVersion) → AreWritten vs → AreWritten (v ∷ []) → AreWritten (vs ++ v ∷ [])
+written_more [] v all is = is
+written_more (w ∷ ws) v all is = (all.0, all.1, written_more ws v all.2 is)
+
 -- ---- refusals
 
 -- the number of a refusal
@@ -69,6 +127,11 @@ absent_one p Other n q h = sym (ap count_in h)
 name_case : (o : Option NameRefusal) (p : List ℕ) (s : Standing) (n : ℕ) (q : List ℕ) → and_then (λ named. absent_at p s) (named_unless o) ≡ Err (Occupied n q) → n ≡ 1
 name_case None p s n q h = absent_one p s n q h
 name_case (Some why) p s n q h = cc
+
+-- a refusal that something is there already
+pub told_occupied : (r : Result Unit Refusal) (e : Error) (n : ℕ) (p : List ℕ) → e ≡ error.IoPath (io_kind.AlreadyExists n) p → (IsTrue (is_told e) → r ≡ Err (refused_by e))
+    → r ≡ Err (Occupied n p)
+told_occupied r e n p is h = (subst (λ x. IsTrue (is_told x) → r ≡ Err (refused_by x)) is h) refl
 
 pub one_entry : (folder name : List ℕ) (host : Host) (n : ℕ) (q : List ℕ) → insertable folder name host ≡ Err (Occupied n q) → n ≡ 1
 one_entry folder name host n q h =

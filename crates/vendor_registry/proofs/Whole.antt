@@ -1,23 +1,33 @@
--- A folder that was built of what was checked is vendored.
-use Rattle.std.proofs.Common.{◌≡◌, ℕ, ◌-◌, ◌^◌, List, [], length, true, Result, Ok, Err, refl, sym, ap, ◌∙◌, subst}
+-- A folder that was built of what was checked is vendored, and agrees with its index.
+use Rattle.std.proofs.Common.{◌≡◌, ℕ, ◌-◌, ◌^◌, List, [], ◌∷◌, length, true, None, Some, inl, inr, Result, Ok, Err, refl, sym, ap, ◌∙◌, subst, ◌⊎◌, ◌++◌}
 use Rattle.std.specs.Prelude.{min}
 use Rattle.tame_names.specs.Changes.{is_folder}
 use Rattle.tame_names.specs.Standing.{Host, Standing, Nothing, File, Folder, Other}
 use Rattle.tame_names.specs.declared.host.Listed.{Listed}
-use Rattle.tame_local.specs.Builders.{after}
+use Rattle.tame_local.specs.Builders.{after, after_change, created, free_at}
 use Rattle.tame_local.specs.Builders as builders
 use Rattle.tame_local.specs.Inserts.{StandsPlain}
+use Rattle.tame_names.specs.declared.errors.Error.{Error}
 use Rattle.tame_local.specs.Refusals.{Refusal}
+use Rattle.tame_local.specs.Refusals.{refused as refused_by}
 use Rattle.tame_local.specs.Refusals as local
 use Rattle.tame_local.specs.Registries.{folder_at, index_of, registry_at, validated}
 use Rattle.audit_lock.specs.declared.resolving.Package.{Package}
+use Rattle.vendor_faults.specs.declared.faults.VendorFault.TheVariants as fault
+use Rattle.vendor_registry.proofs.Absent.{never_taken}
+use Rattle.vendor_registry.proofs.Agreed.{registry_agrees, start_sound}
+use Rattle.vendor_registry.proofs.Agreeing.{Sound}
+use Rattle.vendor_registry.proofs.Beginnings.{begin_empty}
+use Rattle.vendor_registry.proofs.Decided.{all_decided, stocked_on}
 use Rattle.vendor_registry.proofs.Exact.{all_size, holds_exactly, known}
 use Rattle.vendor_registry.proofs.Facts.{facts_of, pathed}
-use Rattle.vendor_registry.specs.Built.{all_made}
+use Rattle.vendor_registry.proofs.Places.{read_back_same}
+use Rattle.vendor_registry.proofs.Stocked.{paths_sound}
+use Rattle.vendor_registry.specs.Built.{IsOccupied, IsReadBack, IsTaken, all_made, free_fault}
 use Rattle.vendor_registry.specs.Checks.{Stock, all_checked}
 use Rattle.vendor_registry.specs.Looked.{looked}
-use Rattle.vendor_registry.specs.Named.{ArePathed, AreTexts}
-use Rattle.vendor_registry.specs.Vendored.{HoldsExactly, IsBare, IsVendored, vendored_files}
+use Rattle.vendor_registry.specs.Named.{ArePathed, AreTexts, AreVersioned, IsFolderPath, IsPlace}
+use Rattle.vendor_registry.specs.Vendored.{HoldsExactly, IsBare, IsVendored, paths_of, vendored_files}
 use Rattle.vendor_registry.specs.declared.checks.Checked.{Checked}
 use Rattle.vendor_registry.specs.declared.vendoring.Vendored.{Vendored}
 
@@ -80,3 +90,57 @@ is_vendored stock packages to now made cs checks texts plain bare built open_at 
       crate_files = count;
       bytes = bytes ∙ ap (λ n. min n (2 ^ 64 - 1)) (all_size to cs);
     }
+
+-- ---- an index that it agrees with
+
+free_back : (path : List ℕ) (s : Standing) → free_fault s ≡ None → free_at path s ≡ Ok tt
+free_back path Nothing h = refl
+free_back path (File bs) h = cc
+free_back path (Folder []) h = refl
+free_back path (Folder (e ∷ es)) h = cc
+free_back path Other h = cc
+
+ok_no_err : {A : Type 0} (a : A) (e : Refusal) → Ok a ≡ Err e → ⊥
+ok_no_err a e h = cc
+
+never_read_back : (stock : Stock) (packages : List Package) (to : List ℕ) (cs : List Checked) (before now : Host) (why : Error)
+    → all_checked stock (looked packages) ≡ Ok cs → AreTexts cs → StandsPlain before.stands → IsPlace to → AreVersioned packages
+    → IsReadBack to cs before now why → ⊥
+never_read_back stock packages to cs before now why checks texts plain place versioned back =
+    let facts = facts_of stock (looked packages) cs checks in
+    let named : ArePathed cs = pathed stock (looked packages) cs facts in
+    let decided = all_decided stock packages cs facts texts versioned in
+    let start : Host = after_change (created to) before in
+    let begun = begin_empty to before place.0 place.1 plain (free_back to (before.stands to) back.free) back.possible in
+    let sound : Sound to (after (all_made to cs) before).stands =
+    paths_sound to cs (paths_of cs) start place (λ q. stocked_on stock q cs decided) (back.filled named) (start_sound to start place begun.1 begun.0) in
+    let whole : Host = after (all_made to cs) before in
+    ok_no_err (index_of to) (refused_by why)
+    (sym (registry_agrees to whole place sound) ∙ ap (λ h. registry_at h to true) (sym (back.made named)) ∙ back.refused)
+
+-- the same of a folder that is named with a slash at its end
+place_case : (stock : Stock) (packages : List Package) (w to : List ℕ) (cs : List Checked) (before now : Host) (why : Error)
+    → all_checked stock (looked packages) ≡ Ok cs → AreTexts cs → StandsPlain before.stands → IsPlace w → AreVersioned packages
+    → (to ≡ w) ⊎ (to ≡ w ++ 47 ∷ []) → IsReadBack to cs before now why → ⊥
+place_case stock packages w to cs before now why checks texts plain place versioned (inl is) back =
+    never_read_back stock packages w cs before now why checks texts plain place versioned (subst (λ p. IsReadBack p cs before now why) is back)
+place_case stock packages w to cs before now why checks texts plain place versioned (inr is) back =
+    never_read_back stock packages w cs before now why checks texts plain place versioned
+    (read_back_same stock w cs before now why place (known stock (looked packages) cs (facts_of stock (looked packages) cs checks) texts) plain
+    (subst (λ p. IsReadBack p cs before now why) is back))
+
+pub no_read_back : (stock : Stock) (packages : List Package) (to : List ℕ) (cs : List Checked) (before now : Host) (why : Error)
+    → all_checked stock (looked packages) ≡ Ok cs → AreTexts cs → StandsPlain before.stands → IsFolderPath to → AreVersioned packages
+    → IsReadBack to cs before now why → ⊥
+no_read_back stock packages to cs before now why checks texts plain path versioned back =
+    place_case stock packages path.0 to cs before now why checks texts plain path.1 versioned path.2 back
+
+-- ---- an index file that has come meanwhile
+
+pub occupied_before : (stock : Stock) (packages : List Package) (to : List ℕ) (cs : List Checked) (before : Host) (n : ℕ)
+    → all_checked stock (looked packages) ≡ Ok cs → AreTexts cs → IsBare before to → IsOccupied (before.stands to) (fault.NotEmpty n)
+    → (free_fault (before.stands to) ≡ None → IsTaken to cs (paths_of cs) (after_change (created to) before))
+    → free_fault (before.stands to) ≡ Some (fault.NotEmpty n)
+occupied_before stock packages to cs before n checks texts bare (inl is) taken = is
+occupied_before stock packages to cs before n checks texts bare (inr h) taken =
+    absurd (never_taken stock to cs before (known stock (looked packages) cs (facts_of stock (looked packages) cs checks) texts) bare (taken h.0))

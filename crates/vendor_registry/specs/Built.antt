@@ -1,19 +1,23 @@
 -- What a builder of a registry makes of what was checked, and why it is refused (this project,
 -- after cargo's local registries).
-use Rattle.std.specs.Prelude.{◌≡◌, ◌⊎◌, ℕ, List, [], ◌∷◌, length, map, flat_map, unwrap_or, Bool, true, false, Option, Some, None, Err}
-use Rattle.tame_names.specs.Paths.{join, parent}
+use Rattle.std.specs.Prelude.{◌≡◌, ◌⊎◌, ℕ, List, [], ◌∷◌, length, map, flat_map, unwrap_or, Bool, true, false, Option, Some, None, Ok, Err}
+use Rattle.tame_names.specs.Changes.{AreFolders, is_nothing}
+use Rattle.tame_names.specs.Paths.{join, parent, ways_to}
 use Rattle.tame_names.specs.Standing.{Host, Standing, Nothing, Folder}
 use Rattle.tame_names.specs.declared.errors.Error.{Error}
 use Rattle.tame_records.specs.Written.{json_lines}
-use Rattle.tame_local.specs.Builders.{Change, Makes, Creates, after, created}
+use Rattle.tame_local.specs.Builders.{AreBegun, Change, Makes, Creates, after, after_change, created}
+use Rattle.tame_local.specs.Inserts.{AreWritten}
 use Rattle.tame_local.specs.Refusals.{refused as refused_by}
 use Rattle.tame_local.specs.Registries.{index_of, registry_at}
-use Rattle.vendor_registry.specs.Checks.{crate_path}
+use Rattle.audit_lock.specs.declared.resolving.Package.{Package}
+use Rattle.vendor_registry.specs.Checks.{Stock, all_checked, crate_path}
+use Rattle.vendor_registry.specs.Looked.{looked}
 use Rattle.vendor_registry.specs.Named.{ArePathed}
 use Rattle.vendor_registry.specs.Vendored.{on, paths_of}
 use Rattle.vendor_registry.specs.declared.checks.Checked.{Checked}
-use Rattle.vendor_registry.specs.declared.faults.VendorFault.{VendorFault}
-use Rattle.vendor_registry.specs.declared.faults.VendorFault.TheVariants as fault
+use Rattle.vendor_faults.specs.declared.faults.VendorFault.{VendorFault}
+use Rattle.vendor_faults.specs.declared.faults.VendorFault.TheVariants as fault
 
 -- ---- changes
 
@@ -36,6 +40,38 @@ paths_made folder cs qs = flat_map (λ q. path_made folder q (on q cs)) qs
 -- the folder of the index, and then path by path
 abbrev pub all_made : List ℕ → List Checked → List Change
 all_made folder cs = created folder ∷ paths_made folder cs (paths_of cs)
+
+-- ---- what is there when a change is made
+
+-- nothing is at the index file of a path, and what is put there are records that their lines read
+-- back to
+abbrev pub IsFilled : List ℕ → List ℕ → List Checked → Host → Type 0
+IsFilled folder q [] host = Unit {0}
+IsFilled folder q (c ∷ cs) host =
+    (host.stands (join (index_of folder) q) ≡ Nothing)
+    × AreWritten (map (λ c. c.version) (c ∷ cs))
+
+-- the same of each of these paths, behind those in front
+abbrev pub AreFilled : List ℕ → List Checked → List (List ℕ) → Host → Type 0
+AreFilled folder cs [] host = Unit {0}
+AreFilled folder cs (q ∷ qs) host =
+    IsFilled folder q (on q cs) host
+    × AreFilled folder cs qs (after (path_made folder q (on q cs)) host)
+
+-- something is at the index file of one of these paths when its turn comes
+abbrev pub IsTaken : List ℕ → List Checked → List (List ℕ) → Host → Type 0
+IsTaken folder cs [] host = ⊥
+IsTaken folder cs (q ∷ qs) host =
+    (is_nothing (host.stands (join (index_of folder) q)) ≡ false)
+    ⊎ IsTaken folder cs qs (after (path_made folder q (on q cs)) host)
+
+-- what a refused call left: the host as it was, or all packages were checked and the changes were
+-- begun in their order
+abbrev pub IsUnfinished : Stock → List Package → List ℕ → Host → Host → Type 0
+IsUnfinished stock packages folder before now =
+    (now ≡ before)
+    ⊎ ((cs : List Checked) × (all_checked stock (looked packages) ≡ Ok cs)
+    × AreBegun (all_made folder cs) before now)
 
 -- ---- refusals
 
@@ -84,6 +120,9 @@ IsOccupied standing e = Unit {0}
 pub record IsReadBack (folder : List ℕ) (cs : List Checked) (before now : Host)
     (why : Error) : Type 0 where
   pub free : free_fault (before.stands folder) ≡ None
+  pub possible : AreFolders (ways_to (index_of folder)) before.stands
+  pub filled : ArePathed cs
+      → AreFilled folder cs (paths_of cs) (after_change (created folder) before)
   pub made : ArePathed cs → now ≡ after (all_made folder cs) before
   pub refused : registry_at now folder true ≡ Err (refused_by why)
 

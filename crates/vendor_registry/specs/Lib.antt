@@ -1,5 +1,6 @@
 pub mod Built
 pub mod Checks
+pub mod Failed
 pub mod Looked
 pub mod Named
 pub mod Vendored

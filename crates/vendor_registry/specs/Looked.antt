@@ -1,6 +1,6 @@
 -- Which packages of a lockfile a registry is made of (this project).
-use Rattle.std.specs.Prelude.{ℕ, List, Bool, false, ◌==◌, ◌&&◌, bytes_eq, filter, Option, Some, None}
-use Rattle.std.specs.List.{enumerate_from, position_from}
+use Rattle.std.specs.Prelude.{◌≡◌, ◌≤◌, ℕ, ◌+◌, List, [], ◌∷◌, Bool, true, false, ◌==◌, ◌&&◌, bytes_eq, filter, Option, Some, None}
+use Rattle.std.specs.List.{AllByRecursion, enumerate_from, list_any, position_from, slice_get}
 use Rattle.audit_core.specs.Paths.{is_default}
 use Rattle.audit_lock.specs.declared.resolving.Package.{Package}
 
@@ -25,3 +25,31 @@ is_looked packages p = is_default p.1 && is_place p.0 (first_place packages p.1)
 -- registry, each pair of name and version once
 abbrev pub looked : List Package → List (ℕ × Package)
 looked packages = filter (is_looked packages) (enumerate_from 0 packages)
+
+-- ---- which packages these are
+
+-- packages that stand in a lockfile at their places, in its order, from a place on
+abbrev pub AreInOrder : List Package → ℕ → List (ℕ × Package) → Type 0
+AreInOrder packages from [] = Unit {0}
+AreInOrder packages from (p ∷ ps) =
+    (from ≤ p.0) × (slice_get packages p.0 ≡ Some p.1) × AreInOrder packages (p.0 + 1) ps
+
+-- a package has the name and the version of another
+abbrev pub is_alike : Package → Package → Bool
+is_alike p other = bytes_eq other.name p.name && bytes_eq other.version p.version
+
+abbrev pub has_alike : Package → List (ℕ × Package) → Bool
+has_alike p others = list_any (λ other. is_alike p other.1) others
+
+-- no two have the same name and version
+abbrev pub AreUnlike : List (ℕ × Package) → Type 0
+AreUnlike [] = Unit {0}
+AreUnlike (p ∷ ps) = (has_alike p.1 ps ≡ false) × AreUnlike ps
+
+-- these are of the default registry, in the lockfile's order, each pair of name and version once,
+-- and the pair of every package of the default registry is among them
+pub record AreEachPair (packages : List Package) (found : List (ℕ × Package)) : Type 0 where
+  pub default : AllByRecursion (λ p. is_default p.1 ≡ true) found
+  pub order : AreInOrder packages 0 found
+  pub once : AreUnlike found
+  pub every : AllByRecursion (λ p. is_default p ≡ true → has_alike p found ≡ true) packages

@@ -1,7 +1,10 @@
--- What names and paths of what was checked are (this project).
-use Rattle.std.specs.Prelude.{◌≡◌, List, [], ◌∷◌, Some}
+-- What names, paths and versions of what was checked are (this project).
+use Rattle.std.specs.Prelude.{◌≡◌, ◌<◌, ◌⊎◌, ℕ, List, [], ◌∷◌, ◌++◌, length, false, Some, IsTrue, is_ok}
 use Rattle.std.specs.Str.{IsUtf8}
+use Rattle.semver.specs.Parse.{version_parts}
 use Rattle.tame_names.specs.Names.{path}
+use Rattle.tame_names.specs.Paths.{ends_with_slash}
+use Rattle.audit_lock.specs.declared.resolving.Package.{Package}
 use Rattle.vendor_registry.specs.declared.checks.Checked.{Checked}
 
 -- the names of the records are UTF-8, as every text is
@@ -13,3 +16,18 @@ AreTexts (c ∷ cs) = IsUtf8 c.version.name × AreTexts cs
 abbrev pub ArePathed : List Checked → Type 0
 ArePathed [] = Unit {0}
 ArePathed (c ∷ cs) = (path c.version.name ≡ Some c.path) × ArePathed cs
+
+-- the version of each package is one of SemVer, as in every lockfile
+abbrev pub AreVersioned : List Package → Type 0
+AreVersioned [] = Unit {0}
+AreVersioned (p ∷ ps) =
+    IsTrue (is_ok (version_parts p.version)) × AreVersioned ps
+
+-- the path of a folder that isn't empty, and doesn't end with a slash
+abbrev pub IsPlace : List ℕ → Type 0
+IsPlace folder = (0 < length folder) × (ends_with_slash folder ≡ false)
+
+-- the same, with one slash behind it or none
+abbrev pub IsFolderPath : List ℕ → Type 0
+IsFolderPath path =
+    (folder : List ℕ) × IsPlace folder × ((path ≡ folder) ⊎ (path ≡ folder ++ 47 ∷ []))

@@ -1,28 +1,32 @@
 //! A registry that is built of what was checked.
-ghost use Rattle.std.specs.Prelude.{◌≡◌, ◌≤◌, ◌-◌, ◌^◌, min, ℕ, List, [], ◌∷◌, map, Ok, Err, Some, None, IfOk, IfErr, OnOk, true};
+ghost use Rattle.std.specs.Prelude.{◌≡◌, ◌≤◌, ◌-◌, ◌^◌, min, ℕ, List, [], ◌∷◌, ◌++◌, map, Ok, Err, Some, None, IfOk, IfErr, IsTrue, OnErr, OnOk, true, false};
+ghost use Rattle.tame_names.specs.Changes.{AreFolders, is_nothing};
 ghost use Rattle.tame_names.specs.Counts.{CountRose};
+ghost use Rattle.tame_names.specs.Paths as paths_spec;
 ghost use Rattle.tame_records.specs.Record.{record_of};
 ghost use Rattle.tame_records.specs.Written.{line};
-ghost use Rattle.tame_local.specs.Builders.{after, after_change, crates_made, created, size_of};
-ghost use Rattle.tame_local.specs.Registries.{registry_at};
-ghost use Rattle.vendor_registry.specs.Built.{IsBeginFault, IsBuildFault, IsInsertFault, IsOccupied, IsReadBack, all_made, crate_made, free_fault, path_made, paths_made};
+ghost use Rattle.tame_local.specs.Builders.{AreBegun, IsBegun, after, after_change, crates_made, created, size_of};
+ghost use Rattle.tame_local.specs.Inserts.{AreWritten};
+ghost use Rattle.tame_local.specs.Registries.{index_of, registry_at};
+ghost use Rattle.vendor_registry.specs.Built.{AreFilled, IsBeginFault, IsBuildFault, IsFilled, IsInsertFault, IsOccupied, IsReadBack, IsTaken, all_made, crate_made, free_fault, is_behind, path_made, paths_made};
+ghost use Rattle.vendor_registry.specs.Failed.{AddsFailed};
 ghost use Rattle.vendor_registry.specs.Named.{ArePathed};
 ghost use Rattle.vendor_registry.specs.Vendored.{on, paths_of};
 ghost use Rattle.audit_core.specs.Paths as spec;
 
 use crate::checks::Checked;
-use crate::faults::VendorFault;
 use std::alloc::Global;
 use tame_local::{LocalRegistry, LocalRegistryBuilder, ValidKrate};
 use tame_names::{Error, Files, IoKind, Items, MemSink, NoMemory, Text};
 use tame_records::{IndexKrate, IndexVersion};
+use vendor_faults::VendorFault;
 
 // ---- what is put on a path
 
 /// A copy of a record, by its line.
 fn copied(alloc: Global, version: &IndexVersion) -> Result<IndexVersion, NoMemory>
     ensures same { IfOk result (λ copy. copy ≡ version.now) }
-    ensures reads_back { OnOk result (record_of (line version.now) ≡ Some version.now) }
+    ensures written { IfOk result (λ copy. AreWritten (copy ∷ [])) }
 {
     let mut sink = MemSink::new(alloc, Items::new(alloc));
     match version.write_line(alloc, &mut sink) {
@@ -35,15 +39,29 @@ fn copied(alloc: Global, version: &IndexVersion) -> Result<IndexVersion, NoMemor
     }
 }
 
+/// Adds a copy of a record to records.
+#[tactic(auto, using(crate::proofs::Inserting::written_more))]
+fn add_copy(
+    alloc: Global,
+    versions: &mut Items<IndexVersion>,
+    version: &IndexVersion,
+) -> Result<(), NoMemory>
+    ensures added { OnOk result (versions.new ≡ versions.old ++ version.now ∷ []) }
+    ensures written { AreWritten versions.old → OnOk result (AreWritten versions.new) }
+{
+    versions.add(copied(alloc, version)?)
+}
+
 /// The records that are put on a path.
 fn krate_on(alloc: Global, path: &str, checked: &[Checked]) -> Result<IndexKrate, NoMemory>
-    ensures { IfOk result (λ krate. krate.versions
+    ensures records { IfOk result (λ krate. krate.versions
         ≡ map (λ c. c.version) (on path.now checked.now)) }
+    ensures written { IfOk result (λ krate. AreWritten krate.versions) }
 {
     let mut versions = Items::new(alloc);
     for one in checked {
         if one.path.as_str() == path {
-            versions.add(copied(alloc, &one.version)?)?;
+            add_copy(alloc, &mut versions, &one.version)?;
         }
     }
     Ok(IndexKrate { versions })
@@ -93,13 +111,22 @@ fn insert_path<F: Files>(
     ensures made { F.tells → ArePathed checked.now → OnOk result (F.host files.new
         ≡ after (path_made builder.now.path path.now (on path.now checked.now))
         (F.host files.old)) }
+    ensures begun { F.tells → ArePathed checked.now → OnErr result (AreBegun
+        (path_made builder.now.path path.now (on path.now checked.now))
+        (F.host files.old) (F.host files.new)) }
+    ensures filled { F.tells → ArePathed checked.now → OnOk result (IsFilled
+        builder.now.path path.now (on path.now checked.now) (F.host files.old)) }
     ensures count { ArePathed checked.now → IfOk result (λ n. n ≡ min (size_of
         (path_made builder.now.path path.now (on path.now checked.now))) (2 ^ 64 - 1)) }
     ensures only { IfErr result IsInsertFault }
     ensures occupied { F.tells → (n : ℕ) → result ≡ Err (VendorFault.NotEmpty n) → n ≡ 1 }
+    ensures taken { F.tells → ArePathed checked.now → (n : ℕ)
+        → result ≡ Err (VendorFault.NotEmpty n) → is_nothing ((F.host files.old).stands
+        (paths_spec.join (index_of builder.now.path) path.now)) ≡ false }
     ensures file { (at : List ℕ) → result ≡ Err (VendorFault.File at)
         → CountRose (F.faults files.old) (F.faults files.new) }
     ensures later { F.faults files.old ≤ F.faults files.new }
+    ensures failed { F.tells → AddsFailed (F.failed files.old) (F.failed files.new) result }
 {
     let krate = krate_on(alloc, path, checked)?;
     if krate.versions.is_empty() {
@@ -145,13 +172,22 @@ fn insert_paths<F: Files>(
 ) -> Result<u64, VendorFault>
     ensures made { F.tells → ArePathed checked.now → OnOk result (F.host files.new
         ≡ after (paths_made builder.now.path checked.now paths.now) (F.host files.old)) }
+    ensures begun { F.tells → ArePathed checked.now → OnErr result (AreBegun
+        (paths_made builder.now.path checked.now paths.now)
+        (F.host files.old) (F.host files.new)) }
+    ensures filled { F.tells → ArePathed checked.now → OnOk result (AreFilled
+        builder.now.path checked.now paths.now (F.host files.old)) }
     ensures count { ArePathed checked.now → IfOk result (λ n. n ≡ min (size_of
         (paths_made builder.now.path checked.now paths.now)) (2 ^ 64 - 1)) }
     ensures only { IfErr result IsInsertFault }
     ensures occupied { F.tells → (n : ℕ) → result ≡ Err (VendorFault.NotEmpty n) → n ≡ 1 }
+    ensures taken { F.tells → ArePathed checked.now → (n : ℕ)
+        → result ≡ Err (VendorFault.NotEmpty n)
+        → IsTaken builder.now.path checked.now paths.now (F.host files.old) }
     ensures file { (at : List ℕ) → result ≡ Err (VendorFault.File at)
         → CountRose (F.faults files.old) (F.faults files.new) }
     ensures later { F.faults files.old ≤ F.faults files.new }
+    ensures failed { F.tells → AddsFailed (F.failed files.old) (F.failed files.new) result }
 {
     let mut written: u64 = 0;
     for path in paths {
@@ -174,14 +210,23 @@ fn begin<F: Files>(
     ensures path { IfOk result (λ builder. builder.path ≡ to) }
     ensures made { F.tells → OnOk result (F.host files.new
         ≡ after_change (created to) (F.host files.old)) }
+    ensures begun { F.tells → OnErr result (IsBegun (created to)
+        (F.host files.old) (F.host files.new)) }
+    ensures possible { F.tells → OnOk result
+        (AreFolders (paths_spec.ways_to (index_of to)) (F.host files.old).stands) }
     ensures free { F.tells → OnOk result
         (free_fault ((F.host files.old).stands to) ≡ None) }
     ensures occupied { F.tells → IfErr result
         (IsOccupied ((F.host files.old).stands to)) }
+    ensures not_empty { F.tells → (n : ℕ) → result ≡ Err (VendorFault.NotEmpty n)
+        → free_fault ((F.host files.old).stands to) ≡ Some (VendorFault.NotEmpty n) }
+    ensures unmade { F.tells → IfErr result (λ e. IsTrue (is_behind e)
+        → F.host files.new ≡ F.host files.old) }
     ensures only { IfErr result IsBeginFault }
     ensures file { (at : List ℕ) → result ≡ Err (VendorFault.File at)
         → CountRose (F.faults files.old) (F.faults files.new) }
     ensures later { F.faults files.old ≤ F.faults files.new }
+    ensures failed { F.tells → AddsFailed (F.failed files.old) (F.failed files.new) result }
 {
     match LocalRegistryBuilder::create(alloc, files, to) {
         Ok(builder) => Ok(builder),
@@ -216,14 +261,24 @@ pub fn build<F: Files>(
         registry_at (F.host files.new) to true ≡ Ok built.registry.index.path) }
     ensures free { F.tells → OnOk result
         (free_fault ((F.host files.old).stands to) ≡ None) }
+    ensures begun { F.tells → ArePathed checked.now → OnErr result (AreBegun
+        (all_made to checked.now) (F.host files.old) (F.host files.new)) }
     ensures occupied { F.tells → IfErr result
         (IsOccupied ((F.host files.old).stands to)) }
+    ensures taken { F.tells → ArePathed checked.now → (n : ℕ)
+        → result ≡ Err (VendorFault.NotEmpty n)
+        → free_fault ((F.host files.old).stands to) ≡ None → IsTaken to checked.now
+        (paths_of checked.now) (after_change (created to) (F.host files.old)) }
+    ensures unmade { F.tells → IfErr result (λ e.
+        free_fault ((F.host files.old).stands to) ≡ Some e
+        → F.host files.new ≡ F.host files.old) }
     ensures read_back { F.tells → (why : Error) → result ≡ Err (VendorFault.ReadBack why)
         → IsReadBack to checked.now (F.host files.old) (F.host files.new) why }
     ensures only { IfErr result IsBuildFault }
     ensures file { (at : List ℕ) → result ≡ Err (VendorFault.File at)
         → CountRose (F.faults files.old) (F.faults files.new) }
     ensures later { F.faults files.old ≤ F.faults files.new }
+    ensures failed { F.tells → AddsFailed (F.failed files.old) (F.failed files.new) result }
 {
     let builder = begin(alloc, to, files)?;
     let paths = distinct_paths(alloc, checked)?;

@@ -9,8 +9,8 @@ ghost use Rattle.tame_cache.specs.Disk.{reads};
 ghost use Rattle.tame_cache.specs.Kept.{cache_file_of};
 ghost use Rattle.vendor_registry.specs.Checks.{IsCheckFault, checked, crate_checked, file_records, is_of_package, items_records, stock_of};
 ghost use Rattle.vendor_registry.specs.Checks as spec;
+ghost use Rattle.vendor_registry.specs.Failed.{AddsFailed, IsQuiet};
 
-use crate::faults::VendorFault;
 use audit_lock::Package;
 use bytes::Bytes;
 use sha2::{Digest, Sha256};
@@ -22,6 +22,7 @@ use tame_names::{
 };
 use tame_records::{Chksum, IndexVersion};
 use tame_sparse::SparseIndex;
+use vendor_faults::VendorFault;
 
 /// The most bytes of a crate file, 64 MiB.
 const CRATE_LIMIT: u64 = 67108864;
@@ -51,6 +52,7 @@ fn read_records(
     ensures refused { IfErr result (λ e. (e ≡ VendorFault.NoMemory)
         ⊎ ((e ≡ VendorFault.Record place)
         × (records_of (map (λ i. i.1) items.entry) ≡ None))) }
+    ensures quiet { IsQuiet result }
 {
     let mut records = Items::new(alloc);
     for item in items {
@@ -72,6 +74,7 @@ fn entry_records(
     ensures ok { IfOk result (λ vs. items_records place (iterated entry.now) ≡ Ok vs) }
     ensures refused { IfErr result (λ e. (e ≡ VendorFault.NoMemory)
         ⊎ (IsTrue (is_of_package e) × (items_records place (iterated entry.now) ≡ Err e))) }
+    ensures quiet { IsQuiet result }
 {
     match entry.iter() {
         Ok(items) => read_records(alloc, place, items),
@@ -99,6 +102,7 @@ fn kept_records<D: CacheDisk>(
     ensures settled { IfErr result (λ e. (e ≡ VendorFault.NoMemory) ⊎ (IsTrue (is_of_package e))
         ⊎ ((e ≡ VendorFault.Store place)
         × CountRose (D.faults disk.old) (D.faults disk.new))) }
+    ensures quiet { IsQuiet result }
     ensures later { D.faults disk.old ≤ D.faults disk.new }
     ensures same { D.tells → (q : List ℕ) → D.past disk.new q ≡ D.past disk.old q }
     ensures folders { D.tells → D.folders disk.new ≡ D.folders disk.old }
@@ -130,7 +134,8 @@ fn decided(
     locked: &Package,
     records: Items<IndexVersion>,
 ) -> Result<IndexVersion, VendorFault>
-    ensures { result ≡ spec.decided place locked.now records }
+    ensures decided { result ≡ spec.decided place locked.now records }
+    ensures quiet { IsQuiet result }
 {
     match deciding(records, locked.version.as_str()) {
         Some(record) => {
@@ -172,6 +177,7 @@ fn crate_bytes<F: Files>(
         ⊎ ((e ≡ VendorFault.File path)
         × CountRose (F.faults files.old) (F.faults files.new))) }
     ensures later { F.faults files.old ≤ F.faults files.new }
+    ensures failed { F.tells → AddsFailed (F.failed files.old) (F.failed files.new) result }
     ensures same { F.tells → F.host files.new ≡ F.host files.old }
 {
     match files.read(alloc, path.as_str(), CRATE_LIMIT) {
@@ -198,6 +204,7 @@ fn valid_bytes(
         ⊎ (IsTrue (is_of_package e)
         × (spec.valid_bytes place path version bytes.items ≡ Err e))) }
     ensures version { IfOk result (λ c. c.version ≡ version) }
+    ensures quiet { IsQuiet result }
 {
     let found = Sha256::digest(bytes.as_slice());
     if found == version.checksum.0 {
@@ -238,6 +245,7 @@ fn check_crate<F: Files>(
         × CountRose (F.faults files.old) (F.faults files.new))) }
     ensures version { IfOk result (λ c. c.version ≡ version) }
     ensures later { F.faults files.old ≤ F.faults files.new }
+    ensures failed { F.tells → AddsFailed (F.failed files.old) (F.failed files.new) result }
     ensures same { F.tells → F.host files.new ≡ F.host files.old }
 {
     let file = crate_path(
@@ -283,6 +291,7 @@ pub fn check_package<F: Files, D: CacheDisk>(
         → CountRose (F.faults files.old) (F.faults files.new) }
     ensures disk_later { D.faults disk.old ≤ D.faults disk.new }
     ensures files_later { F.faults files.old ≤ F.faults files.new }
+    ensures failed { F.tells → AddsFailed (F.failed files.old) (F.failed files.new) result }
     ensures disk_same { D.tells → (q : List ℕ) → D.past disk.new q ≡ D.past disk.old q }
     ensures folders_same { D.tells → D.folders disk.new ≡ D.folders disk.old }
     ensures files_same { F.tells → F.host files.new ≡ F.host files.old }

@@ -14,9 +14,10 @@
 
 mod building;
 mod checks;
-mod faults;
+mod laws;
 mod looking;
 mod vendoring;
 
-pub use faults::VendorFault;
+pub use laws::each_pair_is_looked_at_once;
+pub use vendor_faults::VendorFault;
 pub use vendoring::{Vendored, vendor};

@@ -3,17 +3,18 @@ ghost use Rattle.std.specs.Prelude.{◌≡◌, ◌≤◌, ℕ, List, Ok, Err, If
 ghost use Rattle.tame_names.specs.Counts.{CountRose};
 ghost use Rattle.vendor_registry.specs.Checks.{IsCheckFault, all_checked, is_of_package, stock_of};
 ghost use Rattle.audit_core.specs.Paths as paths_spec;
+ghost use Rattle.vendor_registry.specs.Failed.{AddsFailed};
 ghost use Rattle.vendor_registry.specs.Looked.{looked};
 ghost use Rattle.vendor_registry.specs.Looked as spec;
 ghost use Rattle.vendor_registry.specs.Named.{AreTexts};
 
 use crate::checks::{Checked, check_package};
-use crate::faults::VendorFault;
 use audit_lock::{Package, is_default_registry};
 use std::alloc::Global;
 use tame_cache::CacheDisk;
 use tame_names::{FileLock, Files, Items};
 use tame_sparse::SparseIndex;
+use vendor_faults::VendorFault;
 
 /// Whether a package is of the default registry.
 fn is_default(locked: &Package) -> bool
@@ -75,6 +76,7 @@ pub fn check_packages<F: Files, D: CacheDisk>(
         → CountRose (F.faults files.old) (F.faults files.new) }
     ensures disk_later { D.faults disk.old ≤ D.faults disk.new }
     ensures files_later { F.faults files.old ≤ F.faults files.new }
+    ensures failed { F.tells → AddsFailed (F.failed files.old) (F.failed files.new) result }
     ensures disk_same { D.tells → (q : List ℕ) → D.past disk.new q ≡ D.past disk.old q }
     ensures folders_same { D.tells → D.folders disk.new ≡ D.folders disk.old }
     ensures files_same { F.tells → F.host files.new ≡ F.host files.old }

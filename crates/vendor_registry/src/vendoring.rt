@@ -1,17 +1,18 @@
 //! A registry of what was audited.
-ghost use Rattle.std.specs.Prelude.{◌≡◌, ◌≤◌, ℕ, List, true, Ok, Err, None, IsOk, IfOk, IfErr, OnOk, IsTrue};
+ghost use Rattle.std.specs.Prelude.{◌≡◌, ◌≢◌, ◌≤◌, ℕ, List, true, Ok, Err, None, Some, IsOk, IfOk, IfErr, OnErr, OnOk, IsTrue};
 ghost use Rattle.tame_names.specs.Counts.{CountRose};
 ghost use Rattle.tame_local.specs.Inserts.{StandsPlain};
 ghost use Rattle.tame_local.specs.Refusals.{refused as refused_by};
 ghost use Rattle.tame_local.specs.Registries.{registry_at};
 ghost use Rattle.tame_names.specs.declared.errors.Error.{Error};
-ghost use Rattle.vendor_registry.specs.Built.{IsOccupied, free_fault, is_behind};
+ghost use Rattle.vendor_registry.specs.Built.{IsUnfinished, IsOccupied, free_fault, is_behind};
 ghost use Rattle.vendor_registry.specs.Checks.{all_checked, is_of_package, stock_of};
+ghost use Rattle.vendor_registry.specs.Failed.{AddsFailed};
 ghost use Rattle.vendor_registry.specs.Looked.{looked};
+ghost use Rattle.vendor_registry.specs.Named.{AreVersioned, IsFolderPath};
 ghost use Rattle.vendor_registry.specs.Vendored.{IsBare, IsVendored};
 
 use crate::building::build;
-use crate::faults::VendorFault;
 use crate::looking::check_packages;
 use audit_core::Audited;
 use std::alloc::Global;
@@ -19,6 +20,7 @@ use tame_cache::CacheDisk;
 use tame_local::LocalRegistry;
 use tame_names::{FileLock, Files, Text};
 use tame_sparse::SparseIndex;
+use vendor_faults::VendorFault;
 
 /// A registry that was made of an audit's packages.
 #[derive(Drop)]
@@ -65,14 +67,30 @@ pub fn vendor<F: Files, D: CacheDisk>(
         → IsOk (all_checked (stock_of (D.past disk.old) index.now (F.host files.old) crates.now)
         (looked audited.now.lockfile))) }
     ensures occupied { F.tells → IfErr result (IsOccupied ((F.host files.old).stands to)) }
+    // and by nothing else, where nothing is in it beforehand, however deep
+    ensures not_empty { F.tells → D.tells → IsBare (F.host files.old) to → (n : ℕ)
+        → result ≡ Err (VendorFault.NotEmpty n)
+        → free_fault ((F.host files.old).stands to) ≡ Some (VendorFault.NotEmpty n) }
     ensures free { F.tells → OnOk result (free_fault ((F.host files.old).stands to) ≡ None) }
+    // refused by it, nothing was written; any other refusal leaves changes begun in their order
+    ensures unmade { F.tells → IfErr result (λ e.
+        free_fault ((F.host files.old).stands to) ≡ Some e
+        → F.host files.new ≡ F.host files.old) }
+    ensures begun { F.tells → D.tells → OnErr result (IsUnfinished
+        (stock_of (D.past disk.old) index.now (F.host files.old) crates.now)
+        audited.now.lockfile to (F.host files.old) (F.host files.new)) }
     // what was built doesn't agree with its index, for this reason
     ensures read_back { F.tells → (why : Error) → result ≡ Err (VendorFault.ReadBack why)
         → registry_at (F.host files.new) to true ≡ Err (refused_by why) }
+    // that never comes where each version is one of SemVer
+    ensures agrees { F.tells → D.tells → StandsPlain (F.host files.old).stands → IsFolderPath to
+        → AreVersioned audited.now.lockfile
+        → (why : Error) → result ≢ Err (VendorFault.ReadBack why) }
     ensures store { (at : ℕ) → result ≡ Err (VendorFault.Store at)
         → CountRose (D.faults disk.old) (D.faults disk.new) }
     ensures file { (path : List ℕ) → result ≡ Err (VendorFault.File path)
         → CountRose (F.faults files.old) (F.faults files.new) }
+    ensures failed { F.tells → AddsFailed (F.failed files.old) (F.failed files.new) result }
     ensures disk_later { D.faults disk.old ≤ D.faults disk.new }
     ensures files_later { F.faults files.old ≤ F.faults files.new }
     ensures disk_same { D.tells → (q : List ℕ) → D.past disk.new q ≡ D.past disk.old q }

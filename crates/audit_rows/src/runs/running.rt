@@ -118,7 +118,9 @@ pub fn words_of(alloc: Global, text: &str) -> Result<Vec<String>, RowFault> {
 pub fn run_words(alloc: Global, stage: &mut Stage, words: Row<'_>) -> Result<String, RowFault> {
     let words = words_of(alloc, words.rest())?;
     let ran = ran_over(alloc, stage, words.as_slice())?;
-    told(alloc, &ran, &stage.disk)
+    let line = told(alloc, &ran, &stage.disk)?;
+    stage.files = Some(ran.files);
+    Ok(line)
 }
 
 /// Adds the n-th call on the host's files, which failed in a run, and the run's fault; or that no

@@ -2,12 +2,12 @@
 use crate::scripts::scripted;
 use row_fixtures::{
     Laid, LaidNode, Row, RowFault, crashed, crates_io_index, disk_failing, disk_with,
-    flagged_entry, lockfile_of, plain_bytes, stop,
+    flagged_entry, lockfile_of, plain_bytes, shown_word, stop,
 };
 use std::alloc::Global;
 use std::mem;
 use tame_cache::MemCacheDisk;
-use tame_names::Items;
+use tame_names::{FileFault, Files, Items, MemFiles, ReadAnswer};
 use tame_sparse::{Scripted, SparseIndex};
 
 /// What stays from one row to the next.
@@ -33,6 +33,8 @@ pub struct Stage {
     pub errors: Vec<u64>,
     /// The disk of the cache.
     pub disk: MemCacheDisk,
+    /// The host's files as the last run of words left them.
+    pub files: Option<MemFiles>,
 }
 
 /// What a start ends with, as a word; nothing of `-`, where it fails.
@@ -65,6 +67,7 @@ impl Stage {
             puts: Vec::new(alloc),
             errors: Vec::new(alloc),
             disk: disk_failing(alloc, Vec::new(alloc)),
+            files: None,
         })
     }
 
@@ -194,6 +197,19 @@ impl Stage {
     pub fn lay_input(&mut self, alloc: Global, mut words: Row<'_>) -> Result<String, RowFault> {
         self.input = words.bytes(alloc)?;
         done(alloc)
+    }
+
+    /// `left PATH`: what the last run of words left at a path of the host.
+    pub fn left_at(&mut self, alloc: Global, mut words: Row<'_>) -> Result<String, RowFault> {
+        let Some(files) = &mut self.files else {
+            return Err(RowFault::Unread);
+        };
+        match files.read(alloc, words.word(), u64::MAX) {
+            Ok(ReadAnswer::Whole(bytes)) => Ok(shown_word(alloc, bytes.as_slice())?),
+            Ok(_) => Ok(String::from_str(alloc, "no file")?),
+            Err(FileFault::Failed) => Ok(String::from_str(alloc, "failed")?),
+            Err(FileFault::NoMemory) => Err(RowFault::NoMemory),
+        }
     }
 
     /// `env NAME VALUE`: a variable of the environment.

@@ -1,4 +1,4 @@
-use Rattle.std.proofs.Common.{◌≡◌, inr}
+use Rattle.std.proofs.Common.{inr}
 use Rattle.audit_asked.specs.Calls.{AddsFailed, IsReadingCall}
 use Rattle.audit_asked.proofs.Widened.{widen}
 use Rattle.audit_asked.proofs.advisories.advisories.Goals as goal

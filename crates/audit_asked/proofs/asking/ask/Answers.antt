@@ -1,4 +1,5 @@
 use Rattle.std.proofs.Common.{◌≡◌, Err, Ok, inl, inr, refl, ap, rules, arith}
+use Rattle.std.specs.Prelude.{option_map}
 use Rattle.std.proofs.lemmas.Grind.{common_steps}
 use Rattle.audit_asked.specs.Asked.{generates, IsTextsCall}
 use Rattle.audit_asked.specs.Calls.{AddsBy, AddsFailed, IsPlaceCall, IsSettingsCall}
@@ -36,7 +37,7 @@ returns-clause-started g c = λ told told_starts.
 pub returns-clause-failed : goal.returns-clause-failed
 returns-clause-failed g c = λ told.
     let placed : c.in_ok-place.place ≡ place_of c.args.command.now.file = rw c.path_of.ensures at c.in_ok-place.ensures.place in
-    let h : AddsFailed (IsTextsCall (g.F.Files.host c.args.files.now) c.in_ok-config.config c.in_ok-place.place) (g.F.Files.failed c.args.files.now) (g.F.Files.failed c.texts.new.files) c.texts.result =
+    let h : AddsFailed (IsTextsCall (g.F.Files.host c.args.files.now) c.in_ok-config.config (option_map (λ path. path.now) c.args.named) c.in_ok-place.place) (g.F.Files.failed c.args.files.now) (g.F.Files.failed c.texts.new.files) c.texts.result =
     rw (c.in_ok-place.ensures.same told, c.in_ok-config.ensures.same told, c.in_ok-place.ensures.failed told, c.in_ok-config.ensures.failed told) at (c.texts.ensures.failed told) in
     widen _ _ _ _ c.texts.result (λ path call k. inr (c.in_ok-config.config, c.in_ok-config.ensures.ok told, inr (rw (← placed) k))) h
 
@@ -59,6 +60,6 @@ returns-clause-ordered g c = λ told told_starts.
     let named : c.in_ok-place.place ≡ place_of c.args.command.now.file = rw c.path_of.ensures at c.in_ok-place.ensures.place in
     let begun : RunStartsWhere (is_to_generate c.args.command.now.file (g.F.Files.host c.args.files.now)) (g.R.Runner.starts c.args.runner.now) (g.R.Runner.starts c.place.new.runner) (Ok c.in_ok-place.place) =
     rw (c.path_of.ensures, c.in_ok-config.ensures.same told) at (c.in_ok-place.ensures.started told told_starts) in
-    let h : AddsFailed (IsTextsCall (g.F.Files.host c.args.files.now) c.in_ok-config.config c.in_ok-place.place) (g.F.Files.failed c.args.files.now) (g.F.Files.failed c.texts.new.files) c.texts.result =
+    let h : AddsFailed (IsTextsCall (g.F.Files.host c.args.files.now) c.in_ok-config.config (option_map (λ path. path.now) c.args.named) c.in_ok-place.place) (g.F.Files.failed c.args.files.now) (g.F.Files.failed c.texts.new.files) c.texts.result =
     rw (c.in_ok-place.ensures.same told, c.in_ok-config.ensures.same told, c.in_ok-place.ensures.failed told, c.in_ok-config.ensures.failed told) at (c.texts.ensures.failed told) in
     widen _ _ _ _ c.texts.result (λ path call k. inr (c.in_ok-config.config, c.in_ok-config.ensures.ok told, inr (rw (← named) k, placed _ _ _ c.in_ok-place.place begun))) h

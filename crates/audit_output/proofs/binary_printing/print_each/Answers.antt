@@ -1,4 +1,5 @@
-use Rattle.std.proofs.Common.{refl, ap, arith}
+use Rattle.std.proofs.Common.{refl, ap, ◌∙◌, arith}
+use Rattle.audit_report.specs.declared.presenters.Presenter.{Presenter}
 use Rattle.audit_output.specs.BinaryOutputs.{binaries_shown_on}
 use Rattle.audit_output.specs.Outputs.{Output}
 use Rattle.audit_output.proofs.Each.{printed_end, printed_next, printed_none}
@@ -36,7 +37,7 @@ loop-path-preserved g c =
       err = λ told. reached_next _ _ _ _ _ _ _ (inv.err told) (ap (λ (o : Output). o.err) next) (rw c.as_str.ensures at (does.err told)).whole;
       out_later = omega (arith, inv.out_later, does.out_later);
       err_later = omega (arith, inv.err_later, does.err_later);
-      config = cc (inv.config, does.shown);
+      config = ap (λ (p : Presenter). p.config) does.shown ∙ inv.config;
     }
 
 pub returns-clause-out : goal.returns-clause-out

@@ -1,8 +1,8 @@
-use Rattle.std.proofs.Common.{◌≡◌, [], None, Err, rules, arith}
+use Rattle.std.proofs.Common.{◌≡◌, [], None, Ok, Err, rules, arith}
 use Rattle.std.proofs.lemmas.Grind.{common_steps}
 use Rattle.audit_program.specs.Finishes.{end_of}
-use Rattle.audit_program.proofs.Finishing.{no_steps, part_nothing, partly_started, plan_lines_of_fix, report_lines}
-use Rattle.audit_program.proofs.Putting.{put_behind, put_first, put_nothing}
+use Rattle.audit_program.proofs.Finishing.{part_nothing, partly_started, unfixed_finished}
+use Rattle.audit_program.proofs.Putting.{put_all, put_behind, put_first}
 use Rattle.audit_program.proofs.fixing.print_and_fix.Goals as goal
 
 pub returns-in_err-print-clause-finished : goal.returns-in_err-print-clause-finished
@@ -16,23 +16,28 @@ returns-in_err-print-clause-finished g c =
 
 pub returns-in-Report-clause-finished : goal.returns-in-Report-clause-finished
 returns-in-Report-clause-finished g c =
-    rw c.in-Report.is record {
-      statuses = [];
-      started = no_steps _ _;
-      put = λ told.
-          rw (report_lines c.args.task.now.command.verdicts c.args.sheet.now.auditor.now.database c.args.sheet.now.audited.now [])
-          (put_behind _ _ [] _ _ None (c.in_ok-print.ensures.err told).whole (put_nothing _ None));
-    }
+    unfixed_finished _ _ _ c.args.task.now.remedy _ _ _ _ _ _ (Ok c.args.sheet.now.audited.now.exit) tt (rw c.in-Report.is tt)
+    (λ told. put_all _ _ _ None (c.in_ok-print.ensures.err told).whole)
 
 pub returns-in-Plan-clause-finished : goal.returns-in-Plan-clause-finished
 returns-in-Plan-clause-finished g c =
-    rw c.in-Plan.is record {
-      statuses = [];
-      started = no_steps _ _;
-      put = λ told.
-          rw (plan_lines_of_fix c.args.task.now.command.verdicts c.args.sheet.now.auditor.now.database c.args.sheet.now.audited.now [])
-          (put_behind _ _ [] _ _ None (c.in_ok-print.ensures.err told).whole (put_nothing _ None));
-    }
+    unfixed_finished _ _ _ c.args.task.now.remedy _ _ _ _ _ _ (Ok c.args.sheet.now.audited.now.exit) tt (rw c.in-Plan.is tt)
+    (λ told. put_all _ _ _ None (c.in_ok-print.ensures.err told).whole)
+
+pub returns-in-Baseline-clause-finished : goal.returns-in-Baseline-clause-finished
+returns-in-Baseline-clause-finished g c =
+    unfixed_finished _ _ _ c.args.task.now.remedy _ _ _ _ _ _ (Ok c.args.sheet.now.audited.now.exit) tt (rw c.in-Baseline.is tt)
+    (λ told. put_all _ _ _ None (c.in_ok-print.ensures.err told).whole)
+
+pub returns-in-WriteBaseline-clause-finished : goal.returns-in-WriteBaseline-clause-finished
+returns-in-WriteBaseline-clause-finished g c =
+    unfixed_finished _ _ _ c.args.task.now.remedy _ _ _ _ _ _ (Ok c.args.sheet.now.audited.now.exit) tt (rw c.in-WriteBaseline.is tt)
+    (λ told. put_all _ _ _ None (c.in_ok-print.ensures.err told).whole)
+
+pub returns-in-Vendor-clause-finished : goal.returns-in-Vendor-clause-finished
+returns-in-Vendor-clause-finished g c =
+    unfixed_finished _ _ _ c.args.task.now.remedy _ _ _ _ _ _ (Ok c.args.sheet.now.audited.now.exit) tt (rw c.in-Vendor.is tt)
+    (λ told. put_all _ _ _ None (c.in_ok-print.ensures.err told).whole)
 
 pub returns-in-Fix-clause-finished : goal.returns-in-Fix-clause-finished
 returns-in-Fix-clause-finished g c =

@@ -6,92 +6,89 @@ use Rattle.audit_words.specs.declared.commands.Command.TheVariants as command
 use Rattle.audit_asked.specs.declared.faults.RunFault.TheVariants as fault
 use Rattle.audit_core.proofs.Exchanged.{keeps_nothing, part_none}
 use Rattle.audit_program.specs.Outputs.{NeedsNoHost, words_place}
-use Rattle.audit_program.specs.Tasks.{AsksForBinaries, AsksForPlan, fix_task, task_of}
-use Rattle.audit_program.specs.declared.tasks.Remedy.TheVariants.{Report, Plan}
-use Rattle.audit_program.proofs.Commands.{accepted_by, bin_cause, if_none, if_none_then, made_cause, made_run, no_memory_called, not_both, plain_none, plain_put, task_cause}
+use Rattle.audit_program.specs.Calls.{words_generate}
+use Rattle.audit_program.specs.Tasks.{AsksForBinaries, task_of}
+use Rattle.audit_program.proofs.Commands.{accepted_by, bin_cause, if_none, if_none_then, made_cause, made_run, no_memory_called, not_both, plain_none, plain_put, task_cause, task_needs, task_no_binaries, task_unaudited}
 use Rattle.audit_program.proofs.Completing.{made_complete, task_complete}
 use Rattle.audit_program.proofs.Ended.{ended_by}
 use Rattle.audit_program.proofs.Putting.{put_nothing}
-use Rattle.audit_program.proofs.Starting.{none_started}
+use Rattle.audit_program.proofs.Starting.{memory_starts, none_started}
 use Rattle.audit_program.proofs.running.run.Goals as goal
 
-pub returns-in-Ok-Audit-clause-cause : goal.returns-in-Ok-Audit-clause-cause
-returns-in-Ok-Audit-clause-cause g c =
-    let mine = rw c.in-Ok-Audit.field-0-is at c.in-Ok-Audit.ensures.ok in
-    task_cause g.F.Files.tells (map string_bytes c.args.words.now) (g.F.Files.host c.args.files.now) (record { command = c.in-Ok-Audit.command; remedy = Report }) c.run_task.result.fault (ap task_of mine) c.run_task.ensures.cause
+pub returns-in-Ok-Lockfile-clause-cause : goal.returns-in-Ok-Lockfile-clause-cause
+returns-in-Ok-Lockfile-clause-cause g c =
+    let mine = rw c.in-Ok-Lockfile.field-0-is at c.in-Ok-Lockfile.ensures.ok in
+    task_cause g.F.Files.tells (map string_bytes c.args.words.now) (g.F.Files.host c.args.files.now) c.in-Ok-Lockfile.task c.run_task.result.fault mine c.run_task.ensures.cause
 
-pub returns-in-Ok-Audit-clause-complete : goal.returns-in-Ok-Audit-clause-complete
-returns-in-Ok-Audit-clause-complete g c told ready quiet =
-    let mine = rw c.in-Ok-Audit.field-0-is at c.in-Ok-Audit.ensures.ok in
-    task_complete g.F.Files.tells (map string_bytes c.args.words.now) (g.F.Files.host c.args.files.now) (record { command = c.in-Ok-Audit.command; remedy = Report }) _ _ c.run_task.result.fault (ap task_of mine) ready told c.run_task.ensures.cause
+pub returns-in-Ok-Lockfile-clause-complete : goal.returns-in-Ok-Lockfile-clause-complete
+returns-in-Ok-Lockfile-clause-complete g c told ready quiet =
+    let mine = rw c.in-Ok-Lockfile.field-0-is at c.in-Ok-Lockfile.ensures.ok in
+    task_complete g.F.Files.tells (map string_bytes c.args.words.now) (g.F.Files.host c.args.files.now) c.in-Ok-Lockfile.task _ _ c.run_task.result.fault mine ready told c.run_task.ensures.cause
     (record { print = c.run_task.ensures.rose; file = c.run_task.ensures.file_rose; start = c.run_task.ensures.start_rose }) quiet
 
-pub returns-in-Ok-Audit-clause-part : goal.returns-in-Ok-Audit-clause-part
-returns-in-Ok-Audit-clause-part g c told_files told given packages accepts =
-    let mine = rw c.in-Ok-Audit.field-0-is at c.in-Ok-Audit.ensures.ok in
-    c.run_task.ensures.part told_files told given packages (accepted_by (map string_bytes c.args.words.now) (g.F.Files.host c.args.files.now) (record { command = c.in-Ok-Audit.command; remedy = Report }) given packages (ap task_of mine) accepts) accepts.lockfile
+pub returns-in-Ok-Lockfile-clause-part : goal.returns-in-Ok-Lockfile-clause-part
+returns-in-Ok-Lockfile-clause-part g c told_files told given packages accepts =
+    let mine = rw c.in-Ok-Lockfile.field-0-is at c.in-Ok-Lockfile.ensures.ok in
+    c.run_task.ensures.part told_files told given packages (accepted_by (map string_bytes c.args.words.now) (g.F.Files.host c.args.files.now) c.in-Ok-Lockfile.task given packages mine accepts) accepts.lockfile
 
-pub returns-in-Ok-Audit-clause-folders : goal.returns-in-Ok-Audit-clause-folders
-returns-in-Ok-Audit-clause-folders g c told_files told given packages accepts =
-    let mine = rw c.in-Ok-Audit.field-0-is at c.in-Ok-Audit.ensures.ok in
-    c.run_task.ensures.folders told_files told given packages (accepted_by (map string_bytes c.args.words.now) (g.F.Files.host c.args.files.now) (record { command = c.in-Ok-Audit.command; remedy = Report }) given packages (ap task_of mine) accepts) accepts.lockfile
+pub returns-in-Ok-Lockfile-clause-folders : goal.returns-in-Ok-Lockfile-clause-folders
+returns-in-Ok-Lockfile-clause-folders g c told_files told given packages accepts =
+    let mine = rw c.in-Ok-Lockfile.field-0-is at c.in-Ok-Lockfile.ensures.ok in
+    c.run_task.ensures.folders told_files told given packages (accepted_by (map string_bytes c.args.words.now) (g.F.Files.host c.args.files.now) c.in-Ok-Lockfile.task given packages mine accepts) accepts.lockfile
 
-pub returns-in-Ok-Audit-clause-others : goal.returns-in-Ok-Audit-clause-others
-returns-in-Ok-Audit-clause-others g c told_files told given packages accepts q other =
-    let mine = rw c.in-Ok-Audit.field-0-is at c.in-Ok-Audit.ensures.ok in
-    c.run_task.ensures.others told_files told given packages (accepted_by (map string_bytes c.args.words.now) (g.F.Files.host c.args.files.now) (record { command = c.in-Ok-Audit.command; remedy = Report }) given packages (ap task_of mine) accepts) accepts.lockfile q other
+pub returns-in-Ok-Lockfile-clause-others : goal.returns-in-Ok-Lockfile-clause-others
+returns-in-Ok-Lockfile-clause-others g c told_files told given packages accepts q other =
+    let mine = rw c.in-Ok-Lockfile.field-0-is at c.in-Ok-Lockfile.ensures.ok in
+    c.run_task.ensures.others told_files told given packages (accepted_by (map string_bytes c.args.words.now) (g.F.Files.host c.args.files.now) c.in-Ok-Lockfile.task given packages mine accepts) accepts.lockfile q other
 
-pub returns-in-Ok-Audit-clause-unaccepted : goal.returns-in-Ok-Audit-clause-unaccepted
-returns-in-Ok-Audit-clause-unaccepted g c told task is none =
-    let mine = rw c.in-Ok-Audit.field-0-is at c.in-Ok-Audit.ensures.ok in
+pub returns-in-Ok-Lockfile-clause-unaccepted : goal.returns-in-Ok-Lockfile-clause-unaccepted
+returns-in-Ok-Lockfile-clause-unaccepted g c told task is none =
+    let mine = rw c.in-Ok-Lockfile.field-0-is at c.in-Ok-Lockfile.ensures.ok in
     c.run_task.ensures.unaccepted told (λ given packages gives lock. none given packages
-    (record { task = record { command = c.in-Ok-Audit.command; remedy = Report }; is_task = ap task_of mine; gives = gives; lockfile = lock }))
+    (record { task = c.in-Ok-Lockfile.task; is_task = mine; gives = gives; lockfile = lock }))
 
-pub returns-in-Ok-Fix-clause-unaccepted : goal.returns-in-Ok-Fix-clause-unaccepted
-returns-in-Ok-Fix-clause-unaccepted g c told task is none =
-    let mine = rw c.in-Ok-Fix.field-0-is at c.in-Ok-Fix.ensures.ok in
-    c.run_task-in-Ok-Fix.ensures.unaccepted told (λ given packages gives lock. none given packages
-    (record { task = fix_task c.in-Ok-Fix.command c.in-Ok-Fix.more; is_task = ap task_of mine; gives = rw c.fix_task-task.ensures at gives; lockfile = lock }))
+pub returns-in-Ok-Lockfile-clause-uncalled : goal.returns-in-Ok-Lockfile-clause-uncalled
+returns-in-Ok-Lockfile-clause-uncalled g c nothing =
+    let mine = rw c.in-Ok-Lockfile.field-0-is at c.in-Ok-Lockfile.ensures.ok in
+    task_needs (command_of (map string_bytes c.args.words.now)) c.in-Ok-Lockfile.task mine nothing
 
-pub returns-in-Ok-Bin-clause-unaccepted : goal.returns-in-Ok-Bin-clause-unaccepted
-returns-in-Ok-Bin-clause-unaccepted g c told task is none =
-    let mine = rw c.in-Ok-Bin.field-0-is at c.in-Ok-Bin.ensures.ok in
+pub returns-in-Ok-Lockfile-clause-unstarted : goal.returns-in-Ok-Lockfile-clause-unstarted
+returns-in-Ok-Lockfile-clause-unstarted g c is =
+    let mine = rw c.in-Ok-Lockfile.field-0-is at c.in-Ok-Lockfile.ensures.ok in
+    task_no_binaries (command_of (map string_bytes c.args.words.now)) c.in-Ok-Lockfile.task mine is
+
+pub returns-in-Ok-Lockfile-clause-unaudited_out : goal.returns-in-Ok-Lockfile-clause-unaudited_out
+returns-in-Ok-Lockfile-clause-unaudited_out g c told =
+    let mine = rw c.in-Ok-Lockfile.field-0-is at c.in-Ok-Lockfile.ensures.ok in
+    task_unaudited c.run_task.result.audited c.run_task.result.binaries (command_of (map string_bytes c.args.words.now)) c.in-Ok-Lockfile.task _ _ c.run_task.result.fault mine
+    (c.run_task.ensures.unaudited_out told)
+
+pub returns-in-Ok-Lockfile-clause-files_same : goal.returns-in-Ok-Lockfile-clause-files_same
+returns-in-Ok-Lockfile-clause-files_same g c told unwritten =
+    let mine = rw c.in-Ok-Lockfile.field-0-is at c.in-Ok-Lockfile.ensures.ok in
+    rw mine (c.run_task.ensures.files_same told (λ writes. unwritten (rw mine writes)))
+
+pub returns-in-Err-NoMemory-clause-started : goal.returns-in-Err-NoMemory-clause-started
+returns-in-Err-NoMemory-clause-started g c told told_starts =
+    if_none c.failed-in-Err-NoMemory.result.audited _
+    (memory_starts (words_generate (command_of (map string_bytes c.args.words.now)) (g.F.Files.host c.args.files.now)) (g.R.Runner.starts c.args.runner.now) c.failed-in-Err-NoMemory.result.fault
+    c.failed-in-Err-NoMemory.ensures.fault)
+
+pub returns-in-Ok-Binaries-clause-unaccepted : goal.returns-in-Ok-Binaries-clause-unaccepted
+returns-in-Ok-Binaries-clause-unaccepted g c told task is none =
+    let mine = rw c.in-Ok-Binaries.field-0-is at c.in-Ok-Binaries.ensures.ok in
     absurd (not_both _ task (ap task_of mine) is)
 
-pub returns-in-Ok-Fix-clause-complete : goal.returns-in-Ok-Fix-clause-complete
-returns-in-Ok-Fix-clause-complete g c told ready quiet =
-    let mine = rw c.in-Ok-Fix.field-0-is at c.in-Ok-Fix.ensures.ok in
-    task_complete g.F.Files.tells (map string_bytes c.args.words.now) (g.F.Files.host c.args.files.now) (fix_task c.in-Ok-Fix.command c.in-Ok-Fix.more) _ _ c.run_task-in-Ok-Fix.result.fault (ap task_of mine) ready told (rw c.fix_task-task.ensures at c.run_task-in-Ok-Fix.ensures.cause)
-    (record { print = c.run_task-in-Ok-Fix.ensures.rose; file = c.run_task-in-Ok-Fix.ensures.file_rose; start = c.run_task-in-Ok-Fix.ensures.start_rose }) quiet
-
-pub returns-in-Ok-Fix-clause-others : goal.returns-in-Ok-Fix-clause-others
-returns-in-Ok-Fix-clause-others g c told_files told given packages accepts q other =
-    let mine = rw c.in-Ok-Fix.field-0-is at c.in-Ok-Fix.ensures.ok in
-    c.run_task-in-Ok-Fix.ensures.others told_files told given packages
-    (rw c.fix_task-task.ensures (accepted_by (map string_bytes c.args.words.now) (g.F.Files.host c.args.files.now) (fix_task c.in-Ok-Fix.command c.in-Ok-Fix.more) given packages (ap task_of mine) accepts)) accepts.lockfile q other
-
-pub returns-in-Ok-Fix-clause-part : goal.returns-in-Ok-Fix-clause-part
-returns-in-Ok-Fix-clause-part g c told_files told given packages accepts =
-    let mine = rw c.in-Ok-Fix.field-0-is at c.in-Ok-Fix.ensures.ok in
-    c.run_task-in-Ok-Fix.ensures.part told_files told given packages
-    (rw c.fix_task-task.ensures (accepted_by (map string_bytes c.args.words.now) (g.F.Files.host c.args.files.now) (fix_task c.in-Ok-Fix.command c.in-Ok-Fix.more) given packages (ap task_of mine) accepts)) accepts.lockfile
-
-pub returns-in-Ok-Fix-clause-folders : goal.returns-in-Ok-Fix-clause-folders
-returns-in-Ok-Fix-clause-folders g c told_files told given packages accepts =
-    let mine = rw c.in-Ok-Fix.field-0-is at c.in-Ok-Fix.ensures.ok in
-    c.run_task-in-Ok-Fix.ensures.folders told_files told given packages
-    (rw c.fix_task-task.ensures (accepted_by (map string_bytes c.args.words.now) (g.F.Files.host c.args.files.now) (fix_task c.in-Ok-Fix.command c.in-Ok-Fix.more) given packages (ap task_of mine) accepts)) accepts.lockfile
-
-pub returns-in-Ok-Bin-clause-unaudited_out : goal.returns-in-Ok-Bin-clause-unaudited_out
-returns-in-Ok-Bin-clause-unaudited_out g c told =
-    let mine = rw c.in-Ok-Bin.field-0-is at c.in-Ok-Bin.ensures.ok in
+pub returns-in-Ok-Binaries-clause-unaudited_out : goal.returns-in-Ok-Binaries-clause-unaudited_out
+returns-in-Ok-Binaries-clause-unaudited_out g c told =
+    let mine = rw c.in-Ok-Binaries.field-0-is at c.in-Ok-Binaries.ensures.ok in
     if_none c.run_binaries.result.audited _
     (if_none_then c.run_binaries.result.binaries _ _
-    (λ same. plain_none _ (Ok (command.Bin c.in-Ok-Bin.command c.in-Ok-Bin.more)) _ _ c.run_binaries.result.fault mine refl (ap g.O.Sink.holds same)) c.run_binaries.ensures.unmade_out)
+    (λ same. plain_none _ (Ok (command.Bin c.in-Ok-Binaries.command c.in-Ok-Binaries.more)) _ _ c.run_binaries.result.fault mine refl (ap g.O.Sink.holds same)) c.run_binaries.ensures.unmade_out)
 
-pub returns-in-Ok-Bin-clause-one_start : goal.returns-in-Ok-Bin-clause-one_start
-returns-in-Ok-Bin-clause-one_start g c failed is =
-    none_started g.F.Files.tells c.in-Ok-Bin.command (g.F.Files.host c.args.files.now) c.run_binaries.result.fault failed c.run_binaries.ensures.cause is
+pub returns-in-Ok-Binaries-clause-one_start : goal.returns-in-Ok-Binaries-clause-one_start
+returns-in-Ok-Binaries-clause-one_start g c failed is =
+    none_started g.F.Files.tells c.in-Ok-Binaries.command (g.F.Files.host c.args.files.now) c.run_binaries.result.fault failed c.run_binaries.ensures.cause is
 
 pub returns-in-Ok-Help-clause-unaudited_out : goal.returns-in-Ok-Help-clause-unaudited_out
 returns-in-Ok-Help-clause-unaudited_out g c told =
@@ -128,40 +125,20 @@ returns-in-Err-NoMemory-clause-kept g c told_wire told = keeps_nothing (g.W.Wire
 pub returns-in-Err-NoMemory-clause-part : goal.returns-in-Err-NoMemory-clause-part
 returns-in-Err-NoMemory-clause-part g c told_files told given packages accepts = part_none _ _ _ refl
 
-pub returns-in-Ok-Audit-clause-uncalled : goal.returns-in-Ok-Audit-clause-uncalled
-returns-in-Ok-Audit-clause-uncalled g c nothing =
-    let mine = rw c.in-Ok-Audit.field-0-is at c.in-Ok-Audit.ensures.ok in
+pub returns-in-Ok-Binaries-clause-uncalled : goal.returns-in-Ok-Binaries-clause-uncalled
+returns-in-Ok-Binaries-clause-uncalled g c nothing =
+    let mine = rw c.in-Ok-Binaries.field-0-is at c.in-Ok-Binaries.ensures.ok in
     absurd (subst NeedsNoHost mine nothing)
 
-pub returns-in-Ok-Fix-clause-uncalled : goal.returns-in-Ok-Fix-clause-uncalled
-returns-in-Ok-Fix-clause-uncalled g c nothing =
-    let mine = rw c.in-Ok-Fix.field-0-is at c.in-Ok-Fix.ensures.ok in
-    absurd (subst NeedsNoHost mine nothing)
-
-pub returns-in-Ok-Bin-clause-uncalled : goal.returns-in-Ok-Bin-clause-uncalled
-returns-in-Ok-Bin-clause-uncalled g c nothing =
-    let mine = rw c.in-Ok-Bin.field-0-is at c.in-Ok-Bin.ensures.ok in
-    absurd (subst NeedsNoHost mine nothing)
-
-pub returns-in-Ok-Bin-clause-undecoded : goal.returns-in-Ok-Bin-clause-undecoded
-returns-in-Ok-Bin-clause-undecoded g c other =
-    let mine = rw c.in-Ok-Bin.field-0-is at c.in-Ok-Bin.ensures.ok in
+pub returns-in-Ok-Binaries-clause-undecoded : goal.returns-in-Ok-Binaries-clause-undecoded
+returns-in-Ok-Binaries-clause-undecoded g c other =
+    let mine = rw c.in-Ok-Binaries.field-0-is at c.in-Ok-Binaries.ensures.ok in
     absurd (other (subst AsksForBinaries (sym mine) tt))
 
-pub returns-in-Ok-Audit-clause-unstarted : goal.returns-in-Ok-Audit-clause-unstarted
-returns-in-Ok-Audit-clause-unstarted g c is =
-    let mine = rw c.in-Ok-Audit.field-0-is at c.in-Ok-Audit.ensures.ok in
-    absurd (subst AsksForBinaries mine is)
-
-pub returns-in-Ok-Fix-clause-unstarted : goal.returns-in-Ok-Fix-clause-unstarted
-returns-in-Ok-Fix-clause-unstarted g c is =
-    let mine = rw c.in-Ok-Fix.field-0-is at c.in-Ok-Fix.ensures.ok in
-    absurd (subst AsksForBinaries mine is)
-
-pub returns-in-Ok-Bin-clause-cause : goal.returns-in-Ok-Bin-clause-cause
-returns-in-Ok-Bin-clause-cause g c =
-    let mine = rw c.in-Ok-Bin.field-0-is at c.in-Ok-Bin.ensures.ok in
-    bin_cause g.F.Files.tells (map string_bytes c.args.words.now) (g.F.Files.host c.args.files.now) c.in-Ok-Bin.command c.in-Ok-Bin.more c.run_binaries.result.fault mine c.run_binaries.ensures.cause
+pub returns-in-Ok-Binaries-clause-cause : goal.returns-in-Ok-Binaries-clause-cause
+returns-in-Ok-Binaries-clause-cause g c =
+    let mine = rw c.in-Ok-Binaries.field-0-is at c.in-Ok-Binaries.ensures.ok in
+    bin_cause g.F.Files.tells (map string_bytes c.args.words.now) (g.F.Files.host c.args.files.now) c.in-Ok-Binaries.command c.in-Ok-Binaries.more c.run_binaries.result.fault mine c.run_binaries.ensures.cause
 
 pub returns-in-Ok-Generate-clause-generated : goal.returns-in-Ok-Generate-clause-generated
 returns-in-Ok-Generate-clause-generated g c =
@@ -187,50 +164,3 @@ pub run_generated-requires : goal.run_generated-requires
 run_generated-requires g c =
     let mine = rw c.in-Ok-Generate.field-0-is at c.in-Ok-Generate.ensures.ok in
     (bounded (map string_bytes c.args.words.now) c.in-Ok-Generate.count mine).1
-
-pub returns-in-Ok-Plan-clause-cause : goal.returns-in-Ok-Plan-clause-cause
-returns-in-Ok-Plan-clause-cause g c =
-    let mine = rw c.in-Ok-Plan.field-0-is at c.in-Ok-Plan.ensures.ok in
-    task_cause g.F.Files.tells (map string_bytes c.args.words.now) (g.F.Files.host c.args.files.now) (record { command = c.in-Ok-Plan.command; remedy = Plan }) c.run_task-in-Ok-Plan.result.fault (ap task_of mine) c.run_task-in-Ok-Plan.ensures.cause
-
-pub returns-in-Ok-Plan-clause-complete : goal.returns-in-Ok-Plan-clause-complete
-returns-in-Ok-Plan-clause-complete g c told ready quiet =
-    let mine = rw c.in-Ok-Plan.field-0-is at c.in-Ok-Plan.ensures.ok in
-    task_complete g.F.Files.tells (map string_bytes c.args.words.now) (g.F.Files.host c.args.files.now) (record { command = c.in-Ok-Plan.command; remedy = Plan }) _ _ c.run_task-in-Ok-Plan.result.fault (ap task_of mine) ready told c.run_task-in-Ok-Plan.ensures.cause
-    (record { print = c.run_task-in-Ok-Plan.ensures.rose; file = c.run_task-in-Ok-Plan.ensures.file_rose; start = c.run_task-in-Ok-Plan.ensures.start_rose }) quiet
-
-pub returns-in-Ok-Plan-clause-part : goal.returns-in-Ok-Plan-clause-part
-returns-in-Ok-Plan-clause-part g c told_files told given packages accepts =
-    let mine = rw c.in-Ok-Plan.field-0-is at c.in-Ok-Plan.ensures.ok in
-    c.run_task-in-Ok-Plan.ensures.part told_files told given packages (accepted_by (map string_bytes c.args.words.now) (g.F.Files.host c.args.files.now) (record { command = c.in-Ok-Plan.command; remedy = Plan }) given packages (ap task_of mine) accepts) accepts.lockfile
-
-pub returns-in-Ok-Plan-clause-folders : goal.returns-in-Ok-Plan-clause-folders
-returns-in-Ok-Plan-clause-folders g c told_files told given packages accepts =
-    let mine = rw c.in-Ok-Plan.field-0-is at c.in-Ok-Plan.ensures.ok in
-    c.run_task-in-Ok-Plan.ensures.folders told_files told given packages (accepted_by (map string_bytes c.args.words.now) (g.F.Files.host c.args.files.now) (record { command = c.in-Ok-Plan.command; remedy = Plan }) given packages (ap task_of mine) accepts) accepts.lockfile
-
-pub returns-in-Ok-Plan-clause-others : goal.returns-in-Ok-Plan-clause-others
-returns-in-Ok-Plan-clause-others g c told_files told given packages accepts q other =
-    let mine = rw c.in-Ok-Plan.field-0-is at c.in-Ok-Plan.ensures.ok in
-    c.run_task-in-Ok-Plan.ensures.others told_files told given packages (accepted_by (map string_bytes c.args.words.now) (g.F.Files.host c.args.files.now) (record { command = c.in-Ok-Plan.command; remedy = Plan }) given packages (ap task_of mine) accepts) accepts.lockfile q other
-
-pub returns-in-Ok-Plan-clause-unaccepted : goal.returns-in-Ok-Plan-clause-unaccepted
-returns-in-Ok-Plan-clause-unaccepted g c told task is none =
-    let mine = rw c.in-Ok-Plan.field-0-is at c.in-Ok-Plan.ensures.ok in
-    c.run_task-in-Ok-Plan.ensures.unaccepted told (λ given packages gives lock. none given packages
-    (record { task = record { command = c.in-Ok-Plan.command; remedy = Plan }; is_task = ap task_of mine; gives = gives; lockfile = lock }))
-
-pub returns-in-Ok-Plan-clause-uncalled : goal.returns-in-Ok-Plan-clause-uncalled
-returns-in-Ok-Plan-clause-uncalled g c nothing =
-    let mine = rw c.in-Ok-Plan.field-0-is at c.in-Ok-Plan.ensures.ok in
-    absurd (subst NeedsNoHost mine nothing)
-
-pub returns-in-Ok-Plan-clause-unstarted : goal.returns-in-Ok-Plan-clause-unstarted
-returns-in-Ok-Plan-clause-unstarted g c is =
-    let mine = rw c.in-Ok-Plan.field-0-is at c.in-Ok-Plan.ensures.ok in
-    absurd (subst AsksForBinaries mine is)
-
-pub returns-in-Ok-Plan-clause-off : goal.returns-in-Ok-Plan-clause-off
-returns-in-Ok-Plan-clause-off g c told config settles other off =
-    let mine = rw c.in-Ok-Plan.field-0-is at c.in-Ok-Plan.ensures.ok in
-    absurd (other (subst AsksForPlan (sym mine) tt))

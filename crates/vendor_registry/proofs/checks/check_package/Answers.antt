@@ -16,7 +16,7 @@ returns-clause-ok g c told_f told_d =
     let there : cache_file_of c.args.index.now.cache.path (text_of c.in-Ok.name) ≡ Some (cache_file c.args.index.now.cache.path q) = ap (option_map (cache_file c.args.index.now.cache.path)) text in
     let kept = c.in_ok-records.ensures.ok told_d (cache_file c.args.index.now.cache.path q) there in
     package_ok (checked stock c.args.place c.args.locked.now) (crate_checked stock c.args.place q c.in_ok-version.version) c.check_crate.result
-    (checked_is stock c.args.place c.args.locked.now q c.in_ok-records.records c.in_ok-version.version named kept (sym c.in_ok-version.ensures))
+    (checked_is stock c.args.place c.args.locked.now q c.in_ok-records.records c.in_ok-version.version named kept (sym c.in_ok-version.ensures.decided))
     (c.check_crate.ensures.ok told_f stock refl refl)
 
 pub returns-clause-refused : goal.returns-clause-refused
@@ -28,10 +28,10 @@ returns-clause-refused g c told_f told_d =
     let there : cache_file_of c.args.index.now.cache.path (text_of c.in-Ok.name) ≡ Some (cache_file c.args.index.now.cache.path q) = ap (option_map (cache_file c.args.index.now.cache.path)) text in
     let kept = c.in_ok-records.ensures.ok told_d (cache_file c.args.index.now.cache.path q) there in
     package_refused (checked stock c.args.place c.args.locked.now) (crate_checked stock c.args.place q c.in_ok-version.version) c.check_crate.result
-    (checked_is stock c.args.place c.args.locked.now q c.in_ok-records.records c.in_ok-version.version named kept (sym c.in_ok-version.ensures))
+    (checked_is stock c.args.place c.args.locked.now q c.in_ok-records.records c.in_ok-version.version named kept (sym c.in_ok-version.ensures.decided))
     (c.check_crate.ensures.refused told_f stock refl refl)
 
 pub returns-clause-text : goal.returns-clause-text
 returns-clause-text g c =
-    let same = decided_ok c.args.place c.args.locked.now c.in_ok-records.records c.in_ok-version.version (sym c.in_ok-version.ensures) in
+    let same = decided_ok c.args.place c.args.locked.now c.in_ok-records.records c.in_ok-version.version (sym c.in_ok-version.ensures.decided) in
     text_ok c.in_ok-version.version c.as_str.result.now c.check_crate.result c.as_str.utf8 (same.1 ∙ sym c.as_str.ensures) c.check_crate.ensures.version

@@ -1,4 +1,4 @@
--- An audit, and then a plan that only reads the cache.
+-- An audit, and then a call that only reads the cache.
 use Rattle.std.proofs.Common.{◌≡◌, ℕ, List, [], ◌∙◌}
 use Rattle.tame_cache.specs.Kept.{Disk}
 use Rattle.tame_cache.proofs.KeptLemmas.{keeps_same, keeps_then}

@@ -1,0 +1,52 @@
+//! The baseline that a run asks for.
+ghost use Rattle.std.specs.Prelude.{◌≡◌, ◌⊎◌, Ok, Err, IfOk, IfErr, IsTrue, option_map};
+ghost use Rattle.known_findings.specs.Baselines.{baseline_of};
+ghost use Rattle.audit_asked.specs.Calls.{AddsFailed, HasFileCause, IsBaselineCall};
+ghost use Rattle.audit_asked.specs.KnownFindings.{baseline_asked, findings_read};
+ghost use Rattle.audit_asked.specs.Refusals.{IsReadFault, is_told, refused};
+
+use crate::faults::RunFault;
+use crate::texts::file_text;
+use known_findings::{Baseline, BaselineFault};
+use std::alloc::Global;
+use tame_names::{Files, Text};
+
+/// The baseline of a text.
+fn baseline_in(alloc: Global, text: &str) -> Result<Baseline, RunFault>
+    ensures ok { IfOk result (λ b. baseline_of text.now ≡ Ok b) }
+    ensures refused { IfErr result (λ e. IsTrue (is_told e)
+        → findings_read (baseline_of text.now) ≡ Err (refused e)) }
+    ensures only { IfErr result (λ e. (e ≡ RunFault.NoMemory) ⊎ IsTrue (is_told e)) }
+    ensures read { IfErr result IsReadFault }
+{
+    match Baseline::read(alloc, text) {
+        Ok(baseline) => Ok(baseline),
+        Err(BaselineFault::Line { n }) => Err(RunFault::Baseline { line: n }),
+        Err(BaselineFault::NoMemory) => Err(RunFault::NoMemory),
+    }
+}
+
+/// The baseline in the file at a path, where one is named; the file has to be there.
+pub fn baseline<F: Files>(
+    alloc: Global,
+    files: &mut F,
+    named: Option<&str>,
+) -> Result<Option<Baseline>, RunFault>
+    ensures ok { F.tells → IfOk result (λ b.
+        baseline_asked (option_map (λ path. path.now) named.entry) (F.host files.old) ≡ Ok b) }
+    ensures refused { F.tells → IfErr result (λ e. IsTrue (is_told e)
+        → baseline_asked (option_map (λ path. path.now) named.entry) (F.host files.old)
+        ≡ Err (refused e)) }
+    ensures only { IfErr result IsReadFault }
+    ensures cause { HasFileCause (F.faults files.old) (F.faults files.new) result }
+    ensures failed { F.tells → AddsFailed
+        (IsBaselineCall (option_map (λ path. path.now) named.entry))
+        (F.failed files.old) (F.failed files.new) result }
+    ensures same { F.tells → F.host files.new ≡ F.host files.old }
+{
+    let Some(path) = named else {
+        return Ok(None);
+    };
+    let text = file_text(alloc, files, path)?;
+    Ok(Some(baseline_in(alloc, text.as_str())?))
+}

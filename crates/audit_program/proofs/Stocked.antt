@@ -1,0 +1,26 @@
+-- What a registry is made of, by the index that audits ask.
+use Rattle.std.proofs.Common.{◌≡◌, ℕ, List, [], Result, ap, subst, ◌∙◌}
+use Rattle.std.specs.Prelude.{OnErr}
+use Rattle.tame_names.specs.Standing.{Host}
+use Rattle.tame_cache.specs.Disk as disk
+use Rattle.tame_cache.specs.Kept.{Disk}
+use Rattle.tame_sparse.specs.Exchanges.{crates_io_index}
+use Rattle.tame_sparse.specs.declared.sparse.SparseIndex.{SparseIndex}
+use Rattle.audit_lock.specs.declared.resolving.Package.{Package}
+use Rattle.vendor_registry.specs.Built.{IsUnfinished}
+use Rattle.vendor_registry.specs.Checks.{Stock, stock_of}
+use Rattle.audit_program.specs.Makings.{crates_io_stock}
+
+pub stock_same : (past : Disk) (index : SparseIndex) (host : Host) (crates : List ℕ) → index.cache.path ≡ [] → index.cache.index ≡ crates_io_index
+    → stock_of past index host crates ≡ crates_io_stock past host crates
+stock_same past index host crates root url =
+    let stock : List ℕ → List ℕ → Stock = λ r u. record { files = λ q. disk.reads (past q); root = r; url = u; host = host; crates = crates } in
+    ap (λ (r : List ℕ). stock r index.cache.index) root ∙ ap (λ (u : List ℕ). stock [] u) url
+
+-- what was begun of it
+pub begun_same : {T E : Type 0} (r : Result T E) (one other : Stock) (packages : List Package) (folder to : List ℕ) (before now : Host) → one ≡ other → folder ≡ to
+    → OnErr r (IsUnfinished one packages folder before now) → OnErr r (IsUnfinished other packages to before now)
+begun_same r one other packages folder to before now stocks folders h =
+    let P : Stock → Type 0 = λ s. OnErr r (IsUnfinished s packages folder before now) in
+    let Q : List ℕ → Type 0 = λ x. OnErr r (IsUnfinished other packages x before now) in
+    subst Q folders (subst P stocks h)

@@ -1,0 +1,61 @@
+use Rattle.std.proofs.Common.{◌≡◌, ◌∙◌, ℕ, List, rules, arith, sym, ap, Err}
+use Rattle.std.proofs.lemmas.Grind.{common_steps}
+use Rattle.tame_names.specs.Standing.{Host}
+use Rattle.tame_local.specs.Builders.{after}
+use Rattle.vendor_faults.specs.declared.faults.VendorFault.TheVariants as fault
+use Rattle.vendor_registry.specs.Built.{paths_made}
+use Rattle.vendor_registry.specs.Vendored.{paths_of}
+use Rattle.vendor_registry.specs.declared.checks.Checked.{Checked}
+use Rattle.vendor_registry.proofs.Begun.{created_begun, on_err, whole_begun}
+use Rattle.vendor_registry.proofs.building.build.Goals as goal
+
+pub returns-in_err-builder-clause-taken : goal.returns-in_err-builder-clause-taken
+returns-in_err-builder-clause-taken g c = λ told pathed n is free.
+    let same : c.from_residual.result ≡ Err c.in_err-builder.field-0.0 = first_of (search rules, grind (arith, common_steps)) in
+    let both = sym same ∙ is in
+    let one : c.in_err-builder.field-0.0 ≡ fault.NotEmpty n = cc in
+    let some = c.in_err-builder.ensures.not_empty told n (ap Err one) in
+    cc
+
+pub returns-in_err-paths-clause-begun : goal.returns-in_err-paths-clause-begun
+returns-in_err-paths-clause-begun g c = λ told pathed.
+    on_err _ _ (created_begun c.args.to c.args.checked.now (g.F.Files.host c.args.files.now) _ (c.in_ok-builder.ensures.made told))
+
+pub returns-in-Err-IoPath-Failed-default-clause-begun : goal.returns-in-Err-IoPath-Failed-default-clause-begun
+returns-in-Err-IoPath-Failed-default-clause-begun g c = λ told pathed.
+    let to : List ℕ = c.args.to in
+    let cs : List Checked = c.args.checked.now in
+    let old : Host = g.F.Files.host c.args.files.now in
+    let mid : Host = g.F.Files.host c.begin.new.files in
+    let paths = c.as_slice.ensures ∙ c.in_ok-paths.ensures in
+    whole_begun to cs old (g.F.Files.host c.finalize.new.files)
+    (c.in-Err-IoPath-Failed-default.ensures.same told ∙ c.in_ok-bytes.ensures.made told pathed
+    ∙ ap (λ (f : List ℕ). after (paths_made f cs c.as_slice.result.now) mid) c.in_ok-builder.ensures.path
+    ∙ ap (λ (ps : List (List ℕ)). after (paths_made to cs ps) mid) paths
+    ∙ ap (after (paths_made to cs (paths_of cs))) (c.in_ok-builder.ensures.made told))
+
+pub returns-in-Err-NoMemory-clause-begun : goal.returns-in-Err-NoMemory-clause-begun
+returns-in-Err-NoMemory-clause-begun g c = λ told pathed.
+    let to : List ℕ = c.args.to in
+    let cs : List Checked = c.args.checked.now in
+    let old : Host = g.F.Files.host c.args.files.now in
+    let mid : Host = g.F.Files.host c.begin.new.files in
+    let paths = c.as_slice.ensures ∙ c.in_ok-paths.ensures in
+    whole_begun to cs old (g.F.Files.host c.finalize.new.files)
+    (c.in-Err-NoMemory.ensures.same told ∙ c.in_ok-bytes.ensures.made told pathed
+    ∙ ap (λ (f : List ℕ). after (paths_made f cs c.as_slice.result.now) mid) c.in_ok-builder.ensures.path
+    ∙ ap (λ (ps : List (List ℕ)). after (paths_made to cs ps) mid) paths
+    ∙ ap (after (paths_made to cs (paths_of cs))) (c.in_ok-builder.ensures.made told))
+
+pub returns-clause-begun : goal.returns-clause-begun
+returns-clause-begun g c = λ told pathed.
+    let to : List ℕ = c.args.to in
+    let cs : List Checked = c.args.checked.now in
+    let old : Host = g.F.Files.host c.args.files.now in
+    let mid : Host = g.F.Files.host c.begin.new.files in
+    let paths = c.as_slice.ensures ∙ c.in_ok-paths.ensures in
+    whole_begun to cs old (g.F.Files.host c.finalize.new.files)
+    (c.in-Err.ensures.same told ∙ c.in_ok-bytes.ensures.made told pathed
+    ∙ ap (λ (f : List ℕ). after (paths_made f cs c.as_slice.result.now) mid) c.in_ok-builder.ensures.path
+    ∙ ap (λ (ps : List (List ℕ)). after (paths_made to cs ps) mid) paths
+    ∙ ap (after (paths_made to cs (paths_of cs))) (c.in_ok-builder.ensures.made told))
