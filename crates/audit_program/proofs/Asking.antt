@@ -80,45 +80,6 @@ pub if_some : {T : Type 0} (o : Option T) (P Q : T → Type 0) → ((x : T) → 
 if_some None P Q f h = tt
 if_some (Some x) P Q f h = f x h
 
--- the call that failed in asking, by the fault that is told of it
-call_case : (may : List ℕ → FailedCall → Type 0) (before now : List FailedCall) (f : RunFault) → AddsBy may before now f → AddsRunCall may before now (Some f)
-call_case may before now (fault.File path) h = h
-call_case may before now fault.NoMemory h = inl h
-call_case may before now (fault.Generate status) h = h
-call_case may before now (fault.Start failed) h = h
-call_case may before now (fault.Lockfile reason) h = h
-call_case may before now fault.Print h = h
-call_case may before now (fault.Usage place) h = h
-call_case may before now (fault.Settings reason) h = h
-call_case may before now (fault.Missing path) h = h
-call_case may before now (fault.NotUtf8 path) h = h
-call_case may before now (fault.TooLarge path len) h = h
-call_case may before now (fault.Advisory n reason) h = h
-call_case may before now (fault.Baseline line) h = h
-call_case may before now (fault.Vendor reason) h = h
-
--- the same where memory ran out in telling it
-memory_case : (may : List ℕ → FailedCall → Type 0) (before now : List FailedCall) (f : RunFault) → AddsBy may before now f → AddsRunCall may before now (Some fault.NoMemory)
-memory_case may before now (fault.File path) h = inr (path, h.0, h.1, h.2)
-memory_case may before now fault.NoMemory h = inl h
-memory_case may before now (fault.Generate status) h = inl h
-memory_case may before now (fault.Start failed) h = inl h
-memory_case may before now (fault.Lockfile reason) h = inl h
-memory_case may before now fault.Print h = inl h
-memory_case may before now (fault.Usage place) h = inl h
-memory_case may before now (fault.Settings reason) h = inl h
-memory_case may before now (fault.Missing path) h = inl h
-memory_case may before now (fault.NotUtf8 path) h = inl h
-memory_case may before now (fault.TooLarge path len) h = inl h
-memory_case may before now (fault.Advisory n reason) h = inl h
-memory_case may before now (fault.Baseline line) h = inl h
-memory_case may before now (fault.Vendor reason) h = inl h
-
-pub call_told : (may : List ℕ → FailedCall → Type 0) (before now : List FailedCall) (f : RunFault) (o : Option RunFault) → (o ≡ Some f) ⊎ (o ≡ Some fault.NoMemory) → AddsBy may before now f
-    → AddsRunCall may before now o
-call_told may before now f o (inl is) h = let P : Option RunFault → Type 0 = λ x. AddsRunCall may before now x in subst P (sym is) (call_case may before now f h)
-call_told may before now f o (inr is) h = let P : Option RunFault → Type 0 = λ x. AddsRunCall may before now x in subst P (sym is) (memory_case may before now f h)
-
 -- ---- causes
 
 pub ok_same : {A E : Type 0} (r : Result A E) (a b : A) → r ≡ Ok a → r ≡ Ok b → a ≡ b

@@ -1,5 +1,6 @@
 -- What was made of an audit, by how it ended.
 use Rattle.std.proofs.Common.{◌≡◌, ◌≢◌, ◌⊎◌, ◌≤◌, inl, inr, ℕ, Bool, List, [], ◌∷◌, Option, Some, None, Ok, Err, refl, sym, subst, arith}
+use Rattle.tame_names.specs.Standing.{Host}
 use Rattle.tame_names.specs.declared.host.FailedCall.{FailedCall}
 use Rattle.audit_words.specs.declared.commands.VendorCommand.{VendorCommand}
 use Rattle.audit_advisory.specs.declared.advisories.Advisory.{Advisory}
@@ -12,7 +13,11 @@ use Rattle.audit_asked.specs.declared.faults.RunFault.{RunFault}
 use Rattle.audit_asked.specs.declared.faults.RunFault.TheVariants as fault
 use Rattle.vendor_faults.specs.declared.faults.VendorFault.{VendorFault}
 use Rattle.vendor_faults.specs.declared.faults.VendorFault.TheVariants as vendor_fault
-use Rattle.audit_program.specs.Calls.{AddsFileCalls, AddsMakingCalls, AddsRegistryCalls}
+use Rattle.audit_asked.specs.Calls.{AddsBy}
+use Rattle.audit_asked.specs.Refusals.{IsAskFault}
+use Rattle.audit_program.specs.Calls.{AddsFileCalls, AddsMakingCalls, AddsRegistryCalls, AddsTaskCalls}
+use Rattle.audit_program.specs.Tasks.{IsTaskCall}
+use Rattle.audit_program.specs.declared.tasks.Task.{Task}
 use Rattle.audit_program.specs.Finishes.{IsFinishFault}
 use Rattle.audit_program.specs.Makings.{IsMade, IsMadeFor, IsMakingFault, IsReadOnly, IsRegistryBegun, IsRegistryRefused, IsVendorEnd, Making}
 use Rattle.audit_program.specs.declared.making.Made.{Made}
@@ -206,3 +211,61 @@ pub unmade_lines : (remedy : Remedy) (advisories : List Advisory) (audited : Aud
 unmade_lines remedy advisories audited verdicts before f other =
     let P : List ℕ → Type 0 = λ xs. IsPutBy before xs (Some f) before in
     subst P (sym (behind_none remedy advisories audited verdicts [] other)) (put_nothing before (Some f))
+
+-- ---- in asking, or in making
+
+pub calls_made : (task : Task) (host : Host) (before now : List FailedCall) (o : Option RunFault) → AddsMakingCalls task.remedy before now o → AddsTaskCalls task host before now o
+calls_made task host before now None h = inr h
+calls_made task host before now (Some (fault.Usage place)) h = inr h
+calls_made task host before now (Some (fault.Settings reason)) h = inr h
+calls_made task host before now (Some (fault.Missing path)) h = inr h
+calls_made task host before now (Some (fault.NotUtf8 path)) h = inr h
+calls_made task host before now (Some (fault.TooLarge path len)) h = inr h
+calls_made task host before now (Some (fault.File path)) h = inr h
+calls_made task host before now (Some (fault.Lockfile reason)) h = inr h
+calls_made task host before now (Some (fault.Advisory n reason)) h = inr h
+calls_made task host before now (Some (fault.Baseline line)) h = inr h
+calls_made task host before now (Some (fault.Vendor reason)) h = h
+calls_made task host before now (Some fault.Print) h = inr h
+calls_made task host before now (Some (fault.Generate status)) h = inr h
+calls_made task host before now (Some (fault.Start failed)) h = inr h
+calls_made task host before now (Some fault.NoMemory) h = inr h
+
+calls_by : (task : Task) (host : Host) (before now : List FailedCall) (f : RunFault) → IsAskFault f → AddsBy (IsTaskCall task host) before now f → AddsTaskCalls task host before now (Some f)
+calls_by task host before now (fault.Usage place) only h = inl h
+calls_by task host before now (fault.Settings reason) only h = inl h
+calls_by task host before now (fault.Missing path) only h = inl h
+calls_by task host before now (fault.NotUtf8 path) only h = inl h
+calls_by task host before now (fault.TooLarge path len) only h = inl h
+calls_by task host before now (fault.File path) only h = inl h
+calls_by task host before now (fault.Lockfile reason) only h = inl h
+calls_by task host before now (fault.Advisory n reason) only h = inl h
+calls_by task host before now (fault.Baseline line) only h = inl h
+calls_by task host before now (fault.Vendor reason) only h = absurd only
+calls_by task host before now fault.Print only h = inl h
+calls_by task host before now (fault.Generate status) only h = inl h
+calls_by task host before now (fault.Start failed) only h = inl h
+calls_by task host before now fault.NoMemory only h = inl (inl h)
+
+calls_memory : (task : Task) (host : Host) (before now : List FailedCall) (f : RunFault) → AddsBy (IsTaskCall task host) before now f → AddsTaskCalls task host before now (Some fault.NoMemory)
+calls_memory task host before now (fault.Usage place) h = inl (inl h)
+calls_memory task host before now (fault.Settings reason) h = inl (inl h)
+calls_memory task host before now (fault.Missing path) h = inl (inl h)
+calls_memory task host before now (fault.NotUtf8 path) h = inl (inl h)
+calls_memory task host before now (fault.TooLarge path len) h = inl (inl h)
+calls_memory task host before now (fault.File path) h = inl (inr (path, h.0, h.1, h.2))
+calls_memory task host before now (fault.Lockfile reason) h = inl (inl h)
+calls_memory task host before now (fault.Advisory n reason) h = inl (inl h)
+calls_memory task host before now (fault.Baseline line) h = inl (inl h)
+calls_memory task host before now (fault.Vendor reason) h = inl (inl h)
+calls_memory task host before now fault.Print h = inl (inl h)
+calls_memory task host before now (fault.Generate status) h = inl (inl h)
+calls_memory task host before now (fault.Start failed) h = inl (inl h)
+calls_memory task host before now fault.NoMemory h = inl (inl h)
+
+pub calls_asked : (task : Task) (host : Host) (before now : List FailedCall) (f : RunFault) (o : Option RunFault) → (o ≡ Some f) ⊎ (o ≡ Some fault.NoMemory) → IsAskFault f
+    → AddsBy (IsTaskCall task host) before now f → AddsTaskCalls task host before now o
+calls_asked task host before now f o (inl is) only h =
+    let P : Option RunFault → Type 0 = λ x. AddsTaskCalls task host before now x in subst P (sym is) (calls_by task host before now f only h)
+calls_asked task host before now f o (inr is) only h =
+    let P : Option RunFault → Type 0 = λ x. AddsTaskCalls task host before now x in subst P (sym is) (calls_memory task host before now f h)

@@ -1,13 +1,13 @@
 -- What a registry is made of, by the index that audits ask.
 use Rattle.std.proofs.Common.{◌≡◌, ℕ, List, [], Result, ap, subst, ◌∙◌}
-use Rattle.std.specs.Prelude.{OnErr}
+use Rattle.std.specs.Prelude.{OnErr, OnOk}
 use Rattle.tame_names.specs.Standing.{Host}
 use Rattle.tame_cache.specs.Disk as disk
 use Rattle.tame_cache.specs.Kept.{Disk}
 use Rattle.tame_sparse.specs.Exchanges.{crates_io_index}
 use Rattle.tame_sparse.specs.declared.sparse.SparseIndex.{SparseIndex}
 use Rattle.audit_lock.specs.declared.resolving.Package.{Package}
-use Rattle.vendor_registry.specs.Built.{IsUnfinished}
+use Rattle.vendor_registry.specs.Built.{IsBuilt, IsUnfinished}
 use Rattle.vendor_registry.specs.Checks.{Stock, stock_of}
 use Rattle.audit_program.specs.Makings.{crates_io_stock}
 
@@ -23,4 +23,12 @@ pub begun_same : {T E : Type 0} (r : Result T E) (one other : Stock) (packages :
 begun_same r one other packages folder to before now stocks folders h =
     let P : Stock → Type 0 = λ s. OnErr r (IsUnfinished s packages folder before now) in
     let Q : List ℕ → Type 0 = λ x. OnErr r (IsUnfinished other packages x before now) in
+    subst Q folders (subst P stocks h)
+
+-- what was made of it
+pub built_same : {T E : Type 0} (r : Result T E) (one other : Stock) (packages : List Package) (folder to : List ℕ) (before now : Host) → one ≡ other → folder ≡ to
+    → OnOk r (IsBuilt one packages folder before now) → OnOk r (IsBuilt other packages to before now)
+built_same r one other packages folder to before now stocks folders h =
+    let P : Stock → Type 0 = λ s. OnOk r (IsBuilt s packages folder before now) in
+    let Q : List ℕ → Type 0 = λ x. OnOk r (IsBuilt other packages x before now) in
     subst Q folders (subst P stocks h)

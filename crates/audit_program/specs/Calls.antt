@@ -88,9 +88,11 @@ AddsMakingCalls remedy before now reason = now ≡ before
 
 -- ---- by the words
 
--- in asking, or once all that was asked for was given, in making
+-- in asking, or once all that was asked for was given, in making; a registry is refused in making
 abbrev pub AddsTaskCalls : Task → Host → List FailedCall → List FailedCall → Option RunFault
     → Type 0
+AddsTaskCalls task host before now (Some (fault.Vendor reason)) =
+    AddsMakingCalls task.remedy before now (Some (fault.Vendor reason))
 AddsTaskCalls task host before now reason =
     AddsRunCall (IsTaskCall task host) before now reason
     ⊎ AddsMakingCalls task.remedy before now reason

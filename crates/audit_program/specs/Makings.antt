@@ -22,7 +22,7 @@ use Rattle.upgrade_plan.specs.Plans.{IsPlanBy}
 use Rattle.upgrade_plan.specs.declared.plans.PlanItem.{PlanItem}
 use Rattle.vendor_faults.specs.declared.faults.VendorFault.{VendorFault}
 use Rattle.vendor_faults.specs.declared.faults.VendorFault.TheVariants as vendor_fault
-use Rattle.vendor_registry.specs.Built.{IsOccupied, IsUnfinished, free_fault, is_behind}
+use Rattle.vendor_registry.specs.Built.{IsBuilt, IsOccupied, IsUnfinished, free_fault, is_behind}
 use Rattle.vendor_registry.specs.Checks.{Stock, all_checked, is_of_package}
 use Rattle.vendor_registry.specs.Looked.{looked}
 use Rattle.vendor_registry.specs.Named.{AreVersioned, IsFolderPath}
@@ -122,11 +122,13 @@ crates_io_stock files host crates = record {
 abbrev pub stock_in : VendorCommand → Making → Stock
 stock_in more m = crates_io_stock m.left.files m.host more.crates
 
--- the folder was empty or absent, and is vendored for the audit
+-- the folder was empty or absent, and is vendored for the audit; nothing else of the host changed
 pub record IsRegistryMade (more : VendorCommand) (m : Making) (v : Vendored) : Type 0 where
   pub vendored : m.files_tell → m.disk_tells → StandsPlain m.host.stands → IsBare m.host more.to
       → IsVendored (stock_in more m) m.audited.lockfile more.to m.host_now v
   pub free : m.files_tell → free_fault (m.host.stands more.to) ≡ None
+  pub built : m.files_tell → m.disk_tells
+      → IsBuilt (stock_in more m) m.audited.lockfile more.to m.host m.host_now
 
 -- nothing was written, or changes that make the registry were begun in their order
 abbrev pub IsRegistryBegun : VendorCommand → Making → Type 0

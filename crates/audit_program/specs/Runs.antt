@@ -1,5 +1,5 @@
 -- A run that made an audit of a lockfile (this project).
-use Rattle.std.specs.Prelude.{◌≡◌, ◌⊎◌, ◌++◌, ℕ, ℤ, pos, List, Option, Some, None, Result, Ok, IfOk, IfErr}
+use Rattle.std.specs.Prelude.{◌≡◌, ◌⊎◌, ◌++◌, ℕ, ℤ, pos, List, Option, Some, None, Result, Ok, IfOk, IfErr, IfSome}
 use Rattle.tame_names.specs.Standing.{Host, IsInput, StaysButInput}
 use Rattle.audit_words.specs.Reading.{command_of}
 use Rattle.audit_asked.specs.Places.{place_of}
@@ -14,6 +14,7 @@ use Rattle.audit_core.specs.declared.auditing.Audited.{Audited}
 use Rattle.audit_output.specs.Outputs.{Output, output_of, shown_of}
 use Rattle.upgrade_plan.specs.declared.plans.PlanItem.{PlanItem}
 use Rattle.audit_program.specs.Calls.{task_generates}
+use Rattle.audit_program.specs.Finishes.{IsFinishFault}
 use Rattle.audit_program.specs.Makings.{IsMade, Making, plan_in}
 use Rattle.audit_program.specs.Outputs.{IsEnded, IsPutBy, lines_behind, output_by, remedy_lines_in}
 use Rattle.audit_program.specs.Statuses.{made_status, steps_of}
@@ -87,11 +88,13 @@ making_of tells given audited left ended hosts = record {
 }
 
 -- the fault with which a run ends that couldn't make what it was to, which is want of memory where
--- none was left to tell it; and the status of one that ends without a fault
+-- none was left to tell it; once it was made, a put failed, steps couldn't be started, or memory ran
+-- out; and the status of a run that ends without a fault
 pub record IsEndBy (task : Task) (given : Asked) (audited : Audited) (it : Result Made RunFault)
     (ending : Ending) : Type 0 where
   pub unmade : IfErr it (λ reason. (ending.fault ≡ Some reason)
       ⊎ (ending.fault ≡ Some fault.NoMemory))
+  pub made : IfOk it (λ what. IfSome ending.fault IsFinishFault)
   pub status : IfOk it (λ what. ending.fault ≡ None
       → ending.status ≡ made_status task.remedy given.advisories audited what)
 

@@ -9,7 +9,7 @@ ghost use Rattle.vendor_faults.specs.declared.faults.VendorFault.TheVariants as 
 ghost use Rattle.known_findings.specs.Baselines.{listed, written};
 ghost use Rattle.baseline_gate.specs.Gates as gates_spec;
 ghost use Rattle.baseline_gate.specs.Reports.{audit_findings};
-ghost use Rattle.vendor_registry.specs.Built.{IsOccupied, IsUnfinished, free_fault, is_behind};
+ghost use Rattle.vendor_registry.specs.Built.{IsBuilt, IsOccupied, IsUnfinished, free_fault, is_behind};
 ghost use Rattle.vendor_registry.specs.Checks.{all_checked, is_of_package};
 ghost use Rattle.vendor_registry.specs.Failed.{AddsFailed};
 ghost use Rattle.vendor_registry.specs.Looked.{looked};
@@ -167,6 +167,9 @@ fn registry_of<F: Files, D: CacheDisk>(
         → free_fault ((F.host files.old).stands more.now.to) ≡ Some (VendorFault.NotEmpty n) }
     ensures free { F.tells → OnOk result
         (free_fault ((F.host files.old).stands more.now.to) ≡ None) }
+    ensures built { F.tells → D.tells → OnOk result (IsBuilt
+        (crates_io_stock (D.past disk.old) (F.host files.old) more.now.crates)
+        audited.now.lockfile more.now.to (F.host files.old) (F.host files.new)) }
     ensures unmade { F.tells → IfErr result (λ e.
         free_fault ((F.host files.old).stands more.now.to) ≡ Some e
         → F.host files.new ≡ F.host files.old) }

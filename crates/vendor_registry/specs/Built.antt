@@ -73,6 +73,13 @@ IsUnfinished stock packages folder before now =
     ⊎ ((cs : List Checked) × (all_checked stock (looked packages) ≡ Ok cs)
     × AreBegun (all_made folder cs) before now)
 
+-- all packages were checked, and the host is the one before with all changes that make the registry
+-- of them, and no others
+abbrev pub IsBuilt : Stock → List Package → List ℕ → Host → Host → Type 0
+IsBuilt stock packages folder before now =
+    (cs : List Checked) × (all_checked stock (looked packages) ≡ Ok cs)
+    × (now ≡ after (all_made folder cs) before)
+
 -- ---- refusals
 
 -- what is at the folder of a registry before it is made: nothing, an empty folder, or a refusal

@@ -5,7 +5,7 @@ ghost use Rattle.tame_local.specs.Inserts.{StandsPlain};
 ghost use Rattle.tame_local.specs.Refusals.{refused as refused_by};
 ghost use Rattle.tame_local.specs.Registries.{registry_at};
 ghost use Rattle.tame_names.specs.declared.errors.Error.{Error};
-ghost use Rattle.vendor_registry.specs.Built.{IsUnfinished, IsOccupied, free_fault, is_behind};
+ghost use Rattle.vendor_registry.specs.Built.{IsBuilt, IsOccupied, IsUnfinished, free_fault, is_behind};
 ghost use Rattle.vendor_registry.specs.Checks.{all_checked, is_of_package, stock_of};
 ghost use Rattle.vendor_registry.specs.Failed.{AddsFailed};
 ghost use Rattle.vendor_registry.specs.Looked.{looked};
@@ -56,6 +56,10 @@ pub fn vendor<F: Files, D: CacheDisk>(
         → IsBare (F.host files.old) to → IfOk result (IsVendored
         (stock_of (D.past disk.old) index.now (F.host files.old) crates.now)
         audited.now.lockfile to (F.host files.new)) }
+    // nothing else was written
+    ensures made { F.tells → D.tells → OnOk result (IsBuilt
+        (stock_of (D.past disk.old) index.now (F.host files.old) crates.now)
+        audited.now.lockfile to (F.host files.old) (F.host files.new)) }
     // a package is refused exactly by the first condition of the table that holds
     ensures refused { F.tells → D.tells → IfErr result (λ e. IsTrue (is_of_package e)
         → all_checked (stock_of (D.past disk.old) index.now (F.host files.old) crates.now)

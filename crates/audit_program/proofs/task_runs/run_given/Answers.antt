@@ -5,6 +5,7 @@ use Rattle.audit_core.specs.Checks.{asked_of, checks_of}
 use Rattle.audit_core.specs.declared.auditors.Auditor.{Auditor}
 use Rattle.audit_core.proofs.Exchanged.{keeps_nothing, part_none}
 use Rattle.audit_program.specs.Causes.{IsAskedFault}
+use Rattle.audit_program.specs.Finishes.{IsFinishFault}
 use Rattle.audit_program.specs.Moments.{moment}
 use Rattle.audit_program.specs.Statuses.{IsEarly}
 use Rattle.audit_program.proofs.Ended.{ended_from}
@@ -79,7 +80,7 @@ returns-in-Err-made-clause-audited g c =
       out = λ told. put_failed _ _ _ f c.failed-in-Err-made.result.fault end (put_nothing _ (Some f));
       err = λ told.
           rw c.place-in-Err-made.ensures at (c.failed-in-Err-made.ensures.ended told _ _ (unmade_lines c.args.task.now.remedy c.args.given.advisories c.in-Ok-audit.audited c.args.task.now.command.verdicts (g.E.Sink.holds c.args.err.now) f other));
-      is_end = record { unmade = end; status = tt };
+      is_end = record { unmade = end; made = tt; status = tt };
     }
 
 pub returns-in-Err-made-clause-fault : goal.returns-in-Err-made-clause-fault
@@ -146,7 +147,7 @@ returns-in-Ok-finish-clause-audited g c =
       started = f.started;
       out = λ told. rw (c.in-Ok.ensures, c.as_str-2.ensures, c.as_str-3.ensures) at (c.in-Ok-finish.ensures.out told);
       err = f.put;
-      is_end = record { unmade = tt; status = λ none. rw c.in-Ok.ensures at c.in-Ok-finish.ensures.status };
+      is_end = record { unmade = tt; made = tt; status = λ none. rw c.in-Ok.ensures at c.in-Ok-finish.ensures.status };
     }
 
 -- ---- where it couldn't be finished
@@ -197,7 +198,11 @@ returns-clause-audited g c =
       err = λ told.
           ended_from _ _ _ c.failed-outcome.result.fault _ _ _ _ c.in-Err-finish.ensures.err_later c.failed-outcome.ensures.later
           (rw c.place-in-Err-finish.ensures at (c.failed-outcome.ensures.ended told _ _ (f.put told)));
-      is_end = record { unmade = tt; status = λ none. has_fault c.in-Err-finish.fault c.failed-outcome.result.fault end none };
+      is_end = record {
+        unmade = tt;
+        made = ends_with IsFinishFault c.failed-outcome.result.fault c.in-Err-finish.fault end c.in-Err-finish.ensures.only tt;
+        status = λ none. has_fault c.in-Err-finish.fault c.failed-outcome.result.fault end none;
+      };
     }
 
 pub returns-clause-fault : goal.returns-clause-fault

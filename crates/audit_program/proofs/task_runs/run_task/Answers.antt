@@ -9,8 +9,9 @@ use Rattle.audit_core.specs.Turns.{AddsPart}
 use Rattle.audit_core.proofs.Exchanged.{keeps_nothing, part_none}
 use Rattle.audit_program.specs.Calls.{task_generates}
 use Rattle.audit_program.specs.Tasks.{task_asked}
-use Rattle.audit_program.proofs.Asking.{asked_cause, asked_config, call_told, generated_as, if_some, lockfile_or_fault, ok_same, refused_cause, rose_from}
+use Rattle.audit_program.proofs.Asking.{asked_cause, asked_config, generated_as, if_some, lockfile_or_fault, ok_same, refused_cause, rose_from}
 use Rattle.audit_program.proofs.Commands.{if_none, if_none_then}
+use Rattle.audit_program.proofs.Made.{calls_asked, calls_made}
 use Rattle.audit_program.proofs.Starting.{asked_one, audited_some, failed_starts, unaudited_starts}
 use Rattle.audit_program.proofs.task_runs.run_task.Goals as goal
 
@@ -106,7 +107,12 @@ returns-in-Err-clause-started g c told_files told =
     (c.in-Err.ensures.at_most told) (c.in-Err.ensures.started told_files told))
 
 pub returns-in-Err-clause-failed : goal.returns-in-Err-clause-failed
-returns-in-Err-clause-failed g c told = inl (call_told _ _ _ c.in-Err.fault c.failed.result.fault c.failed.ensures.fault (rw c.baseline.ensures at (c.in-Err.ensures.failed told)))
+returns-in-Err-clause-failed g c told =
+    calls_asked c.args.task.now (g.F.Files.host c.args.files.now) _ _ c.in-Err.fault c.failed.result.fault c.failed.ensures.fault c.in-Err.ensures.only (rw c.baseline.ensures at (c.in-Err.ensures.failed told))
+
+pub returns-in-Ok-clause-failed : goal.returns-in-Ok-clause-failed
+returns-in-Ok-clause-failed g c told =
+    calls_made c.args.task.now (g.F.Files.host c.args.files.now) _ _ c.run_given.result.fault (rw (c.in-Ok.ensures.failed told) at (c.run_given.ensures.failed told))
 
 pub returns-in-Err-clause-one_start : goal.returns-in-Err-clause-one_start
 returns-in-Err-clause-one_start g c failed is =

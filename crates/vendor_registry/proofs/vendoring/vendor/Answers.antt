@@ -26,6 +26,16 @@ returns-clause-vendored g c told_f told_d plain bare =
     (c.in_ok-built.ensures.made told_f pathed ∙ ap (after (all_made c.args.to cs)) (c.in_ok-checked.ensures.files_same told_f))
     (c.in_ok-built.ensures.opened told_f) (c.len.ensures ∙ ap length same) (c.in_ok-built.ensures.count pathed)
 
+pub returns-clause-made : goal.returns-clause-made
+returns-clause-made g c told_f told_d =
+    let stock : Stock = stock_of (g.D.CacheDisk.past c.args.disk.now) c.args.index.now (g.F.Files.host c.args.files.now) c.args.crates.now in
+    let cs : List Checked = c.as_slice.result.now in
+    let same : c.in_ok-checked.checked ≡ cs = sym c.as_slice.ensures in
+    let checks : all_checked stock (looked c.args.audited.now.lockfile) ≡ Ok cs =
+    ap (λ ps. all_checked stock (looked ps)) (sym c.packages-packages.ensures) ∙ c.in_ok-checked.ensures.ok told_f told_d ∙ ap Ok same in
+    let pathed = checked_pathed stock c.args.audited.now.lockfile cs checks in
+    (cs, checks, c.in_ok-built.ensures.made told_f pathed ∙ ap (after (all_made c.args.to cs)) (c.in_ok-checked.ensures.files_same told_f))
+
 pub returns-in_err-built-clause-not_empty : goal.returns-in_err-built-clause-not_empty
 returns-in_err-built-clause-not_empty g c told_f told_d bare n is =
     let stock : Stock = stock_of (g.D.CacheDisk.past c.args.disk.now) c.args.index.now (g.F.Files.host c.args.files.now) c.args.crates.now in
