@@ -1,15 +1,13 @@
 -- What was asked, by its parts.
-use Rattle.std.proofs.Common.{◌≡◌, ◌≤◌, ◌⊎◌, inl, inr, ℕ, List, Bool, true, false, Option, Some, None, Result, Ok, Err, refl, sym, subst, arith}
+use Rattle.std.proofs.Common.{◌≡◌, ◌≤◌, ◌⊎◌, ℕ, List, Bool, true, false, Option, Some, None, Result, Ok, Err, refl, arith}
 use Rattle.std.specs.Prelude.{IfSome, pos}
 use Rattle.tame_names.specs.Standing.{Host}
-use Rattle.tame_names.specs.declared.host.FailedCall.{FailedCall}
 use Rattle.audit_lock.specs.declared.lockfiles.LockfileFault.{LockfileFault}
 use Rattle.audit_lock.specs.declared.resolving.Package.{Package}
 use Rattle.audit_settings.specs.declared.commands.AuditCommand.{AuditCommand}
 use Rattle.audit_settings.specs.declared.configs.AuditConfig.{AuditConfig}
 use Rattle.audit_asked.specs.Advisories.{advisories_asked}
 use Rattle.audit_asked.specs.Asked.{texts_asked}
-use Rattle.audit_asked.specs.Calls.{AddsBy}
 use Rattle.audit_asked.specs.Databases.{database_asked}
 use Rattle.audit_asked.specs.ForBinaries.{asked_for_binaries}
 use Rattle.audit_asked.specs.KnownFindings.{baseline_asked}
@@ -23,7 +21,6 @@ use Rattle.audit_asked.specs.declared.binaries.AskedForBinaries.{AskedForBinarie
 use Rattle.audit_asked.specs.declared.faults.RunFault.{RunFault}
 use Rattle.audit_asked.specs.declared.faults.RunFault.TheVariants as fault
 use Rattle.audit_asked.specs.declared.runners.Started.{Started}
-use Rattle.audit_program.specs.Calls.{AddsRunCall}
 use Rattle.audit_program.specs.Causes.{IsAskedFault, Refuses, TaskCause}
 use Rattle.audit_program.specs.Tasks.{baseline_path, task_asked}
 use Rattle.audit_program.specs.declared.tasks.Task.{Task}

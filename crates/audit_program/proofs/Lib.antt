@@ -4,6 +4,7 @@ pub mod Completing
 pub mod Ended
 pub mod Faults
 pub mod Finishing
+pub mod HeldItems
 pub mod Made
 pub mod Putting
 pub mod ReadSince

@@ -4,6 +4,7 @@ pub mod Causes
 pub mod Completes
 pub mod Finishes
 pub mod GeneratedRuns
+pub mod HonestRuns
 pub mod Jobs
 pub mod Makings
 pub mod Moments

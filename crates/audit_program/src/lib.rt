@@ -21,6 +21,7 @@ mod binary_runs;
 mod ending;
 mod fixing;
 mod generating;
+mod laws;
 mod making;
 mod running;
 mod task_runs;
@@ -32,4 +33,5 @@ pub use audit_words::{
     BinCommand, Command, FixCommand, VERSION, VendorCommand, WordsFault, read_words,
 };
 pub use ending::Outcome;
+pub use laws::plans_of_runs_tell_what_the_server_held;
 pub use running::run;

@@ -91,3 +91,13 @@ abbrev pub ArePlannedByHeld : List Advisory → Audited → List Exchange → Li
 ArePlannedByHeld advisories audited exchanges items =
     AllByRecursion (IsPlannedAt (IsHeldPlan audited.report.settings advisories exchanges
     audited.turns) audited.lockfile) items
+
+-- exchanges over an honest server, from a moment at which the disk was kept for what it held; the
+-- wire and the disk tell it
+pub record IsHonestServing (wire disk : Type 0) (began : Moment) (added : List Exchange)
+    : Type 0 where
+  pub wire_tells : wire
+  pub disk_tells : disk
+  pub server : ServerMap
+  pub honest : AreHonest server added
+  pub kept : IsKept server crates_io_index [] began.files

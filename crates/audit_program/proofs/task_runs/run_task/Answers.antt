@@ -1,4 +1,4 @@
-use Rattle.std.proofs.Common.{◌≡◌, Ok, inl, refl, sym, subst, ap, ◌∙◌}
+use Rattle.std.proofs.Common.{◌≡◌, Ok, refl, sym, subst, ap, ◌∙◌}
 use Rattle.std.specs.Prelude.{pos}
 use Rattle.audit_lock.specs.Locked.{locked}
 use Rattle.audit_asked.specs.declared.asking.Asked.{Asked}

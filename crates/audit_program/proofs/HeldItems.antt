@@ -1,0 +1,64 @@
+-- The plan that a run made.
+use Rattle.std.proofs.Common.{◌≡◌, List, Some, None, Result, Ok, Err, sym, subst, ◌∙◌}
+use Rattle.tame_sparse.specs.declared.network.Exchange.{Exchange}
+use Rattle.audit_asked.specs.declared.asking.Asked.{Asked}
+use Rattle.audit_asked.specs.declared.faults.RunFault.{RunFault}
+use Rattle.audit_core.specs.Auditors.{auditor_of}
+use Rattle.audit_core.specs.Audits.{Moment}
+use Rattle.audit_core.specs.declared.auditing.Audited.{Audited}
+use Rattle.upgrade_plan.proofs.HeldPlanning.{planned_by_held}
+use Rattle.upgrade_plan.specs.HeldPlans.{ArePlannedByHeld}
+use Rattle.upgrade_plan.specs.Plans.{IsPlanBy}
+use Rattle.upgrade_plan.specs.declared.plans.PlanItem.{PlanItem}
+use Rattle.audit_program.specs.HonestRuns.{IsHonestRun}
+use Rattle.audit_program.specs.Makings.{IsMade, IsReadOnly, Making, plan_in}
+use Rattle.audit_program.specs.Runs.{Ending, Hosts, IsGivenRun, Sinks, Starts, Telling}
+use Rattle.audit_program.specs.declared.making.Made.{Made}
+use Rattle.audit_program.specs.declared.making.Made.TheVariants as made
+use Rattle.audit_program.specs.declared.tasks.Remedy.{Remedy}
+use Rattle.audit_program.specs.declared.tasks.Remedy.TheVariants.{Report, Fix, Plan, Baseline, WriteBaseline, Vendor}
+use Rattle.audit_program.specs.declared.tasks.Task.{Task}
+
+some_none : {X : Type 0} (items : List PlanItem) → Some items ≡ None → X
+some_none items is = cc
+
+same_items : (items others : List PlanItem) → Some items ≡ Some others → items ≡ others
+same_items items others is = cc
+
+-- where there is a plan it was made, and the cache only read since
+abbrev IsOfPlan : Making → List PlanItem → Type 0
+IsOfPlan m items =
+    IsPlanBy m.disk_tells m.advisories m.audited m.left.files m.left.disk_faults m.ended.disk_faults items
+    × IsReadOnly m
+
+plan_made : (remedy : Remedy) (m : Making) (it : Result Made RunFault) (items : List PlanItem) → IsMade remedy m it → Some items ≡ plan_in it → IsOfPlan m items
+plan_made remedy m (Err f) items h is = some_none items is
+plan_made remedy m (Ok made.Nothing) items h is = some_none items is
+plan_made remedy m (Ok (made.Unlisted found)) items h is = some_none items is
+plan_made remedy m (Ok made.Written) items h is = some_none items is
+plan_made remedy m (Ok (made.Vendored v)) items h is = some_none items is
+plan_made Report m (Ok (made.Planned others)) items h is = let no_plan = h.0 in cc (no_plan)
+plan_made (Fix dry_run) m (Ok (made.Planned others)) items h is = let no_plan = h.0 in cc (no_plan)
+plan_made Plan m (Ok (made.Planned others)) items h is =
+    let P : List PlanItem → Type 0 = λ xs. IsOfPlan m xs in subst P (sym (same_items items others is)) (h.0, h.1)
+plan_made (Baseline path) m (Ok (made.Planned others)) items h is = absurd h.0
+plan_made (WriteBaseline path) m (Ok (made.Planned others)) items h is = absurd h.0
+plan_made (Vendor more) m (Ok (made.Planned others)) items h is = absurd h.0
+
+pub held_items : (tells : Telling) (task : Task) (given : Asked) (began ended : Moment) (hosts : Hosts) (starts : Starts) (sinks : Sinks) (ending : Ending) (items : List PlanItem) (audited : Audited)
+    (added : List Exchange) → IsGivenRun tells task given began ended hosts starts sinks ending (Some items) audited → IsHonestRun tells.wire tells.disk given.config began ended added
+    → ArePlannedByHeld given.advisories audited added items
+held_items tells task given began ended hosts starts sinks ending items audited added run honest =
+    let planned = plan_made task.remedy _ run.it items run.is_made run.is_plan in
+    planned_by_held tells.wire tells.disk (auditor_of given.config given.advisories) began run.left added given.text audited given.advisories ended.disk_faults items
+    (record {
+      wire_tells = honest.serving.wire_tells;
+      disk_tells = honest.serving.disk_tells;
+      audit = run.audit;
+      online = honest.online;
+      follow = sym planned.1.exchanges ∙ honest.follow;
+      server = honest.serving.server;
+      honest = honest.serving.honest;
+      kept = honest.serving.kept;
+    })
+    planned.0
