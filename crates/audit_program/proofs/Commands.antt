@@ -132,6 +132,9 @@ not_both (Some y) x none is = cc (none)
 no_task : {X : Type 0} (task : Task) → None ≡ Some task → X
 no_task task is = cc
 
+pub same_task : (r : Result Command WordsFault) (task other : Task) → task_of r ≡ Some task → task_of r ≡ Some other → task ≡ other
+same_task r task other is again = cc (is, again)
+
 -- then they need a host
 pub task_needs : {X : Type 0} (r : Result Command WordsFault) (task : Task) → task_of r ≡ Some task → NeedsNoHost r → X
 task_needs (Ok (command.Audit audit)) task is nothing = absurd nothing

@@ -1,5 +1,6 @@
 -- What was made of an audit, by how it ended.
 use Rattle.std.proofs.Common.{◌≡◌, ◌≢◌, ◌⊎◌, ◌≤◌, inl, inr, ℕ, Bool, List, [], ◌∷◌, Option, Some, None, Ok, Err, refl, sym, subst, arith}
+use Rattle.std.specs.Prelude.{IfNone, IsSome}
 use Rattle.tame_names.specs.Standing.{Host}
 use Rattle.tame_names.specs.declared.host.FailedCall.{FailedCall}
 use Rattle.audit_words.specs.declared.commands.VendorCommand.{VendorCommand}
@@ -15,7 +16,7 @@ use Rattle.vendor_faults.specs.declared.faults.VendorFault.{VendorFault}
 use Rattle.vendor_faults.specs.declared.faults.VendorFault.TheVariants as vendor_fault
 use Rattle.audit_asked.specs.Calls.{AddsBy}
 use Rattle.audit_asked.specs.Refusals.{IsAskFault}
-use Rattle.audit_program.specs.Calls.{AddsFileCalls, AddsMakingCalls, AddsRegistryCalls, AddsTaskCalls}
+use Rattle.audit_program.specs.Calls.{AddsFileCalls, AddsMakingCalls, AddsRegistryCalls, AddsRunCall, AddsTaskCalls}
 use Rattle.audit_program.specs.Tasks.{IsTaskCall}
 use Rattle.audit_program.specs.declared.tasks.Task.{Task}
 use Rattle.audit_program.specs.Finishes.{IsFinishFault}
@@ -269,3 +270,65 @@ calls_asked task host before now f o (inl is) only h =
     let P : Option RunFault → Type 0 = λ x. AddsTaskCalls task host before now x in subst P (sym is) (calls_by task host before now f only h)
 calls_asked task host before now f o (inr is) only h =
     let P : Option RunFault → Type 0 = λ x. AddsTaskCalls task host before now x in subst P (sym is) (calls_memory task host before now f h)
+
+-- ---- without an audit, in asking
+
+asked_by : (may : List ℕ → FailedCall → Type 0) (before now : List FailedCall) (f : RunFault) → AddsBy may before now f → AddsRunCall may before now (Some f)
+asked_by may before now (fault.Usage place) h = h
+asked_by may before now (fault.Settings reason) h = h
+asked_by may before now (fault.Missing path) h = h
+asked_by may before now (fault.NotUtf8 path) h = h
+asked_by may before now (fault.TooLarge path len) h = h
+asked_by may before now (fault.File path) h = h
+asked_by may before now (fault.Lockfile reason) h = h
+asked_by may before now (fault.Advisory n reason) h = h
+asked_by may before now (fault.Baseline line) h = h
+asked_by may before now (fault.Vendor reason) h = h
+asked_by may before now fault.Print h = h
+asked_by may before now (fault.Generate status) h = h
+asked_by may before now (fault.Start failed) h = h
+asked_by may before now fault.NoMemory h = inl h
+
+asked_memory : (may : List ℕ → FailedCall → Type 0) (before now : List FailedCall) (f : RunFault) → AddsBy may before now f → AddsRunCall may before now (Some fault.NoMemory)
+asked_memory may before now (fault.Usage place) h = inl h
+asked_memory may before now (fault.Settings reason) h = inl h
+asked_memory may before now (fault.Missing path) h = inl h
+asked_memory may before now (fault.NotUtf8 path) h = inl h
+asked_memory may before now (fault.TooLarge path len) h = inl h
+asked_memory may before now (fault.File path) h = inr (path, h.0, h.1, h.2)
+asked_memory may before now (fault.Lockfile reason) h = inl h
+asked_memory may before now (fault.Advisory n reason) h = inl h
+asked_memory may before now (fault.Baseline line) h = inl h
+asked_memory may before now (fault.Vendor reason) h = inl h
+asked_memory may before now fault.Print h = inl h
+asked_memory may before now (fault.Generate status) h = inl h
+asked_memory may before now (fault.Start failed) h = inl h
+asked_memory may before now fault.NoMemory h = inl h
+
+pub asked_told : (may : List ℕ → FailedCall → Type 0) (before now : List FailedCall) (f : RunFault) (o : Option RunFault) → (o ≡ Some f) ⊎ (o ≡ Some fault.NoMemory) → AddsBy may before now f
+    → AddsRunCall may before now o
+asked_told may before now f o (inl is) h = let P : Option RunFault → Type 0 = λ x. AddsRunCall may before now x in subst P (sym is) (asked_by may before now f h)
+asked_told may before now f o (inr is) h = let P : Option RunFault → Type 0 = λ x. AddsRunCall may before now x in subst P (sym is) (asked_memory may before now f h)
+
+-- once all that was asked for was given, none failed
+quiet_told : (may : List ℕ → FailedCall → Type 0) (before now : List FailedCall) (o : Option RunFault) → ((path : List ℕ) → o ≡ Some (fault.File path) → ⊥) → now ≡ before → AddsRunCall may before now o
+quiet_told may before now None no_file same = same
+quiet_told may before now (Some (fault.Usage place)) no_file same = same
+quiet_told may before now (Some (fault.Settings reason)) no_file same = same
+quiet_told may before now (Some (fault.Missing path)) no_file same = same
+quiet_told may before now (Some (fault.NotUtf8 path)) no_file same = same
+quiet_told may before now (Some (fault.TooLarge path len)) no_file same = same
+quiet_told may before now (Some (fault.File path)) no_file same = absurd (no_file path refl)
+quiet_told may before now (Some (fault.Lockfile reason)) no_file same = same
+quiet_told may before now (Some (fault.Advisory n reason)) no_file same = same
+quiet_told may before now (Some (fault.Baseline line)) no_file same = same
+quiet_told may before now (Some (fault.Vendor reason)) no_file same = same
+quiet_told may before now (Some fault.Print) no_file same = same
+quiet_told may before now (Some (fault.Generate status)) no_file same = same
+quiet_told may before now (Some (fault.Start failed)) no_file same = same
+quiet_told may before now (Some fault.NoMemory) no_file same = inl same
+
+pub quiet_unaudited : {A : Type 0} (a : Option A) (may : List ℕ → FailedCall → Type 0) (before now : List FailedCall) (o : Option RunFault) → ((path : List ℕ) → o ≡ Some (fault.File path) → IsSome a)
+    → IfNone a (now ≡ before) → IfNone a (AddsRunCall may before now o)
+quiet_unaudited (Some x) may before now o some same = tt
+quiet_unaudited None may before now o some same = quiet_told may before now o (λ path is. let none = some path is in cc (none)) same

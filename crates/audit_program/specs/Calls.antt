@@ -72,7 +72,7 @@ AddsFileCalls path before now (Some fault.NoMemory) =
     (now ≡ before) ⊎ AddsOne (IsCallOn file_call.Create path) before now
 AddsFileCalls path before now _ = now ≡ before
 
--- a call for what is at the path that is told, where a registry was made
+-- a call for what is at the path that is told, where a registry couldn't be made for it
 abbrev pub AddsRegistryCalls : List FailedCall → List FailedCall → Option RunFault → Type 0
 AddsRegistryCalls before now (Some (fault.Vendor (vendor_fault.File told))) =
     (call : FailedCall) × (now ≡ before ++ call ∷ []) × IsCallFor told call
@@ -80,7 +80,7 @@ AddsRegistryCalls before now (Some fault.NoMemory) =
     (now ≡ before) ⊎ AddsOne IsCallFor before now
 AddsRegistryCalls before now _ = now ≡ before
 
--- else none is made
+-- else none failed
 abbrev pub AddsMakingCalls : Remedy → List FailedCall → List FailedCall → Option RunFault → Type 0
 AddsMakingCalls (WriteBaseline path) before now reason = AddsFileCalls path before now reason
 AddsMakingCalls (Vendor more) before now reason = AddsRegistryCalls before now reason
@@ -88,7 +88,7 @@ AddsMakingCalls remedy before now reason = now ≡ before
 
 -- ---- by the words
 
--- in asking, or once all that was asked for was given, in making; a registry is refused in making
+-- in asking, or in making; a registry is refused in making
 abbrev pub AddsTaskCalls : Task → Host → List FailedCall → List FailedCall → Option RunFault
     → Type 0
 AddsTaskCalls task host before now (Some (fault.Vendor reason)) =

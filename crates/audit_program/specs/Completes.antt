@@ -1,4 +1,4 @@
--- When a run has no fault but want of memory (this project).
+-- When a run has no fault but want of memory, or that a registry couldn't be made (this project).
 use Rattle.std.specs.Prelude.{◌≡◌, ◌⊎◌, ℕ, ℤ, List, Option, Some, None, Ok}
 use Rattle.tame_names.specs.Counts.{CountStayed}
 use Rattle.tame_names.specs.Standing.{Host}

@@ -1,13 +1,16 @@
 -- What a run makes of an audit before anything is put: a plan, the findings that a baseline
 -- doesn't list, a baseline, or a local registry (this project).
-use Rattle.std.specs.Prelude.{◌≡◌, ◌≢◌, ◌≤◌, ℕ, List, [], unwrap_or, Option, Some, None, IsTrue, IsOk, Result, Ok, Err}
+use Rattle.std.specs.Prelude.{◌≡◌, ◌≢◌, ◌≤◌, ℕ, List, [], unwrap_or, Option, Some, None, true, IsTrue, IsOk, Result, Ok, Err}
 use Rattle.tame_names.specs.Changes.{Creates}
+use Rattle.tame_names.specs.Counts.{CountRose}
 use Rattle.tame_names.specs.Standing.{Host}
 use Rattle.tame_names.specs.declared.errors.Error.{Error}
 use Rattle.tame_cache.specs.Disk.{reads}
 use Rattle.tame_cache.specs.Kept.{Disk}
 use Rattle.tame_sparse.specs.Exchanges.{crates_io_index}
 use Rattle.tame_local.specs.Inserts.{StandsPlain}
+use Rattle.tame_local.specs.Refusals.{refused as refused_by}
+use Rattle.tame_local.specs.Registries.{registry_at}
 use Rattle.known_findings.specs.Baselines.{listed, written}
 use Rattle.known_findings.specs.declared.findings.Finding.{Finding}
 use Rattle.audit_advisory.specs.declared.advisories.Advisory.{Advisory}
@@ -60,7 +63,7 @@ pub record IsReadSince (told : Type 0) (left ended : Moment) : Type 0 where
 abbrev pub IsReadOnly : Making → Type 0
 IsReadOnly m = IsReadSince m.disk_tells m.left m.ended
 
--- the cache wasn't called
+-- the cache was left as it was
 abbrev pub IsUncalled : Making → Type 0
 IsUncalled m = m.ended ≡ m.left
 
@@ -137,14 +140,17 @@ IsRegistryBegun more m =
     → IsUnfinished (stock_in more m) m.audited.lockfile more.to m.host m.host_now
 
 -- none was made: a package is refused exactly by the first condition of the table that holds, and
--- then nothing was written; the folder is refused by what stands there, once all packages were
--- checked, and then nothing was written either; what was built never disagrees with its index
+-- then nothing was written; an entry couldn't be read only where the disk failed in this making; the
+-- folder is refused by what stands there, once all packages were checked, and then nothing was
+-- written either; what was built never disagrees with its index, and else has this reason
 pub record IsRegistryRefused (more : VendorCommand) (m : Making) (reason : VendorFault)
     : Type 0 where
   pub no_memory : reason ≢ vendor_fault.NoMemory
   pub refused : m.files_tell → m.disk_tells → IsTrue (is_of_package reason)
       → all_checked (stock_in more m) (looked m.audited.lockfile) ≡ Err reason
   pub unwritten : m.files_tell → IsTrue (is_of_package reason) → m.host_now ≡ m.host
+  pub store : (at : ℕ) → reason ≡ vendor_fault.Store at
+      → CountRose m.left.disk_faults m.ended.disk_faults
   pub behind : m.files_tell → m.disk_tells → IsTrue (is_behind reason)
       → IsOk (all_checked (stock_in more m) (looked m.audited.lockfile))
   pub occupied : m.files_tell → IsOccupied (m.host.stands more.to) reason
@@ -156,6 +162,8 @@ pub record IsRegistryRefused (more : VendorCommand) (m : Making) (reason : Vendo
   pub begun : IsRegistryBegun more m
   pub agrees : m.files_tell → m.disk_tells → StandsPlain m.host.stands → IsFolderPath more.to
       → AreVersioned m.audited.lockfile → (why : Error) → reason ≢ vendor_fault.ReadBack why
+  pub read_back : m.files_tell → (why : Error) → reason ≡ vendor_fault.ReadBack why
+      → registry_at m.host_now more.to true ≡ Err (refused_by why)
 
 abbrev pub IsVendorMade : VendorCommand → Making → Result Made RunFault → Type 0
 IsVendorMade more m (Ok (made.Vendored v)) = IsRegistryMade more m v

@@ -107,6 +107,7 @@ pub record IsGivenRun (tells : Telling) (task : Task) (given : Asked) (began end
   pub left : Moment
   pub audit : IsAuditOf (auditor_of given.config given.advisories) tells.wire tells.disk
       began left given.text audited
+  -- what was made of it, or why it couldn't be
   pub it : Result Made RunFault
   pub is_made : IsMade task.remedy (making_of tells given audited left ended hosts) it
   pub is_plan : plan ≡ plan_in it

@@ -17,8 +17,8 @@ use upgrade_plan::PlanItem;
 #[derive(Drop)]
 pub struct Outcome {
     /// The status that the process should end with: 2 for a fault, or 3 for want of memory; else
-    /// that of the audit, of `fix`, of `plan` or of the audits of binaries, and 0 where words ask for a text
-    /// alone.
+    /// that of the audit, of what was made of it, of `fix` or of the audits of binaries, and 0
+    /// where words ask for a text alone.
     pub status: u8,
     /// The audit of a lockfile, where one was made.
     pub audited: Option<Audited>,

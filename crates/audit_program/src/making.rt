@@ -1,8 +1,10 @@
 //! What is made of an audit before anything is put.
-ghost use Rattle.std.specs.Prelude.{◌≡◌, ◌≢◌, ◌≤◌, ℕ, List, [], unwrap_or, Ok, Err, Some, None, IfOk, IfErr, OnOk, OnErr, IsTrue, IsOk};
+ghost use Rattle.std.specs.Prelude.{◌≡◌, ◌≢◌, ◌≤◌, ℕ, List, [], unwrap_or, true, Ok, Err, Some, None, IfOk, IfErr, OnOk, OnErr, IsTrue, IsOk};
 ghost use Rattle.tame_names.specs.Changes.{Creates};
 ghost use Rattle.tame_names.specs.Counts.{CountRose};
 ghost use Rattle.tame_local.specs.Inserts.{StandsPlain};
+ghost use Rattle.tame_local.specs.Refusals.{refused as refused_by};
+ghost use Rattle.tame_local.specs.Registries.{registry_at};
 ghost use Rattle.tame_names.specs.declared.errors.Error.{Error};
 ghost use Rattle.tame_sparse.specs.declared.network.Exchange.{Exchange};
 ghost use Rattle.vendor_faults.specs.declared.faults.VendorFault.TheVariants as VendorFault;
@@ -179,6 +181,8 @@ fn registry_of<F: Files, D: CacheDisk>(
     ensures agrees { F.tells → D.tells → StandsPlain (F.host files.old).stands
         → IsFolderPath more.now.to → AreVersioned audited.now.lockfile
         → (why : Error) → result ≢ Err (VendorFault.ReadBack why) }
+    ensures read_back { F.tells → (why : Error) → result ≡ Err (VendorFault.ReadBack why)
+        → registry_at (F.host files.new) more.now.to true ≡ Err (refused_by why) }
     ensures failed { F.tells → AddsFailed (F.failed files.old) (F.failed files.new) result }
     ensures store { (at : ℕ) → result ≡ Err (VendorFault.Store at)
         → CountRose (D.faults disk.old) (D.faults disk.new) }

@@ -17,7 +17,7 @@ ghost use Rattle.audit_core.specs.Turns.{AddsPart, StaysKept};
 ghost use Rattle.audit_core.specs.declared.checking.Checks.TheVariants as Checks;
 ghost use Rattle.audit_output.specs.Outputs.{IsPrintFault};
 ghost use Rattle.audit_program.specs.BinaryRuns.{ArePartlyRun, IsBinariesRun};
-ghost use Rattle.audit_program.specs.Calls.{AddsCalls, StartsWhere, words_generate};
+ghost use Rattle.audit_program.specs.Calls.{AddsCalls, AddsRunCall, StartsWhere, words_generate};
 ghost use Rattle.audit_program.specs.Causes.{Accepts, CauseOf, Settles};
 ghost use Rattle.audit_program.specs.Completes.{AllStayed, IsComplete, IsReady};
 ghost use Rattle.audit_program.specs.GeneratedRuns.{IsGeneratedRun};
@@ -25,7 +25,7 @@ ghost use Rattle.audit_program.specs.Moments.{binaries_telling, ending, fault_co
 ghost use Rattle.audit_program.specs.Outputs.{NeedsNoHost, IsEnded, IsPutBy, plain_text, words_place};
 ghost use Rattle.audit_program.specs.Runs.{IsRun};
 ghost use Rattle.audit_program.specs.Statuses.{IsEarlyBy, fault_status};
-ghost use Rattle.audit_program.specs.Tasks.{AsksForBinaries, AsksWith, ReadsCache, WritesFiles, task_of};
+ghost use Rattle.audit_program.specs.Tasks.{AsksForBinaries, AsksWith, IsTaskCall, ReadsCache, WritesFiles, task_of};
 ghost use Rattle.vendor_faults.specs.declared.faults.VendorFault.{VendorFault};
 ghost use Rattle.vendor_faults.specs.declared.faults.VendorFault.TheVariants as VendorFault;
 ghost use Rattle.audit_program.specs.declared.tasks.Task.{Task};
@@ -196,6 +196,11 @@ pub fn run<F: Files, P: Decoder, R: Runner, W: Wire, D: CacheDisk, O: Sink, E: S
     // registry that are written behind an audit
     ensures failed { F.tells → AddsCalls (command_of (map string_bytes words.now))
         (F.host files.old) (F.failed files.old) (F.failed files.new) result.fault }
+    // without an audit it was one of asking
+    ensures unaudited_failed { F.tells → (task : Task)
+        → task_of (command_of (map string_bytes words.now)) ≡ Some task
+        → IfNone result.audited (AddsRunCall (IsTaskCall task (F.host files.old))
+        (F.failed files.old) (F.failed files.new) result.fault) }
     ensures started { F.tells → R.tells → IfNone result.audited (StartsWhere
         (words_generate (command_of (map string_bytes words.now)) (F.host files.old))
         (R.starts runner.old) (R.starts runner.new) result.fault) }

@@ -15,13 +15,13 @@ ghost use Rattle.audit_core.specs.Auditors.{auditor_of};
 ghost use Rattle.audit_core.specs.Checks.{asked_of, checks_of};
 ghost use Rattle.audit_core.specs.Turns.{AddsPart, StaysKept};
 ghost use Rattle.audit_core.specs.declared.checking.Checks.TheVariants as Checks;
-ghost use Rattle.audit_program.specs.Calls.{AddsMakingCalls, AddsTaskCalls, StartsWhere, task_generates};
+ghost use Rattle.audit_program.specs.Calls.{AddsMakingCalls, AddsRunCall, AddsTaskCalls, StartsWhere, task_generates};
 ghost use Rattle.audit_program.specs.Causes.{IsAskedFault, TaskCause};
 ghost use Rattle.audit_program.specs.Moments.{ending, hosts, moment, sinks, starts, telling};
 ghost use Rattle.audit_program.specs.Outputs.{IsEnded, IsPutBy};
 ghost use Rattle.audit_program.specs.Runs.{IsGivenRun, IsRunOf};
 ghost use Rattle.audit_program.specs.Statuses.{IsEarly, fault_status};
-ghost use Rattle.audit_program.specs.Tasks.{MakesRegistry, ReadsCache, WritesFiles, task_asked};
+ghost use Rattle.audit_program.specs.Tasks.{IsTaskCall, ReadsCache, WritesFiles, task_asked};
 ghost use Rattle.vendor_faults.specs.declared.faults.VendorFault.{VendorFault};
 ghost use Rattle.vendor_faults.specs.declared.faults.VendorFault.TheVariants as VendorFault;
 
@@ -91,6 +91,8 @@ fn run_given<F: Files, R: Runner, W: Wire, D: CacheDisk, O: Sink, E: Sink>(
         → F.host files.new ≡ F.host files.old }
     ensures unaudited_files { F.tells → IfNone result.audited
         (F.host files.new ≡ F.host files.old) }
+    ensures unaudited_calls { F.tells → IfNone result.audited
+        (F.failed files.new ≡ F.failed files.old) }
     ensures files_later { F.faults files.old ≤ F.faults files.new }
     ensures unstarted { IfNone result.audited (runner.new ≡ runner.old) }
     ensures binaries { result.binaries ≡ None }
@@ -234,6 +236,9 @@ pub fn run_task<F: Files, R: Runner, W: Wire, D: CacheDisk, O: Sink, E: Sink>(
         → IfNone result.audited (failed ≡ 1) }
     ensures failed { F.tells → AddsTaskCalls task.now (F.host files.old)
         (F.failed files.old) (F.failed files.new) result.fault }
+    ensures unaudited_failed { F.tells → IfNone result.audited
+        (AddsRunCall (IsTaskCall task.now (F.host files.old))
+        (F.failed files.old) (F.failed files.new) result.fault) }
     ensures started { F.tells → R.tells → IfNone result.audited (StartsWhere
         (task_generates task.now (F.host files.old))
         (R.starts runner.old) (R.starts runner.new) result.fault) }

@@ -10,12 +10,14 @@ returns-in-Err-clause-made g c exchanges wire_faults =
       no_memory = no;
       refused = does.refused;
       unwritten = does.unwritten;
+      store = λ at is. does.store at (ap Err is);
       behind = does.behind;
       occupied = does.occupied;
       not_empty = λ told told_disk bare n is. does.not_empty told told_disk bare n (ap Err is);
       unmade = does.unmade;
       begun = does.begun;
       agrees = λ told told_disk plain folder versioned why is. does.agrees told told_disk plain folder versioned why (ap Err is);
+      read_back = λ told why is. does.read_back told why (ap Err is);
     })
     does.begun
     (record { exchanges = refl; wire_faults = refl; files = does.disk_same; disk_faults = does.disk_later }))

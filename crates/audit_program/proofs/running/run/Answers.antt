@@ -1,14 +1,15 @@
 use Rattle.std.proofs.Common.{[], Ok, Some, ap, map, refl, subst, sym}
-use Rattle.std.specs.Prelude.{string_bytes}
+use Rattle.std.specs.Prelude.{IfNone, string_bytes}
 use Rattle.audit_words.proofs.Makeable.{bounded}
 use Rattle.audit_words.specs.Reading.{command_of}
 use Rattle.audit_words.specs.declared.commands.Command.TheVariants as command
 use Rattle.audit_asked.specs.declared.faults.RunFault.TheVariants as fault
 use Rattle.audit_core.proofs.Exchanged.{keeps_nothing, part_none}
 use Rattle.audit_program.specs.Outputs.{NeedsNoHost, words_place}
-use Rattle.audit_program.specs.Calls.{words_generate}
-use Rattle.audit_program.specs.Tasks.{AsksForBinaries, task_of}
-use Rattle.audit_program.proofs.Commands.{accepted_by, bin_cause, if_none, if_none_then, made_cause, made_run, no_memory_called, not_both, plain_none, plain_put, task_cause, task_needs, task_no_binaries, task_unaudited}
+use Rattle.audit_program.specs.Calls.{AddsRunCall, words_generate}
+use Rattle.audit_program.specs.Tasks.{AsksForBinaries, IsTaskCall, task_of}
+use Rattle.audit_program.specs.declared.tasks.Task.{Task}
+use Rattle.audit_program.proofs.Commands.{accepted_by, bin_cause, if_none, if_none_then, made_cause, made_run, no_memory_called, not_both, plain_none, plain_put, same_task, task_cause, task_needs, task_no_binaries, task_unaudited}
 use Rattle.audit_program.proofs.Completing.{made_complete, task_complete}
 use Rattle.audit_program.proofs.Ended.{ended_by}
 use Rattle.audit_program.proofs.Putting.{put_nothing}
@@ -46,6 +47,17 @@ returns-in-Ok-Lockfile-clause-unaccepted g c told task is none =
     let mine = rw c.in-Ok-Lockfile.field-0-is at c.in-Ok-Lockfile.ensures.ok in
     c.run_task.ensures.unaccepted told (λ given packages gives lock. none given packages
     (record { task = c.in-Ok-Lockfile.task; is_task = mine; gives = gives; lockfile = lock }))
+
+pub returns-in-Ok-Lockfile-clause-unaudited_failed : goal.returns-in-Ok-Lockfile-clause-unaudited_failed
+returns-in-Ok-Lockfile-clause-unaudited_failed g c told task is =
+    let mine = rw c.in-Ok-Lockfile.field-0-is at c.in-Ok-Lockfile.ensures.ok in
+    let P : Task → Type 0 = λ t. IfNone c.run_task.result.audited (AddsRunCall (IsTaskCall t (g.F.Files.host c.args.files.now)) (g.F.Files.failed c.args.files.now) (g.F.Files.failed c.run_task.new.files) c.run_task.result.fault) in
+    subst P (same_task (command_of (map string_bytes c.args.words.now)) c.in-Ok-Lockfile.task task mine is) (c.run_task.ensures.unaudited_failed told)
+
+pub returns-in-Ok-Binaries-clause-unaudited_failed : goal.returns-in-Ok-Binaries-clause-unaudited_failed
+returns-in-Ok-Binaries-clause-unaudited_failed g c told task is =
+    let mine = rw c.in-Ok-Binaries.field-0-is at c.in-Ok-Binaries.ensures.ok in
+    absurd (not_both _ task (ap task_of mine) is)
 
 pub returns-in-Ok-Lockfile-clause-uncalled : goal.returns-in-Ok-Lockfile-clause-uncalled
 returns-in-Ok-Lockfile-clause-uncalled g c nothing =

@@ -8,10 +8,10 @@ use Rattle.audit_core.specs.Checks.{asked_of, checks_of}
 use Rattle.audit_core.specs.Turns.{AddsPart}
 use Rattle.audit_core.proofs.Exchanged.{keeps_nothing, part_none}
 use Rattle.audit_program.specs.Calls.{task_generates}
-use Rattle.audit_program.specs.Tasks.{task_asked}
+use Rattle.audit_program.specs.Tasks.{IsTaskCall, task_asked}
 use Rattle.audit_program.proofs.Asking.{asked_cause, asked_config, generated_as, if_some, lockfile_or_fault, ok_same, refused_cause, rose_from}
 use Rattle.audit_program.proofs.Commands.{if_none, if_none_then}
-use Rattle.audit_program.proofs.Made.{calls_asked, calls_made}
+use Rattle.audit_program.proofs.Made.{asked_told, calls_asked, calls_made, quiet_unaudited}
 use Rattle.audit_program.proofs.Starting.{asked_one, audited_some, failed_starts, unaudited_starts}
 use Rattle.audit_program.proofs.task_runs.run_task.Goals as goal
 
@@ -123,3 +123,12 @@ returns-in-Err-clause-kept g c told_wire told = keeps_nothing (g.W.Wire.exchange
 
 pub returns-in-Err-clause-part : goal.returns-in-Err-clause-part
 returns-in-Err-clause-part g c told_files told given packages is lock = part_none _ _ _ refl
+
+pub returns-in-Err-clause-unaudited_failed : goal.returns-in-Err-clause-unaudited_failed
+returns-in-Err-clause-unaudited_failed g c told =
+    if_none c.failed.result.audited _ (asked_told _ _ _ c.in-Err.fault c.failed.result.fault c.failed.ensures.fault (rw c.baseline.ensures at (c.in-Err.ensures.failed told)))
+
+pub returns-in-Ok-clause-unaudited_failed : goal.returns-in-Ok-clause-unaudited_failed
+returns-in-Ok-clause-unaudited_failed g c told =
+    quiet_unaudited c.run_given.result.audited (IsTaskCall c.args.task.now (g.F.Files.host c.args.files.now)) _ _ c.run_given.result.fault c.run_given.ensures.file_audit
+    (rw (c.in-Ok.ensures.failed told) at (c.run_given.ensures.unaudited_calls told))
