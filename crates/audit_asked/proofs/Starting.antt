@@ -1,6 +1,6 @@
 -- What a fault says of the starts.
-use Rattle.std.proofs.Common.{◌≡◌, ◌≤◌, ℕ, Bool, true, false, IsTrue, List, Result, Ok, Err, IfErr, refl, inl, inr}
-use Rattle.audit_asked.specs.Refusals.{IsReadFault, is_told}
+use Rattle.std.proofs.Common.{◌≡◌, ◌≤◌, ℕ, Bool, true, false, IsTrue, List, Option, Result, Ok, Err, IfErr, refl, inl, inr}
+use Rattle.audit_asked.specs.Refusals.{IsReadFault, IsTextsFault, is_told}
 use Rattle.audit_asked.specs.Starts.{HasRunStartCause, IsPlaced, RunStartsWhere}
 use Rattle.audit_asked.specs.declared.faults.RunFault.{RunFault}
 use Rattle.audit_asked.specs.declared.faults.RunFault.TheVariants as fault
@@ -17,7 +17,7 @@ early_by T true xs (fault.TooLarge path len) k f = let h : true ≡ false = f re
 early_by T true xs (fault.File path) k f = inl refl
 early_by T true xs (fault.Lockfile reason) k f = absurd k
 early_by T true xs (fault.Advisory n reason) k f = let h : true ≡ false = f refl in cc
-early_by T true xs (fault.Baseline line) k f = let h : true ≡ false = f refl in cc
+early_by T true xs (fault.Baseline line) k f = absurd k
 early_by T true xs (fault.Vendor reason) k f = absurd k
 early_by T true xs fault.Print k f = absurd k
 early_by T true xs (fault.Generate status) k f = absurd k
@@ -29,24 +29,24 @@ pub early : {T : Type 0} (b : Bool) (xs : List Started) (r : Result T RunFault) 
 early {T} b xs r e is k f = rw is (early_by T b xs e k f)
 
 -- a fault of reading after the start that succeeded, where there was one
-pub late : {T S : Type 0} (b : Bool) (before now : List Started) (s : S) (r : Result T RunFault) → IfErr r IsReadFault
+pub late : {T S : Type 0} (named : Option (List ℕ)) (b : Bool) (before now : List Started) (s : S) (r : Result T RunFault) → IfErr r (IsTextsFault named)
     → RunStartsWhere b before now (Ok s) → RunStartsWhere b before now r
-late false before now s r k h = h
-late true before now s (Ok a) k h = h
-late true before now s (Err (fault.Usage place)) k h = absurd k
-late true before now s (Err (fault.Settings reason)) k h = h
-late true before now s (Err (fault.Missing path)) k h = h
-late true before now s (Err (fault.NotUtf8 path)) k h = h
-late true before now s (Err (fault.TooLarge path len)) k h = h
-late true before now s (Err (fault.File path)) k h = inr h
-late true before now s (Err (fault.Lockfile reason)) k h = absurd k
-late true before now s (Err (fault.Advisory n reason)) k h = h
-late true before now s (Err (fault.Baseline line)) k h = h
-late true before now s (Err (fault.Vendor reason)) k h = absurd k
-late true before now s (Err fault.Print) k h = absurd k
-late true before now s (Err (fault.Generate status)) k h = absurd k
-late true before now s (Err (fault.Start failed)) k h = absurd k
-late true before now s (Err fault.NoMemory) k h = inr h
+late named false before now s r k h = h
+late named true before now s (Ok a) k h = h
+late named true before now s (Err (fault.Usage place)) k h = absurd k
+late named true before now s (Err (fault.Settings reason)) k h = h
+late named true before now s (Err (fault.Missing path)) k h = h
+late named true before now s (Err (fault.NotUtf8 path)) k h = h
+late named true before now s (Err (fault.TooLarge path len)) k h = h
+late named true before now s (Err (fault.File path)) k h = inr h
+late named true before now s (Err (fault.Lockfile reason)) k h = absurd k
+late named true before now s (Err (fault.Advisory n reason)) k h = h
+late named true before now s (Err (fault.Baseline line)) k h = h
+late named true before now s (Err (fault.Vendor reason)) k h = absurd k
+late named true before now s (Err fault.Print) k h = absurd k
+late named true before now s (Err (fault.Generate status)) k h = absurd k
+late named true before now s (Err (fault.Start failed)) k h = absurd k
+late named true before now s (Err fault.NoMemory) k h = inr h
 
 -- the place is known once the start succeeded
 pub placed : {S : Type 0} (b : Bool) (before now : List Started) (s : S)
@@ -64,7 +64,7 @@ unstarted (fault.TooLarge path len) failed k is = cc
 unstarted (fault.File path) failed k is = cc
 unstarted (fault.Lockfile reason) failed k is = absurd k
 unstarted (fault.Advisory n reason) failed k is = cc
-unstarted (fault.Baseline line) failed k is = cc
+unstarted (fault.Baseline line) failed k is = absurd k
 unstarted (fault.Vendor reason) failed k is = absurd k
 unstarted fault.Print failed k is = absurd k
 unstarted (fault.Generate status) failed k is = absurd k

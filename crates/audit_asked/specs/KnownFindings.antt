@@ -9,7 +9,8 @@ use Rattle.audit_asked.specs.Refusals.{Refused, baseline, untold}
 use Rattle.audit_asked.specs.Texts.{file_text, go_on}
 
 -- the findings of a text, or the first line that is none
-abbrev pub findings_read : Result (List Finding) BaselineFault → Result (Option (List Finding)) Refused
+abbrev pub findings_read : Result (List Finding) BaselineFault
+    → Result (Option (List Finding)) Refused
 findings_read (Ok findings) = Ok (Some findings)
 findings_read (Err (baseline_fault.Line n)) = Err (baseline n)
 findings_read (Err baseline_fault.NoMemory) = Err untold

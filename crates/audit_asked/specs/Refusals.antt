@@ -1,5 +1,5 @@
 -- Why what a run asks of its host is refused (this project).
-use Rattle.std.specs.Prelude.{◌≡◌, ◌≢◌, ◌<◌, ℕ, ℤ, pos, List, Bool, true, false, IsTrue, Result, Ok, Err, IfOk, IfErr}
+use Rattle.std.specs.Prelude.{◌≡◌, ◌≢◌, ◌<◌, ℕ, ℤ, pos, List, Bool, true, false, IsTrue, Option, IsSome, Result, Ok, Err, IfOk, IfErr}
 use Rattle.audit_advisory.specs.declared.faults.AdvisoryFault.{AdvisoryFault}
 use Rattle.audit_advisory.specs.declared.faults.AdvisoryFault.TheVariants as advisory_fault
 use Rattle.audit_settings.specs.Refusals.{Refusal, refusal}
@@ -44,8 +44,8 @@ is_told (fault.Vendor reason) = false
 is_told fault.NoMemory = false
 is_told _ = true
 
--- the faults that reading may end with: a text is too large only above the limit, and want of
--- memory is a fault of its own
+-- the faults that reading may end with, but for a baseline's: a text is too large only above the
+-- limit, and want of memory is a fault of its own
 abbrev pub IsReadFault : RunFault → Type 0
 IsReadFault (fault.Settings reason) = reason ≢ settings_fault.NoMemory
 IsReadFault (fault.Missing path) = Unit {0}
@@ -53,15 +53,19 @@ IsReadFault (fault.NotUtf8 path) = Unit {0}
 IsReadFault (fault.TooLarge path len) = limit < len
 IsReadFault (fault.File path) = Unit {0}
 IsReadFault (fault.Advisory n reason) = reason ≢ advisory_fault.NoMemory
-IsReadFault (fault.Baseline line) = Unit {0}
 IsReadFault fault.NoMemory = Unit {0}
 IsReadFault _ = ⊥
 
+-- the same where a baseline is read too: a line of it is told only where one is named
+abbrev pub IsTextsFault : Option (List ℕ) → RunFault → Type 0
+IsTextsFault named (fault.Baseline line) = IsSome named
+IsTextsFault named e = IsReadFault e
+
 -- the faults that asking may end with: besides, a start ended with another status than 0, or failed
-abbrev pub IsAskFault : RunFault → Type 0
-IsAskFault (fault.Generate status) = status ≢ pos 0
-IsAskFault (fault.Start failed) = failed ≡ 1
-IsAskFault e = IsReadFault e
+abbrev pub IsAskFault : Option (List ℕ) → RunFault → Type 0
+IsAskFault named (fault.Generate status) = status ≢ pos 0
+IsAskFault named (fault.Start failed) = failed ≡ 1
+IsAskFault named e = IsTextsFault named e
 
 -- a call on the files failed, or memory ran out
 abbrev pub IsCallFault : RunFault → Type 0

@@ -4,7 +4,7 @@ ghost use Rattle.tame_names.specs.Standing.{IsInput, StaysButInput};
 ghost use Rattle.audit_asked.specs.Asked.{IsAskedCall, IsOrderedCall, IsTextsCall, asked, generates, status_told, texts_asked};
 ghost use Rattle.audit_asked.specs.Calls.{AddsFailed, HasFileCause};
 ghost use Rattle.audit_asked.specs.Places.{place_of};
-ghost use Rattle.audit_asked.specs.Refusals.{Gives, IsAskFault, IsReadFault, is_told, refused};
+ghost use Rattle.audit_asked.specs.Refusals.{Gives, IsAskFault, IsTextsFault, is_told, refused};
 ghost use Rattle.audit_asked.specs.Settings.{settled};
 ghost use Rattle.audit_asked.specs.Starts.{HasRunStartCause, RunStartsWhere, StartsAtMost};
 
@@ -64,7 +64,7 @@ fn texts<F: Files>(
     ensures refused { F.tells → IfErr result (λ e. IsTrue (is_told e)
         → texts_asked (F.host files.old) config (option_map (λ path. path.now) named.entry) place
         ≡ Err (refused e)) }
-    ensures only { IfErr result IsReadFault }
+    ensures only { IfErr result (IsTextsFault (option_map (λ path. path.now) named.entry)) }
     ensures cause { HasFileCause (F.faults files.old) (F.faults files.new) result }
     ensures failed { F.tells → AddsFailed (IsTextsCall (F.host files.old) config
         (option_map (λ path. path.now) named.entry) place)
@@ -101,7 +101,7 @@ pub fn ask<F: Files, R: Runner>(
     ensures gives { F.tells
         → Gives (asked command.now (option_map (λ path. path.now) named.entry) (F.host files.old)
         (status_told result)) result }
-    ensures only { IfErr result IsAskFault }
+    ensures only { IfErr result (IsAskFault (option_map (λ path. path.now) named.entry)) }
 
     // what was started
     ensures started { F.tells → R.tells

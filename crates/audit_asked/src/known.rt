@@ -1,9 +1,9 @@
 //! The baseline that a run asks for.
-ghost use Rattle.std.specs.Prelude.{◌≡◌, ◌⊎◌, Ok, Err, IfOk, IfErr, IsTrue, option_map};
+ghost use Rattle.std.specs.Prelude.{◌≡◌, ◌⊎◌, ℕ, List, Some, Ok, Err, IfOk, IfErr, IsTrue, option_map};
 ghost use Rattle.known_findings.specs.Baselines.{baseline_of};
 ghost use Rattle.audit_asked.specs.Calls.{AddsFailed, HasFileCause, IsBaselineCall};
 ghost use Rattle.audit_asked.specs.KnownFindings.{baseline_asked, findings_read};
-ghost use Rattle.audit_asked.specs.Refusals.{IsReadFault, is_told, refused};
+ghost use Rattle.audit_asked.specs.Refusals.{IsTextsFault, is_told, refused};
 
 use crate::faults::RunFault;
 use crate::texts::file_text;
@@ -17,7 +17,7 @@ fn baseline_in(alloc: Global, text: &str) -> Result<Baseline, RunFault>
     ensures refused { IfErr result (λ e. IsTrue (is_told e)
         → findings_read (baseline_of text.now) ≡ Err (refused e)) }
     ensures only { IfErr result (λ e. (e ≡ RunFault.NoMemory) ⊎ IsTrue (is_told e)) }
-    ensures read { IfErr result IsReadFault }
+    ensures read { (path : List ℕ) → IfErr result (IsTextsFault (Some path)) }
 {
     match Baseline::read(alloc, text) {
         Ok(baseline) => Ok(baseline),
@@ -37,7 +37,7 @@ pub fn baseline<F: Files>(
     ensures refused { F.tells → IfErr result (λ e. IsTrue (is_told e)
         → baseline_asked (option_map (λ path. path.now) named.entry) (F.host files.old)
         ≡ Err (refused e)) }
-    ensures only { IfErr result IsReadFault }
+    ensures only { IfErr result (IsTextsFault (option_map (λ path. path.now) named.entry)) }
     ensures cause { HasFileCause (F.faults files.old) (F.faults files.new) result }
     ensures failed { F.tells → AddsFailed
         (IsBaselineCall (option_map (λ path. path.now) named.entry))

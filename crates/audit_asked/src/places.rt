@@ -1,5 +1,5 @@
 //! The lockfile's place.
-ghost use Rattle.std.specs.Prelude.{◌≡◌, ◌⊎◌, ℕ, List, pos, true, false, Ok, Err, Some, None, IfOk, IfErr, IsTrue, option_map};
+ghost use Rattle.std.specs.Prelude.{◌≡◌, ◌⊎◌, ℕ, List, pos, Option, true, false, Ok, Err, Some, None, IfOk, IfErr, IsTrue, option_map};
 ghost use Rattle.audit_asked.specs.Calls.{AddsFailed, AddsLook, HasFileCause, HasLookCause, IsLookError, IsPlaceCall, LookedAt};
 ghost use Rattle.audit_asked.specs.Places.{place_asked, place_of};
 ghost use Rattle.audit_asked.specs.Places as spec;
@@ -162,7 +162,7 @@ pub(crate) fn place<F: Files, R: Runner>(
     ensures refused { F.tells → IfErr result (λ e. IsTrue (is_told e)
         → place_asked (option_map (λ p. p.now) path.entry) (F.host files.old) (status_told result)
         ≡ Err (refused e)) }
-    ensures only { IfErr result IsAskFault }
+    ensures only { (named : Option (List ℕ)) → IfErr result (IsAskFault named) }
 
     ensures started { F.tells → R.tells
         → RunStartsWhere (spec.is_to_generate (option_map (λ p. p.now) path.entry)

@@ -38,4 +38,5 @@ pub use laws::{
     cached_audits_agree,
 };
 pub use opening::{FileAuditError, LOCKFILE_LIMIT};
+pub use planning::is_default;
 pub use verdicts::{Cause, Judged, Verdict};

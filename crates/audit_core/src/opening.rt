@@ -78,7 +78,8 @@ fn whole_text(alloc: Global, bytes: &[u8]) -> Result<Text, FileAuditError>
 fn read_text<F: Files>(alloc: Global, files: &mut F, path: &str) -> Result<Text, FileAuditError>
     ensures text { F.tells → IfOk result (λ text.
         opened_text (standing_at (F.host files.old) path.now) ≡ Ok text) }
-    ensures reason { IfErr result (IsUnopenedFor F.tells (standing_at (F.host files.old) path.now)) }
+    ensures reason { IfErr result
+        (IsUnopenedFor F.tells (standing_at (F.host files.old) path.now)) }
     ensures only { (e : AuditError) → result ≡ Err (FileAuditError.Audit e)
         → e ≡ AuditError.NoMemory }
     ensures rose { result ≡ Err FileAuditError.File
@@ -137,7 +138,8 @@ impl Auditor {
             text a) }
 
         // why there is none
-        ensures reason { IfErr result (IsUnopenedFor F.tells (standing_at (F.host files.old) path.now)) }
+        ensures reason { IfErr result
+            (IsUnopenedFor F.tells (standing_at (F.host files.old) path.now)) }
         ensures rose { result ≡ Err FileAuditError.File
             → CountRose (F.faults files.old) (F.faults files.new) }
         ensures failed { F.tells → result ≡ Err FileAuditError.File

@@ -38,8 +38,8 @@ pub struct Places {
     pub map: BTreeMap<String, usize>,
 }
 
-/// Whether a package is of the default registry.
-fn is_default(locked: &Package) -> bool
+/// Whether a package is of the default registry, crates.io.
+pub fn is_default(locked: &Package) -> bool
     ensures { result ≡ spec.is_default locked.now }
 {
     match &locked.source {

@@ -232,21 +232,21 @@ calls_made task host before now (Some (fault.Generate status)) h = inr h
 calls_made task host before now (Some (fault.Start failed)) h = inr h
 calls_made task host before now (Some fault.NoMemory) h = inr h
 
-calls_by : (task : Task) (host : Host) (before now : List FailedCall) (f : RunFault) → IsAskFault f → AddsBy (IsTaskCall task host) before now f → AddsTaskCalls task host before now (Some f)
-calls_by task host before now (fault.Usage place) only h = inl h
-calls_by task host before now (fault.Settings reason) only h = inl h
-calls_by task host before now (fault.Missing path) only h = inl h
-calls_by task host before now (fault.NotUtf8 path) only h = inl h
-calls_by task host before now (fault.TooLarge path len) only h = inl h
-calls_by task host before now (fault.File path) only h = inl h
-calls_by task host before now (fault.Lockfile reason) only h = inl h
-calls_by task host before now (fault.Advisory n reason) only h = inl h
-calls_by task host before now (fault.Baseline line) only h = inl h
-calls_by task host before now (fault.Vendor reason) only h = absurd only
-calls_by task host before now fault.Print only h = inl h
-calls_by task host before now (fault.Generate status) only h = inl h
-calls_by task host before now (fault.Start failed) only h = inl h
-calls_by task host before now fault.NoMemory only h = inl (inl h)
+calls_by : (named : Option (List ℕ)) (task : Task) (host : Host) (before now : List FailedCall) (f : RunFault) → IsAskFault named f → AddsBy (IsTaskCall task host) before now f → AddsTaskCalls task host before now (Some f)
+calls_by named task host before now (fault.Usage place) only h = inl h
+calls_by named task host before now (fault.Settings reason) only h = inl h
+calls_by named task host before now (fault.Missing path) only h = inl h
+calls_by named task host before now (fault.NotUtf8 path) only h = inl h
+calls_by named task host before now (fault.TooLarge path len) only h = inl h
+calls_by named task host before now (fault.File path) only h = inl h
+calls_by named task host before now (fault.Lockfile reason) only h = inl h
+calls_by named task host before now (fault.Advisory n reason) only h = inl h
+calls_by named task host before now (fault.Baseline line) only h = inl h
+calls_by named task host before now (fault.Vendor reason) only h = absurd only
+calls_by named task host before now fault.Print only h = inl h
+calls_by named task host before now (fault.Generate status) only h = inl h
+calls_by named task host before now (fault.Start failed) only h = inl h
+calls_by named task host before now fault.NoMemory only h = inl (inl h)
 
 calls_memory : (task : Task) (host : Host) (before now : List FailedCall) (f : RunFault) → AddsBy (IsTaskCall task host) before now f → AddsTaskCalls task host before now (Some fault.NoMemory)
 calls_memory task host before now (fault.Usage place) h = inl (inl h)
@@ -264,11 +264,11 @@ calls_memory task host before now (fault.Generate status) h = inl (inl h)
 calls_memory task host before now (fault.Start failed) h = inl (inl h)
 calls_memory task host before now fault.NoMemory h = inl (inl h)
 
-pub calls_asked : (task : Task) (host : Host) (before now : List FailedCall) (f : RunFault) (o : Option RunFault) → (o ≡ Some f) ⊎ (o ≡ Some fault.NoMemory) → IsAskFault f
+pub calls_asked : (named : Option (List ℕ)) (task : Task) (host : Host) (before now : List FailedCall) (f : RunFault) (o : Option RunFault) → (o ≡ Some f) ⊎ (o ≡ Some fault.NoMemory) → IsAskFault named f
     → AddsBy (IsTaskCall task host) before now f → AddsTaskCalls task host before now o
-calls_asked task host before now f o (inl is) only h =
-    let P : Option RunFault → Type 0 = λ x. AddsTaskCalls task host before now x in subst P (sym is) (calls_by task host before now f only h)
-calls_asked task host before now f o (inr is) only h =
+calls_asked named task host before now f o (inl is) only h =
+    let P : Option RunFault → Type 0 = λ x. AddsTaskCalls task host before now x in subst P (sym is) (calls_by named task host before now f only h)
+calls_asked named task host before now f o (inr is) only h =
     let P : Option RunFault → Type 0 = λ x. AddsTaskCalls task host before now x in subst P (sym is) (calls_memory task host before now f h)
 
 -- ---- without an audit, in asking

@@ -66,9 +66,9 @@ unaudited_starts None b before mid now task given o h most cause some same =
     subst P (sym same) (given_starts b before mid task given o h most cause none)
 
 -- one start failed where asking ended so
-pub asked_one : (f : RunFault) (o : Option RunFault) (n : ℕ) → (o ≡ Some f) ⊎ (o ≡ Some fault.NoMemory) → IsAskFault f → o ≡ Some (fault.Start n) → n ≡ 1
-asked_one f o n (inl is) only ended = let same : f ≡ fault.Start n = cc (is, ended) in subst IsAskFault same only
-asked_one f o n (inr is) only ended = cc (is, ended)
+pub asked_one : (named : Option (List ℕ)) (f : RunFault) (o : Option RunFault) (n : ℕ) → (o ≡ Some f) ⊎ (o ≡ Some fault.NoMemory) → IsAskFault named f → o ≡ Some (fault.Start n) → n ≡ 1
+asked_one named f o n (inl is) only ended = let same : f ≡ fault.Start n = cc (is, ended) in subst (IsAskFault named) same only
+asked_one named f o n (inr is) only ended = cc (is, ended)
 
 pub audited_some : {T : Type 0} (o : Option T) (P : Type 0) → IsSome o → IfNone o P
 audited_some None P some = cc

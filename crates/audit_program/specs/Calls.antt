@@ -131,7 +131,8 @@ words_generate words host = generates_by (task_of words) host
 abbrev pub StartsUnaudited : List Started → List Started → Option RunFault → Type 0
 StartsUnaudited before now (Some (fault.Generate status)) = AddsStart (Some status) before now
 StartsUnaudited before now (Some (fault.Start failed)) = AddsStart None before now
-StartsUnaudited before now (Some (fault.File path)) = (now ≡ before) ⊎ AddsStart (Some (pos 0)) before now
+StartsUnaudited before now (Some (fault.File path)) =
+    (now ≡ before) ⊎ AddsStart (Some (pos 0)) before now
 StartsUnaudited before now (Some fault.NoMemory) = StartsAtMost before now
 StartsUnaudited before now _ = AddsStart (Some (pos 0)) before now
 

@@ -19,7 +19,7 @@ use Rattle.audit_asked.specs.declared.asking.Asked.{Asked}
 use Rattle.audit_asked.specs.declared.faults.RunFault.{RunFault}
 use Rattle.audit_asked.specs.declared.faults.RunFault.TheVariants as fault
 use Rattle.audit_program.specs.Makings.{IsMakingFault}
-use Rattle.audit_program.specs.Tasks.{options_of, task_asked, task_of}
+use Rattle.audit_program.specs.Tasks.{baseline_path, options_of, task_asked, task_of}
 use Rattle.audit_program.specs.declared.tasks.Task.{Task}
 
 -- ---- what was asked
@@ -54,7 +54,7 @@ pub record Refuses (told : Type 0) (task : Task) (host : Host) (reason : RunFaul
     : Type 0 where
   pub gives : told → IsTrue (is_told reason)
       → task_asked task host (status_told {T = Unit {0}} (Err reason)) ≡ Err (refused reason)
-  pub only : IsAskFault reason
+  pub only : IsAskFault (baseline_path task.remedy) reason
 
 -- what the host has, the lockfile's text, or what is made of the audit; that a count rose is said
 -- beside it

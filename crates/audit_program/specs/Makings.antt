@@ -25,8 +25,8 @@ use Rattle.upgrade_plan.specs.Plans.{IsPlanBy}
 use Rattle.upgrade_plan.specs.declared.plans.PlanItem.{PlanItem}
 use Rattle.vendor_faults.specs.declared.faults.VendorFault.{VendorFault}
 use Rattle.vendor_faults.specs.declared.faults.VendorFault.TheVariants as vendor_fault
-use Rattle.vendor_registry.specs.Built.{IsBuilt, IsOccupied, IsUnfinished, free_fault, is_behind}
-use Rattle.vendor_registry.specs.Checks.{Stock, all_checked, is_of_package}
+use Rattle.vendor_registry.specs.Built.{IsBuilt, IsOccupied, IsStoppedBy, IsTakenFor, IsUnfinished, free_fault, is_behind}
+use Rattle.vendor_registry.specs.Checks.{Stock, all_checked, is_of_checks, is_of_package}
 use Rattle.vendor_registry.specs.Looked.{looked}
 use Rattle.vendor_registry.specs.Named.{AreVersioned, IsFolderPath}
 use Rattle.vendor_registry.specs.Vendored.{IsBare, IsVendored}
@@ -140,23 +140,30 @@ IsRegistryBegun more m =
     → IsUnfinished (stock_in more m) m.audited.lockfile more.to m.host m.host_now
 
 -- none was made: a package is refused exactly by the first condition of the table that holds, and
--- then nothing was written; an entry couldn't be read only where the disk failed in this making; the
--- folder is refused by what stands there, once all packages were checked, and then nothing was
--- written either; what was built never disagrees with its index, and else has this reason
+-- then nothing was written; an entry couldn't be read only where the disk failed in this making, and
+-- then nothing was written either; a call failed at the first package that wasn't checked, or once
+-- all were; the folder is refused by what stands there, once all packages were checked, with nothing
+-- written, or by an index file that has come meanwhile; what was built never disagrees with its
+-- index, and else has this reason
 pub record IsRegistryRefused (more : VendorCommand) (m : Making) (reason : VendorFault)
     : Type 0 where
   pub no_memory : reason ≢ vendor_fault.NoMemory
   pub refused : m.files_tell → m.disk_tells → IsTrue (is_of_package reason)
       → all_checked (stock_in more m) (looked m.audited.lockfile) ≡ Err reason
-  pub unwritten : m.files_tell → IsTrue (is_of_package reason) → m.host_now ≡ m.host
+  pub unwritten : m.files_tell → IsTrue (is_of_checks reason) → m.host_now ≡ m.host
   pub store : (at : ℕ) → reason ≡ vendor_fault.Store at
       → CountRose m.left.disk_faults m.ended.disk_faults
+  pub stopped : m.files_tell → m.disk_tells
+      → IsStoppedBy (stock_in more m) m.audited.lockfile reason
   pub behind : m.files_tell → m.disk_tells → IsTrue (is_behind reason)
       → IsOk (all_checked (stock_in more m) (looked m.audited.lockfile))
   pub occupied : m.files_tell → IsOccupied (m.host.stands more.to) reason
   pub not_empty : m.files_tell → m.disk_tells → IsBare m.host more.to → (n : ℕ)
       → reason ≡ vendor_fault.NotEmpty n
       → free_fault (m.host.stands more.to) ≡ Some (vendor_fault.NotEmpty n)
+  pub taken : m.files_tell → m.disk_tells → (n : ℕ) → reason ≡ vendor_fault.NotEmpty n
+      → free_fault (m.host.stands more.to) ≡ None
+      → IsTakenFor (stock_in more m) m.audited.lockfile more.to m.host
   pub unmade : m.files_tell → free_fault (m.host.stands more.to) ≡ Some reason
       → m.host_now ≡ m.host
   pub begun : IsRegistryBegun more m

@@ -88,8 +88,8 @@ making_of tells given audited left ended hosts = record {
 }
 
 -- the fault with which a run ends that couldn't make what it was to, which is want of memory where
--- none was left to tell it; once it was made, a put failed, steps couldn't be started, or memory ran
--- out; and the status of a run that ends without a fault
+-- none was left to tell it; once it was made, a put failed, steps couldn't be started, or memory
+-- ran out; and the status of a run that ends without a fault
 pub record IsEndBy (task : Task) (given : Asked) (audited : Audited) (it : Result Made RunFault)
     (ending : Ending) : Type 0 where
   pub unmade : IfErr it (λ reason. (ending.fault ≡ Some reason)

@@ -11,8 +11,8 @@ ghost use Rattle.vendor_faults.specs.declared.faults.VendorFault.TheVariants as 
 ghost use Rattle.known_findings.specs.Baselines.{listed, written};
 ghost use Rattle.baseline_gate.specs.Gates as gates_spec;
 ghost use Rattle.baseline_gate.specs.Reports.{audit_findings};
-ghost use Rattle.vendor_registry.specs.Built.{IsBuilt, IsOccupied, IsUnfinished, free_fault, is_behind};
-ghost use Rattle.vendor_registry.specs.Checks.{all_checked, is_of_package};
+ghost use Rattle.vendor_registry.specs.Built.{IsBuilt, IsOccupied, IsStoppedBy, IsTakenFor, IsUnfinished, free_fault, is_behind};
+ghost use Rattle.vendor_registry.specs.Checks.{all_checked, is_of_checks, is_of_package};
 ghost use Rattle.vendor_registry.specs.Failed.{AddsFailed};
 ghost use Rattle.vendor_registry.specs.Looked.{looked};
 ghost use Rattle.vendor_registry.specs.Named.{AreVersioned, IsFolderPath};
@@ -157,8 +157,11 @@ fn registry_of<F: Files, D: CacheDisk>(
     ensures refused { F.tells → D.tells → IfErr result (λ e. IsTrue (is_of_package e)
         → all_checked (crates_io_stock (D.past disk.old) (F.host files.old) more.now.crates)
         (looked audited.now.lockfile) ≡ Err e) }
-    ensures unwritten { F.tells → IfErr result (λ e. IsTrue (is_of_package e)
+    ensures unwritten { F.tells → IfErr result (λ e. IsTrue (is_of_checks e)
         → F.host files.new ≡ F.host files.old) }
+    ensures stopped { F.tells → D.tells → IfErr result (IsStoppedBy
+        (crates_io_stock (D.past disk.old) (F.host files.old) more.now.crates)
+        audited.now.lockfile) }
     ensures behind { F.tells → D.tells → IfErr result (λ e. IsTrue (is_behind e)
         → IsOk (all_checked
         (crates_io_stock (D.past disk.old) (F.host files.old) more.now.crates)
@@ -167,6 +170,10 @@ fn registry_of<F: Files, D: CacheDisk>(
     ensures not_empty { F.tells → D.tells → IsBare (F.host files.old) more.now.to → (n : ℕ)
         → result ≡ Err (VendorFault.NotEmpty n)
         → free_fault ((F.host files.old).stands more.now.to) ≡ Some (VendorFault.NotEmpty n) }
+    ensures taken { F.tells → D.tells → (n : ℕ) → result ≡ Err (VendorFault.NotEmpty n)
+        → free_fault ((F.host files.old).stands more.now.to) ≡ None → IsTakenFor
+        (crates_io_stock (D.past disk.old) (F.host files.old) more.now.crates)
+        audited.now.lockfile more.now.to (F.host files.old) }
     ensures free { F.tells → OnOk result
         (free_fault ((F.host files.old).stands more.now.to) ≡ None) }
     ensures built { F.tells → D.tells → OnOk result (IsBuilt

@@ -194,7 +194,7 @@ command_still word d e s h =
 
 folder_still : (crates to : Option (List ℕ)) (word : List ℕ) (d e : Draft) → Still d → with_folder crates to word d ≡ Ok e → Still e
 folder_still None to word d e s h = made (record d { vendor_crates = Some word }) e h s
-folder_still (Some crates) None word d e s h = made (record d { vendor_to = Some word }) e h s
+folder_still (Some crates) None word d e s h = option_still (unless_empty word) (λ to. record d { vendor_to = Some to }) e (λ to. s) h
 folder_still (Some crates) (Some to) word d e s h = cc
 
 plain_still : (p : Phase) (word : List ℕ) (d e : Draft) → Still d → read_plain p word d ≡ Ok e → Still e

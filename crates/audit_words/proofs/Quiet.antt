@@ -118,7 +118,8 @@ well_begun word d none =
 -- the folders are those of the quiet draft too
 well_folder : (crates to : Option (List ℕ)) (word : List ℕ) (d : Draft) → generates d.phase ≡ false → KeepsWell (with_folder crates to word) d
 well_folder None to word d none = well_made (λ d. record d { vendor_crates = Some word }) d none refl refl
-well_folder (Some crates) None word d none = well_made (λ d. record d { vendor_to = Some word }) d none refl refl
+well_folder (Some crates) None [] d none = well_err stop.Wrong d
+well_folder (Some crates) None (b ∷ bs) d none = well_made (λ d. record d { vendor_to = Some (b ∷ bs) }) d none refl refl
 well_folder (Some crates) (Some to) word d none = well_err stop.Wrong d
 
 well_plain : (p : Phase) (word : List ℕ) (d : Draft) → generates d.phase ≡ generates p → KeepsWell (read_plain p word) d

@@ -222,10 +222,11 @@ begun word d =
     else Err stop.Wrong
 
 -- the next folder of `vendor`, where these were met: first that of the crate files, then that of
--- the registry
+-- the registry, which isn't the empty text
 abbrev pub with_folder : Option (List ℕ) → Option (List ℕ) → List ℕ → Draft → Result Draft Stop
 with_folder None to word d = Ok (record d { vendor_crates = Some word })
-with_folder (Some crates) None word d = Ok (record d { vendor_to = Some word })
+with_folder (Some crates) None word d =
+    or_wrong (option_map (λ to. record d { vendor_to = Some to }) (unless_empty word))
 with_folder (Some crates) (Some to) word d = Err stop.Wrong
 
 -- a word that is no option

@@ -5,7 +5,7 @@ ghost use Rattle.audit_words.specs.Reading as spec;
 
 use crate::drafts::{Draft, Stop};
 use crate::options::Phase;
-use crate::values::packages_of;
+use crate::values::{packages_of, unless_empty};
 use audit_settings::AuditCommand;
 use std::alloc::Global;
 use tame_names::Text;
@@ -64,7 +64,7 @@ impl Draft {
         Ok(())
     }
 
-    /// The next folder of `vendor`.
+    /// The next folder of `vendor`; that of the registry has a name.
     fn add_folder(&mut self, alloc: Global, word: &str) -> Result<(), Stop>
         ensures ok { OnOk result (with_folder self.old.vendor_crates self.old.vendor_to
             word.now self.old ≡ Ok self.new) }
@@ -73,7 +73,10 @@ impl Draft {
     {
         match (self.vendor_crates.is_some(), self.vendor_to.is_some()) {
             (false, _) => self.vendor_crates = Some(Text::of(alloc, word)?),
-            (true, false) => self.vendor_to = Some(Text::of(alloc, word)?),
+            (true, false) => {
+                let to = unless_empty(word).ok_or(Stop::Wrong)?;
+                self.vendor_to = Some(Text::of(alloc, to)?);
+            }
             (true, true) => return Err(Stop::Wrong),
         }
         Ok(())

@@ -80,6 +80,8 @@ pub fn refused()
     ensures no_folders { command_of (codes "audit" ∷ codes "vendor" ∷ []) ≡ Err (Usage 2) }
     ensures one_folder { command_of (codes "audit" ∷ codes "vendor" ∷ codes "c" ∷ [])
         ≡ Err (Usage 3) }
+    ensures empty_folder { command_of
+        (codes "audit" ∷ codes "vendor" ∷ codes "c" ∷ codes "" ∷ codes "-h" ∷ []) ≡ Err (Usage 3) }
     ensures word_behind_folders { command_of
         (codes "audit" ∷ codes "vendor" ∷ codes "c" ∷ codes "v" ∷ codes "w" ∷ [])
         ≡ Err (Usage 4) }

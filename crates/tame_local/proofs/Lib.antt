@@ -1,11 +1,12 @@
 mod Begun
 mod Kept
-mod Dashes
+pub mod Dashes
 mod Pieces
-mod RegistryPaths
-mod Standings
-mod Agreeing
-mod ReadBack
+pub mod RegistryPaths
+pub mod Standings
+pub mod Agreeing
+pub mod ReadBack
+pub mod Agreed
 mod Inserted
-mod Beginnings
-mod Printed
+pub mod Beginnings
+pub mod Printed

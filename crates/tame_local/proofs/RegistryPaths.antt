@@ -95,7 +95,7 @@ parent_behind (b ∷ bs) y some h long =
         → (length r == 0) ≡ false → parent_of_plain (r ++ 47 ∷ y) ≡ Some r
     plain_parent r y long other cut some = rw (long, other, cut, some) refl
 
-last_behind : (r : List ℕ) (y : List ℕ) (k : ℕ) → length y ≡ suc k → ends_with_slash (r ++ y) ≡ (get_or y k 0 == 47)
+pub last_behind : (r : List ℕ) (y : List ℕ) (k : ℕ) → length y ≡ suc k → ends_with_slash (r ++ y) ≡ (get_or y k 0 == 47)
 last_behind r y k size =
     let whole : length (r ++ y) ≡ length r + length y = length-append r y in
     let long : nat_lt 0 (length (r ++ y)) ≡ true = grind (arith, nat_tests, whole, size) in
@@ -191,7 +191,7 @@ index_folder r name = r ++ 47 ∷ (codes "index" ++ 47 ∷ lower (prefix (47 ∷
 pub index_parts : (r name : List ℕ) → r ++ 47 ∷ (codes "index" ++ 47 ∷ (lower (prefix (47 ∷ []) name) ++ 47 ∷ lower name)) ≡ index_folder r name ++ 47 ∷ lower name
 index_parts r name = sym (append_assoc r (47 ∷ (codes "index" ++ 47 ∷ lower (prefix (47 ∷ []) name))) (47 ∷ lower name))
 
-same_behind : (xs ys zs : List ℕ) → xs ++ ys ≡ xs ++ zs → ys ≡ zs
+pub same_behind : (xs ys zs : List ℕ) → xs ++ ys ≡ xs ++ zs → ys ≡ zs
 same_behind [] ys zs h = h
 same_behind (x ∷ xs) ys zs h = same_behind xs ys zs (ap (drop 1) h)
 

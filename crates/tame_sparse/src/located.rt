@@ -14,9 +14,9 @@ use tame_location::{Ident, IndexLocation, refused_url};
 use tame_names::{Error, Files, InvalidUrlError};
 
 impl SparseIndex {
-    /// The sparse index of a location, with its cache in its folder: the folder and the url are those
-    /// of `IndexLocation::into_parts`. `InvalidUrl(MissingSparse)` where the url isn't one of a
-    /// sparse index, and then the errors of `into_parts`.
+    /// The sparse index of a location, with its cache in its folder: the folder and the url are
+    /// those of `IndexLocation::into_parts`. `InvalidUrl(MissingSparse)` where the url isn't one of
+    /// a sparse index, and then the errors of `into_parts`.
     pub fn new<F: Files, I: Ident>(
         alloc: Global,
         files: &mut F,
@@ -31,7 +31,8 @@ impl SparseIndex {
         ensures kind { is_sparse location.entry.url ≡ false
             → (files.new ≡ files.old) × ((result ≡ Err (missing_sparse location.entry.url))
             ⊎ (result ≡ Err Error.NoMemory)) }
-        ensures only { IfErr result (IsPlaceError (missing_sparse location.entry.url) location.entry) }
+        ensures only { IfErr result
+            (IsPlaceError (missing_sparse location.entry.url) location.entry) }
         ensures cause { HasHomeCause (F.faults files.old) (F.faults files.new) result }
         ensures failed { F.tells → AddsHomeCall (IsHomeCall (F.host files.old))
             (F.failed files.old) (F.failed files.new) result }
@@ -49,9 +50,9 @@ impl SparseIndex {
 }
 
 impl GitIndex {
-    /// The git index of a location, with its cache in its folder, and without a head: the folder and
-    /// the url are those of `IndexLocation::into_parts`. `InvalidUrl(SparseForGit)` where the url is
-    /// one of a sparse index, and then the errors of `into_parts`.
+    /// The git index of a location, with its cache in its folder, and without a head: the folder
+    /// and the url are those of `IndexLocation::into_parts`. `InvalidUrl(SparseForGit)` where the
+    /// url is one of a sparse index, and then the errors of `into_parts`.
     pub fn new<F: Files, I: Ident>(
         alloc: Global,
         files: &mut F,
@@ -66,7 +67,8 @@ impl GitIndex {
         ensures kind { is_sparse location.entry.url ≡ true
             → (files.new ≡ files.old) × ((result ≡ Err (sparse_for_git location.entry.url))
             ⊎ (result ≡ Err Error.NoMemory)) }
-        ensures only { IfErr result (IsPlaceError (sparse_for_git location.entry.url) location.entry) }
+        ensures only { IfErr result
+            (IsPlaceError (sparse_for_git location.entry.url) location.entry) }
         ensures cause { HasHomeCause (F.faults files.old) (F.faults files.new) result }
         ensures failed { F.tells → AddsHomeCall (IsHomeCall (F.host files.old))
             (F.failed files.old) (F.failed files.new) result }

@@ -1,10 +1,11 @@
 //! For a vulnerable package the least safe version, by what the cache keeps of its crate.
 //!
 //! Promises: the version is the lowest of the candidates, or there is none, or the cause for which
-//! a package has no records is named; nothing is asked, and no file changes. Behind an audit over an
-//! honest server it is by what the server held.
-//! Stands on the index of a registry (`tame_names` to `tame_sparse`), the lockfiles of `audit_lock`,
-//! the advisories of `audit_advisory`, the audits of `audit_core`, and `serde_json` and `semver`.
+//! a package has no records is named; nothing is asked, and no file changes. Behind an audit over
+//! an honest server it is by what the server held.
+//! Stands on the index of a registry (`tame_names` to `tame_sparse`), the lockfiles of
+//! `audit_lock`, the advisories of `audit_advisory`, the audits of `audit_core`, and `serde_json`
+//! and `semver`.
 //!
 //! ```ignore
 //! let least = least_safe(alloc, &database, &settings, &package, &krate)?;

@@ -18,11 +18,11 @@ use Rattle.tame_local.specs.Builders.{after, after_change, created}
 use Rattle.tame_local.specs.CrateFiles.{Lacks, crate_file}
 use Rattle.tame_local.specs.Registries.{index_of}
 use Rattle.audit_core.specs.Paths.{distinct_after, is_among}
-use Rattle.vendor_registry.proofs.Agreeing.{lower_long, lower_slashless}
+use Rattle.tame_local.proofs.Agreeing.{lower_long, lower_slashless}
 use Rattle.vendor_registry.proofs.Exact.{AreKnown, AreOn, on_known}
 use Rattle.vendor_registry.proofs.FolderPaths.{base, crate_inner, crate_not_index, in_index, index_inner, index_join, index_same, join_base, path_front, same_inner}
-use Rattle.vendor_registry.proofs.RegistryPaths.{differ, lower, name_long, parent_behind, plain_behind, relative_parts, same_behind}
-use Rattle.vendor_registry.proofs.Standings.{AreElsewhere, folders_nothing, nothing_stays}
+use Rattle.tame_local.proofs.RegistryPaths.{differ, lower, name_long, parent_behind, plain_behind, relative_parts, same_behind}
+use Rattle.tame_local.proofs.Standings.{AreElsewhere, folders_nothing, nothing_stays}
 use Rattle.vendor_registry.specs.Built.{IsTaken, crate_made, path_made}
 use Rattle.vendor_registry.specs.Checks.{Stock}
 use Rattle.vendor_registry.specs.Vendored.{IsBare, IsInner, on, paths_of}

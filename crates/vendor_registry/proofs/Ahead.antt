@@ -78,7 +78,7 @@ pub texts_more : (cs : List Checked) (c : Checked) → AreTexts cs → IsUtf8 c.
 texts_more [] c all is = (is, tt)
 texts_more (d ∷ ds) c all is = (all.0, texts_more ds c all.1 is)
 
-same_check : (past now : List ℕ → List Step) (index : SparseIndex) (host mid : Host) (crates : List ℕ) (i : ℕ) (p : Package) → ((q : List ℕ) → now q ≡ past q) → mid ≡ host
+pub same_check : (past now : List ℕ → List Step) (index : SparseIndex) (host mid : Host) (crates : List ℕ) (i : ℕ) (p : Package) → ((q : List ℕ) → now q ≡ past q) → mid ≡ host
     → checked (stock_of past index host crates) i p ≡ checked (stock_of now index mid crates) i p
 same_check past now index host mid crates i p same files =
     sym (checked_same past now index host crates i p same) ∙ ap (λ h. checked (stock_of now index h crates) i p) (sym files)

@@ -6,7 +6,7 @@ use Rattle.tame_names.specs.Standing.{Host, Standing, Nothing, File, Folder, Oth
 use Rattle.tame_names.specs.declared.host.Listed.{Listed}
 use Rattle.tame_local.specs.Builders.{Change, Makes, Creates, after, size_of}
 use Rattle.tame_local.specs.Inserts.{StandsPlain}
-use Rattle.vendor_registry.proofs.Standings.{plain_kept}
+use Rattle.tame_local.proofs.Standings.{plain_kept}
 
 -- the bytes of a file
 abbrev pub bytes_in : Standing → Option (List ℕ)

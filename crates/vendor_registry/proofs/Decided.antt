@@ -1,6 +1,7 @@
 -- On one path of the index, records of one version are the same record.
 use Rattle.std.proofs.Common.{◌≡◌, ◌⊎◌, inl, inr, ℕ, ◌+◌, List, [], ◌∷◌, ◌++◌, map, find, bytes_eq, IsUtf8, IsTrue, is_ok, Bool, true, false, cond, Option, Some, None, option_map, option_and_then, Result, Ok, Err, refl, sym, ap, ◌∙◌, subst, append_assoc}
-use Rattle.std.specs.Prelude.{filter}
+use Rattle.std.specs.Prelude.{filter, IfErr}
+use Rattle.std.proofs.lemmas.Bool.{false≢true}
 use Rattle.std.specs.List.{enumerate_from}
 use Rattle.std.proofs.lemmas.Slice.Eq.{bytes_eq-Decides}
 use Rattle.semver.specs.Parse.{version_parts}
@@ -18,7 +19,7 @@ use Rattle.audit_lock.specs.declared.resolving.Package.{Package}
 use Rattle.vendor_registry.proofs.Facts.{Fact, Facts, path_of_name}
 use Rattle.vendor_registry.proofs.Slashless.{version_slashless}
 use Rattle.vendor_registry.proofs.Stocked.{AreStocked}
-use Rattle.vendor_registry.specs.Checks.{Stock, deciding, entry_records, file_records, or_fault}
+use Rattle.vendor_registry.specs.Checks.{Stock, crate_path, deciding, entry_records, file_records, is_of_package, or_fault}
 use Rattle.vendor_registry.specs.Looked.{is_looked, looked}
 use Rattle.vendor_registry.specs.Named.{AreTexts, AreVersioned}
 use Rattle.vendor_registry.specs.Vendored.{is_on, on}
@@ -69,7 +70,7 @@ found_text : (version : List ℕ) (v : IndexVersion) → (None ≡ Some v) ⊎ (
 found_text version v (inl h) = cc
 found_text version v (inr h) = (bytes_eq-Decides v.version version).0 h
 
-deciding_text : (version : List ℕ) (records : List IndexVersion) (v : IndexVersion) → deciding version records ≡ Some v → v.version ≡ version
+pub deciding_text : (version : List ℕ) (records : List IndexVersion) (v : IndexVersion) → deciding version records ≡ Some v → v.version ≡ version
 deciding_text version records v h = found_text version v (last_has (λ w. bytes_eq w.version version) records None v h)
 
 -- ---- what was checked
@@ -183,3 +184,21 @@ stocked_behind s q fs (c ∷ cs) front are = (
 
 pub stocked_on : (s : Stock) (q : List ℕ) (cs : List Checked) → AreDecided s cs → AreStocked q (map (λ (d : Checked). d.version) (on q cs)) (on q cs)
 stocked_on s q cs all = stocked_behind s q [] (on q cs) tt (on_decided s q cs all)
+
+-- ---- a crate file that couldn't be read
+
+crate_case : (crates : List ℕ) (v : IndexVersion) (p : Package) (e : VendorFault) (rose : Type 0) (at : List ℕ) → v.name ≡ p.name → v.version ≡ p.version → e ≡ fault.File at
+    → (e ≡ fault.NoMemory) ⊎ (IsTrue (is_of_package e) ⊎ ((e ≡ fault.File (crate_path crates v.name v.version)) × rose))
+    → (at ≡ crate_path crates p.name p.version) × rose
+crate_case crates v p e rose at name version is (inl h) = cc
+crate_case crates v p e rose at name version is (inr (inl told)) = let none = subst (λ f. IsTrue (is_of_package f)) is told in absurd (false≢true none)
+crate_case crates v p e rose at name version is (inr (inr h)) =
+    let same : at ≡ crate_path crates v.name v.version = cc (is, h.0) in
+    (same ∙ ap (λ (n : List ℕ). crate_path crates n v.version) name ∙ ap (crate_path crates p.name) version, h.1)
+
+pub crate_read : (crates : List ℕ) (v : IndexVersion) (p : Package) (r : Result Checked VendorFault) (rose : Type 0) → v.name ≡ p.name → v.version ≡ p.version
+    → (at : List ℕ) → r ≡ Err (fault.File at)
+    → IfErr r (λ e. (e ≡ fault.NoMemory) ⊎ (IsTrue (is_of_package e) ⊎ ((e ≡ fault.File (crate_path crates v.name v.version)) × rose)))
+    → (at ≡ crate_path crates p.name p.version) × rose
+crate_read crates v p (Ok c) rose name version at is h = cc
+crate_read crates v p (Err e) rose name version at is h = let one : e ≡ fault.File at = cc in crate_case crates v p e rose at name version one h

@@ -10,7 +10,7 @@ use Rattle.tame_names.specs.Paths.{begins_with_slash, ends_with_slash, is_same, 
 use Rattle.tame_names.specs.Pieces.{without_end}
 use Rattle.tame_local.specs.CrateFiles.{Lacks, crate_file, ending}
 use Rattle.tame_local.specs.Registries.{index_of}
-use Rattle.vendor_registry.proofs.RegistryPaths.{differ, last_behind, lower, lower_lacks, name_lacks, name_long, named_path, no_slash, plain_behind, relative_parts, same_behind}
+use Rattle.tame_local.proofs.RegistryPaths.{differ, last_behind, lower, lower_lacks, name_lacks, name_long, named_path, no_slash, plain_behind, relative_parts, same_behind}
 use Rattle.vendor_registry.specs.Vendored.{IsInner}
 
 -- ---- what stands in front of each path in a folder

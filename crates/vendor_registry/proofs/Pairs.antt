@@ -65,7 +65,7 @@ place_same p o n (x ∷ xs) h =
 stands : (p o : Package) → stands_for p o ≡ true → (is_default o ≡ true) × (is_alike p o ≡ true)
 stands p o h = three (is_default o) (bytes_eq o.name p.name) (bytes_eq o.version p.version) h
 
-self_stands : (p : Package) → is_default p ≡ true → stands_for p p ≡ true
+pub self_stands : (p : Package) → is_default p ≡ true → stands_for p p ≡ true
 self_stands p h = all_three (is_default p) (bytes_eq p.name p.name) (bytes_eq p.version p.version) h (self_alike p)
 
 placed : (i : ℕ) (o : Option ℕ) → is_place i o ≡ true → o ≡ Some i

@@ -16,7 +16,7 @@ use Rattle.tame_local.specs.Refusals as local
 use Rattle.tame_local.specs.Registries.{folder_at, index_of, validated}
 use Rattle.vendor_registry.proofs.Exact.{AreKnown, AreOn, on_known}
 use Rattle.vendor_registry.proofs.FolderPaths.{base, crate_inner, join_base}
-use Rattle.vendor_registry.proofs.RegistryPaths.{last_behind, some_behind}
+use Rattle.tame_local.proofs.RegistryPaths.{last_behind, some_behind}
 use Rattle.vendor_registry.specs.Built.{AreFilled, IsFilled, IsReadBack, all_made, crate_made, free_fault, path_made, paths_made}
 use Rattle.vendor_registry.specs.Checks.{Stock}
 use Rattle.vendor_registry.specs.Named.{IsPlace}

@@ -14,12 +14,12 @@ use Rattle.tame_local.specs.CrateFiles.{Lacks, crate_file}
 use Rattle.tame_local.specs.Digests.{has_digest}
 use Rattle.tame_local.specs.Inserts.{AreWritten}
 use Rattle.tame_local.specs.Registries.{index_of, records_in, sum_in}
-use Rattle.vendor_registry.proofs.Agreed.{crate_is, file_is}
-use Rattle.vendor_registry.proofs.Agreeing.{Agrees, Sound, crate_no_index, crate_sound, file_of, file_plain, file_unnamed, folders_sound, here, lower_long, lower_slashless, new_sound}
+use Rattle.tame_local.proofs.Agreed.{crate_is, file_is}
+use Rattle.tame_local.proofs.Agreeing.{Agrees, Sound, crate_no_index, crate_sound, file_of, file_plain, file_unnamed, folders_sound, here, lower_long, lower_slashless, new_sound}
 use Rattle.vendor_registry.proofs.Changed.{after_append}
-use Rattle.vendor_registry.proofs.ReadBack.{records_back}
-use Rattle.vendor_registry.proofs.RegistryPaths.{index_folder, lower, name_long, parent_behind}
-use Rattle.vendor_registry.proofs.Standings.{file_stays, folders_nothing, ways_elsewhere}
+use Rattle.tame_local.proofs.ReadBack.{records_back}
+use Rattle.tame_local.proofs.RegistryPaths.{index_folder, lower, name_long, parent_behind}
+use Rattle.tame_local.proofs.Standings.{file_stays, folders_nothing, ways_elsewhere}
 use Rattle.vendor_registry.specs.Built.{AreFilled, IsFilled, crate_made, path_made, paths_made}
 use Rattle.vendor_registry.specs.Named.{IsPlace}
 use Rattle.vendor_registry.specs.Vendored.{on}

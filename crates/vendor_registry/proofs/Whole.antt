@@ -1,6 +1,6 @@
 -- A folder that was built of what was checked is vendored, and agrees with its index.
 use Rattle.std.proofs.Common.{◌≡◌, ℕ, ◌-◌, ◌^◌, List, [], ◌∷◌, length, true, None, Some, inl, inr, Result, Ok, Err, refl, sym, ap, ◌∙◌, subst, ◌⊎◌, ◌++◌}
-use Rattle.std.specs.Prelude.{min}
+use Rattle.std.specs.Prelude.{min, IfErr, IsOk}
 use Rattle.tame_names.specs.Changes.{is_folder}
 use Rattle.tame_names.specs.Standing.{Host, Standing, Nothing, File, Folder, Other}
 use Rattle.tame_names.specs.declared.host.Listed.{Listed}
@@ -13,18 +13,19 @@ use Rattle.tame_local.specs.Refusals.{refused as refused_by}
 use Rattle.tame_local.specs.Refusals as local
 use Rattle.tame_local.specs.Registries.{folder_at, index_of, registry_at, validated}
 use Rattle.audit_lock.specs.declared.resolving.Package.{Package}
+use Rattle.vendor_faults.specs.declared.faults.VendorFault.{VendorFault}
 use Rattle.vendor_faults.specs.declared.faults.VendorFault.TheVariants as fault
 use Rattle.vendor_registry.proofs.Absent.{never_taken}
-use Rattle.vendor_registry.proofs.Agreed.{registry_agrees, start_sound}
-use Rattle.vendor_registry.proofs.Agreeing.{Sound}
-use Rattle.vendor_registry.proofs.Beginnings.{begin_empty}
+use Rattle.tame_local.proofs.Agreed.{registry_agrees, start_sound}
+use Rattle.tame_local.proofs.Agreeing.{Sound}
+use Rattle.tame_local.proofs.Beginnings.{begin_empty}
 use Rattle.vendor_registry.proofs.Decided.{all_decided, stocked_on}
 use Rattle.vendor_registry.proofs.Exact.{all_size, holds_exactly, known}
 use Rattle.vendor_registry.proofs.Facts.{facts_of, pathed}
 use Rattle.vendor_registry.proofs.Places.{read_back_same}
 use Rattle.vendor_registry.proofs.Stocked.{paths_sound}
-use Rattle.vendor_registry.specs.Built.{IsOccupied, IsReadBack, IsTaken, all_made, free_fault}
-use Rattle.vendor_registry.specs.Checks.{Stock, all_checked}
+use Rattle.vendor_registry.specs.Built.{IsBuildFault, IsOccupied, IsReadBack, IsStoppedBy, IsTaken, all_made, free_fault}
+use Rattle.vendor_registry.specs.Checks.{IsStopped, Stock, all_checked}
 use Rattle.vendor_registry.specs.Looked.{looked}
 use Rattle.vendor_registry.specs.Named.{ArePathed, AreTexts, AreVersioned, IsFolderPath, IsPlace}
 use Rattle.vendor_registry.specs.Vendored.{HoldsExactly, IsBare, IsVendored, paths_of, vendored_files}
@@ -144,3 +145,17 @@ pub occupied_before : (stock : Stock) (packages : List Package) (to : List ℕ) 
 occupied_before stock packages to cs before n checks texts bare (inl is) taken = is
 occupied_before stock packages to cs before n checks texts bare (inr h) taken =
     absurd (never_taken stock to cs before (known stock (looked packages) cs (facts_of stock (looked packages) cs checks) texts) bare (taken h.0))
+
+-- ---- a call that failed
+
+pub by_build : {T : Type 0} (stock : Stock) (packages : List Package) (e : VendorFault) (r : Result T VendorFault) {cs : List Checked} → r ≡ Err e → IsBuildFault e
+    → all_checked stock (looked packages) ≡ Ok cs → IfErr r (IsStoppedBy stock packages)
+by_build stock packages e r is fault checks = rw is (inr (fault, is_ok (all_checked stock (looked packages)) checks))
+  where
+    is_ok : (a : Result (List Checked) VendorFault) {cs : List Checked} → a ≡ Ok cs → IsOk a
+    is_ok (Ok cs) h = refl
+    is_ok (Err e) h = cc
+
+pub by_checks : {T : Type 0} (stock : Stock) (packages : List Package) (e : VendorFault) (r : Result T VendorFault) → r ≡ Err e → IsStopped stock (looked packages) e
+    → IfErr r (IsStoppedBy stock packages)
+by_checks stock packages e r is stopped = rw is (inl stopped)

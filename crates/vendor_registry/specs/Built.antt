@@ -1,6 +1,6 @@
 -- What a builder of a registry makes of what was checked, and why it is refused (this project,
 -- after cargo's local registries).
-use Rattle.std.specs.Prelude.{◌≡◌, ◌⊎◌, ℕ, List, [], ◌∷◌, length, map, flat_map, unwrap_or, Bool, true, false, Option, Some, None, Ok, Err}
+use Rattle.std.specs.Prelude.{◌≡◌, ◌⊎◌, ℕ, List, [], ◌∷◌, length, map, flat_map, unwrap_or, Bool, true, false, Option, Some, None, Ok, Err, IsOk}
 use Rattle.tame_names.specs.Changes.{AreFolders, is_nothing}
 use Rattle.tame_names.specs.Paths.{join, parent, ways_to}
 use Rattle.tame_names.specs.Standing.{Host, Standing, Nothing, Folder}
@@ -11,7 +11,7 @@ use Rattle.tame_local.specs.Inserts.{AreWritten}
 use Rattle.tame_local.specs.Refusals.{refused as refused_by}
 use Rattle.tame_local.specs.Registries.{index_of, registry_at}
 use Rattle.audit_lock.specs.declared.resolving.Package.{Package}
-use Rattle.vendor_registry.specs.Checks.{Stock, all_checked, crate_path}
+use Rattle.vendor_registry.specs.Checks.{IsStopped, Stock, all_checked, crate_path}
 use Rattle.vendor_registry.specs.Looked.{looked}
 use Rattle.vendor_registry.specs.Named.{ArePathed}
 use Rattle.vendor_registry.specs.Vendored.{on, paths_of}
@@ -65,6 +65,13 @@ IsTaken folder cs (q ∷ qs) host =
     (is_nothing (host.stands (join (index_of folder) q)) ≡ false)
     ⊎ IsTaken folder cs qs (after (path_made folder q (on q cs)) host)
 
+-- all packages were checked, and once the folder of the index is made something is at the index
+-- file of one of their paths when its turn comes
+abbrev pub IsTakenFor : Stock → List Package → List ℕ → Host → Type 0
+IsTakenFor stock packages folder before =
+    (cs : List Checked) × (all_checked stock (looked packages) ≡ Ok cs)
+    × IsTaken folder cs (paths_of cs) (after_change (created folder) before)
+
 -- what a refused call left: the host as it was, or all packages were checked and the changes were
 -- begun in their order
 abbrev pub IsUnfinished : Stock → List Package → List ℕ → Host → Host → Type 0
@@ -113,6 +120,12 @@ IsBuildFault (fault.File path) = Unit {0}
 IsBuildFault (fault.ReadBack why) = Unit {0}
 IsBuildFault fault.NoMemory = Unit {0}
 IsBuildFault e = ⊥
+
+-- a call that failed: in the checks, or once all packages were checked
+abbrev pub IsStoppedBy : Stock → List Package → VendorFault → Type 0
+IsStoppedBy stock packages e =
+    IsStopped stock (looked packages) e
+    ⊎ (IsBuildFault e × IsOk (all_checked stock (looked packages)))
 
 -- a refusal by what stands at the folder beforehand; or one entry, at an index file that has come
 -- meanwhile

@@ -1,6 +1,6 @@
 -- Whether a package can be put into a registry: the refusals of a table, in its order (this
 -- project).
-use Rattle.std.specs.Prelude.{ℕ, List, [], ◌∷◌, length, map, filter, bytes_eq, nat_lt, Bool, true, false, Option, Some, None, Result, Ok, Err, if◌then◌else◌}
+use Rattle.std.specs.Prelude.{◌≡◌, ℕ, List, [], ◌∷◌, ◌++◌, length, map, filter, bytes_eq, nat_lt, Bool, true, false, Option, Some, None, Result, Ok, Err, if◌then◌else◌}
 use Rattle.sha2.specs.Sha256.{sha256}
 use Rattle.tame_names.specs.Names.{path}
 use Rattle.tame_names.specs.Paths.{join}
@@ -141,6 +141,26 @@ all_checked s [] = Ok []
 all_checked s (p ∷ ps) =
     and_then (λ c. and_then (λ cs. Ok (c ∷ cs)) (all_checked s ps)) (checked s p.0 p.1)
 
+-- ---- where the checks end
+
+-- a package stands at a place among these, and all in front of it were checked
+pub record IsReached (s : Stock) (ps : List (ℕ × Package)) (place : ℕ) (p : Package)
+    : Type 0 where
+  pub front : List (ℕ × Package)
+  pub behind : List (ℕ × Package)
+  pub among : ps ≡ front ++ (place, p) ∷ behind
+  pub before : List Checked
+  pub are_checked : all_checked s front ≡ Ok before
+
+-- where a call failed: at the package whose entry couldn't be read, or at one whose crate file, the
+-- one at this path, couldn't
+abbrev pub IsStopped : Stock → List (ℕ × Package) → VendorFault → Type 0
+IsStopped s ps (fault.Store place) = (p : Package) × IsReached s ps place p
+IsStopped s ps (fault.File at) =
+    (place : ℕ) × (p : Package) × IsReached s ps place p
+    × (at ≡ crate_path s.crates p.name p.version)
+IsStopped s ps e = Unit {0}
+
 -- ---- refusals
 
 -- what a refusal says of a package; a call that failed and want of memory say nothing
@@ -153,6 +173,11 @@ is_of_package (fault.NoCrate place) = true
 is_of_package (fault.TooLarge place len) = true
 is_of_package (fault.Digest place found) = true
 is_of_package e = false
+
+-- a refusal that comes before anything is written: of a package, or of its entry that can't be read
+abbrev pub is_of_checks : VendorFault → Bool
+is_of_checks (fault.Store place) = true
+is_of_checks e = is_of_package e
 
 -- the refusals of the checks: those of packages, calls that failed, and want of memory
 abbrev pub IsCheckFault : VendorFault → Type 0

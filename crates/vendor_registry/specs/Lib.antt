@@ -4,3 +4,4 @@ pub mod Failed
 pub mod Looked
 pub mod Named
 pub mod Vendored
+pub mod Grouped

@@ -1,8 +1,12 @@
 -- Which packages of a lockfile a registry is made of (this project).
 use Rattle.std.specs.Prelude.{◌≡◌, ◌≤◌, ℕ, ◌+◌, List, [], ◌∷◌, Bool, true, false, ◌==◌, ◌&&◌, bytes_eq, filter, Option, Some, None}
 use Rattle.std.specs.List.{AllByRecursion, enumerate_from, list_any, position_from, slice_get}
+use Rattle.std.specs.declared.cmp.Ordering.{Ordering}
+use Rattle.std.specs.Ordering.{nat_cmp, ordering_then}
+use Rattle.std.specs.Cmp.Lexicographic.{slice_cmp}
 use Rattle.audit_core.specs.Paths.{is_default}
 use Rattle.audit_lock.specs.declared.resolving.Package.{Package}
+use Rattle.vendor_registry.specs.declared.looking.Pair.{Pair}
 
 -- a package of the default registry with the name and the version of another, by their bytes
 abbrev pub stands_for : Package → Package → Bool
@@ -25,6 +29,24 @@ is_looked packages p = is_default p.1 && is_place p.0 (first_place packages p.1)
 -- registry, each pair of name and version once
 abbrev pub looked : List Package → List (ℕ × Package)
 looked packages = filter (is_looked packages) (enumerate_from 0 packages)
+
+-- ---- the pairs so far
+
+abbrev pub pair_of : List ℕ → List ℕ → Pair
+pair_of name version = record { name = name; version = version }
+
+-- by name, and then by version
+abbrev pub pair_cmp : Pair → Pair → Ordering
+pair_cmp a b =
+    ordering_then (slice_cmp nat_cmp a.name b.name) (slice_cmp nat_cmp a.version b.version)
+
+-- the pair of a package
+abbrev pub is_pair : Package → Pair → Bool
+is_pair p pair = bytes_eq pair.name p.name && bytes_eq pair.version p.version
+
+-- these are the pairs of the packages of the default registry among those in front
+abbrev pub HasPairs : List Pair → List Package → Type 0
+HasPairs pairs front = (p : Package) → list_any (is_pair p) pairs ≡ list_any (stands_for p) front
 
 -- ---- which packages these are
 

@@ -12,9 +12,11 @@ ghost use Rattle.vendor_registry.specs.Built.{AreFilled, IsBeginFault, IsBuildFa
 ghost use Rattle.vendor_registry.specs.Failed.{AddsFailed};
 ghost use Rattle.vendor_registry.specs.Named.{ArePathed};
 ghost use Rattle.vendor_registry.specs.Vendored.{on, paths_of};
-ghost use Rattle.audit_core.specs.Paths as spec;
+ghost use Rattle.vendor_registry.specs.Grouped.{AreGroups};
+ghost use Rattle.vendor_registry.specs.declared.checks.Checked.{Checked};
 
 use crate::checks::Checked;
+use crate::grouping::{Groups, distinct_paths, group_on, grouped};
 use std::alloc::Global;
 use tame_local::{LocalRegistry, LocalRegistryBuilder, ValidKrate};
 use tame_names::{Error, Files, IoKind, Items, MemSink, NoMemory, Text};
@@ -141,24 +143,38 @@ fn insert_path<F: Files>(
     }
 }
 
-/// The paths of what was checked, each once.
-fn distinct_paths(alloc: Global, checked: &[Checked]) -> Result<Items<Text>, NoMemory>
-    ensures { IfOk result (λ paths. paths ≡ paths_of checked.now) }
+/// Puts the group of a path into a registry. Answers the number of bytes written, at most 2^64 - 1.
+fn insert_group<F: Files>(
+    alloc: Global,
+    builder: &LocalRegistryBuilder,
+    groups: &Groups,
+    path: &str,
+    files: &mut F,
+) -> Result<u64, VendorFault>
+    ensures made { F.tells → (cs : List Checked) → AreGroups cs groups.now → ArePathed cs
+        → OnOk result (F.host files.new
+        ≡ after (path_made builder.now.path path.now (on path.now cs)) (F.host files.old)) }
+    ensures begun { F.tells → (cs : List Checked) → AreGroups cs groups.now → ArePathed cs
+        → OnErr result (AreBegun (path_made builder.now.path path.now (on path.now cs))
+        (F.host files.old) (F.host files.new)) }
+    ensures filled { F.tells → (cs : List Checked) → AreGroups cs groups.now → ArePathed cs
+        → OnOk result (IsFilled
+        builder.now.path path.now (on path.now cs) (F.host files.old)) }
+    ensures count { (cs : List Checked) → AreGroups cs groups.now → ArePathed cs
+        → IfOk result (λ n. n ≡ min (size_of
+        (path_made builder.now.path path.now (on path.now cs))) (2 ^ 64 - 1)) }
+    ensures only { IfErr result IsInsertFault }
+    ensures occupied { F.tells → (n : ℕ) → result ≡ Err (VendorFault.NotEmpty n) → n ≡ 1 }
+    ensures taken { F.tells → (cs : List Checked) → AreGroups cs groups.now → ArePathed cs
+        → (n : ℕ) → result ≡ Err (VendorFault.NotEmpty n)
+        → is_nothing ((F.host files.old).stands
+        (paths_spec.join (index_of builder.now.path) path.now)) ≡ false }
+    ensures file { (at : List ℕ) → result ≡ Err (VendorFault.File at)
+        → CountRose (F.faults files.old) (F.faults files.new) }
+    ensures later { F.faults files.old ≤ F.faults files.new }
+    ensures failed { F.tells → AddsFailed (F.failed files.old) (F.failed files.new) result }
 {
-    let mut paths = Items::new(alloc);
-    for one in checked {
-        if !is_among(&one.path, &paths) {
-            paths.add(one.path.try_clone(alloc)?)?;
-        }
-    }
-    Ok(paths)
-}
-
-/// Whether a path is among paths.
-fn is_among(path: &Text, paths: &Items<Text>) -> bool
-    ensures { result ≡ spec.is_among path.now paths.now }
-{
-    paths.iter().any(|other| other.as_str() == path.as_str())
+    insert_path(alloc, builder, path, group_on(groups, path), files)
 }
 
 /// Puts what was checked on these paths into a registry, one after the other. Answers the number of
@@ -167,23 +183,25 @@ fn insert_paths<F: Files>(
     alloc: Global,
     builder: &LocalRegistryBuilder,
     paths: &[Text],
-    checked: &[Checked],
+    groups: &Groups,
     files: &mut F,
 ) -> Result<u64, VendorFault>
-    ensures made { F.tells → ArePathed checked.now → OnOk result (F.host files.new
-        ≡ after (paths_made builder.now.path checked.now paths.now) (F.host files.old)) }
-    ensures begun { F.tells → ArePathed checked.now → OnErr result (AreBegun
-        (paths_made builder.now.path checked.now paths.now)
+    ensures made { F.tells → (cs : List Checked) → AreGroups cs groups.now → ArePathed cs
+        → OnOk result (F.host files.new
+        ≡ after (paths_made builder.now.path cs paths.now) (F.host files.old)) }
+    ensures begun { F.tells → (cs : List Checked) → AreGroups cs groups.now → ArePathed cs
+        → OnErr result (AreBegun (paths_made builder.now.path cs paths.now)
         (F.host files.old) (F.host files.new)) }
-    ensures filled { F.tells → ArePathed checked.now → OnOk result (AreFilled
-        builder.now.path checked.now paths.now (F.host files.old)) }
-    ensures count { ArePathed checked.now → IfOk result (λ n. n ≡ min (size_of
-        (paths_made builder.now.path checked.now paths.now)) (2 ^ 64 - 1)) }
+    ensures filled { F.tells → (cs : List Checked) → AreGroups cs groups.now → ArePathed cs
+        → OnOk result (AreFilled builder.now.path cs paths.now (F.host files.old)) }
+    ensures count { (cs : List Checked) → AreGroups cs groups.now → ArePathed cs
+        → IfOk result (λ n. n ≡ min (size_of
+        (paths_made builder.now.path cs paths.now)) (2 ^ 64 - 1)) }
     ensures only { IfErr result IsInsertFault }
     ensures occupied { F.tells → (n : ℕ) → result ≡ Err (VendorFault.NotEmpty n) → n ≡ 1 }
-    ensures taken { F.tells → ArePathed checked.now → (n : ℕ)
-        → result ≡ Err (VendorFault.NotEmpty n)
-        → IsTaken builder.now.path checked.now paths.now (F.host files.old) }
+    ensures taken { F.tells → (cs : List Checked) → AreGroups cs groups.now → ArePathed cs
+        → (n : ℕ) → result ≡ Err (VendorFault.NotEmpty n)
+        → IsTaken builder.now.path cs paths.now (F.host files.old) }
     ensures file { (at : List ℕ) → result ≡ Err (VendorFault.File at)
         → CountRose (F.faults files.old) (F.faults files.new) }
     ensures later { F.faults files.old ≤ F.faults files.new }
@@ -191,7 +209,7 @@ fn insert_paths<F: Files>(
 {
     let mut written: u64 = 0;
     for path in paths {
-        match insert_path(alloc, builder, path.as_str(), checked, files) {
+        match insert_group(alloc, builder, groups, path.as_str(), files) {
             Ok(count) => written = written.saturating_add(count),
             Err(fault) => return Err(fault),
         }
@@ -250,30 +268,30 @@ pub struct Built {
 pub fn build<F: Files>(
     alloc: Global,
     to: Text,
-    checked: &[Checked],
+    checked: Items<Checked>,
     files: &mut F,
 ) -> Result<Built, VendorFault>
-    ensures made { F.tells → ArePathed checked.now → OnOk result (F.host files.new
-        ≡ after (all_made to checked.now) (F.host files.old)) }
-    ensures count { ArePathed checked.now → IfOk result (λ built. built.bytes
-        ≡ min (size_of (all_made to checked.now)) (2 ^ 64 - 1)) }
+    ensures made { F.tells → ArePathed checked → OnOk result (F.host files.new
+        ≡ after (all_made to checked) (F.host files.old)) }
+    ensures count { ArePathed checked → IfOk result (λ built. built.bytes
+        ≡ min (size_of (all_made to checked)) (2 ^ 64 - 1)) }
     ensures opened { F.tells → IfOk result (λ built.
         registry_at (F.host files.new) to true ≡ Ok built.registry.index.path) }
     ensures free { F.tells → OnOk result
         (free_fault ((F.host files.old).stands to) ≡ None) }
-    ensures begun { F.tells → ArePathed checked.now → OnErr result (AreBegun
-        (all_made to checked.now) (F.host files.old) (F.host files.new)) }
+    ensures begun { F.tells → ArePathed checked → OnErr result (AreBegun
+        (all_made to checked) (F.host files.old) (F.host files.new)) }
     ensures occupied { F.tells → IfErr result
         (IsOccupied ((F.host files.old).stands to)) }
-    ensures taken { F.tells → ArePathed checked.now → (n : ℕ)
+    ensures taken { F.tells → ArePathed checked → (n : ℕ)
         → result ≡ Err (VendorFault.NotEmpty n)
-        → free_fault ((F.host files.old).stands to) ≡ None → IsTaken to checked.now
-        (paths_of checked.now) (after_change (created to) (F.host files.old)) }
+        → free_fault ((F.host files.old).stands to) ≡ None → IsTaken to checked
+        (paths_of checked) (after_change (created to) (F.host files.old)) }
     ensures unmade { F.tells → IfErr result (λ e.
         free_fault ((F.host files.old).stands to) ≡ Some e
         → F.host files.new ≡ F.host files.old) }
     ensures read_back { F.tells → (why : Error) → result ≡ Err (VendorFault.ReadBack why)
-        → IsReadBack to checked.now (F.host files.old) (F.host files.new) why }
+        → IsReadBack to checked (F.host files.old) (F.host files.new) why }
     ensures only { IfErr result IsBuildFault }
     ensures file { (at : List ℕ) → result ≡ Err (VendorFault.File at)
         → CountRose (F.faults files.old) (F.faults files.new) }
@@ -281,8 +299,9 @@ pub fn build<F: Files>(
     ensures failed { F.tells → AddsFailed (F.failed files.old) (F.failed files.new) result }
 {
     let builder = begin(alloc, to, files)?;
-    let paths = distinct_paths(alloc, checked)?;
-    let bytes = insert_paths(alloc, &builder, paths.as_slice(), checked, files)?;
+    let paths = distinct_paths(alloc, checked.as_slice())?;
+    let groups = grouped(alloc, checked)?;
+    let bytes = insert_paths(alloc, &builder, paths.as_slice(), &groups, files)?;
     match builder.finalize(alloc, files, true) {
         Ok(registry) => Ok(Built { registry, bytes }),
         Err(Error::IoPath(IoKind::Failed, path)) => Err(VendorFault::File { path }),

@@ -286,9 +286,10 @@ pub fn check_package<F: Files, D: CacheDisk>(
     ensures text { IfOk result (λ c. IsUtf8 c.version.name) }
     ensures only { IfErr result IsCheckFault }
     ensures store { (at : ℕ) → result ≡ Err (VendorFault.Store at)
-        → CountRose (D.faults disk.old) (D.faults disk.new) }
+        → (at ≡ place) × CountRose (D.faults disk.old) (D.faults disk.new) }
     ensures file { (path : List ℕ) → result ≡ Err (VendorFault.File path)
-        → CountRose (F.faults files.old) (F.faults files.new) }
+        → (path ≡ spec.crate_path crates.now locked.now.name locked.now.version)
+        × CountRose (F.faults files.old) (F.faults files.new) }
     ensures disk_later { D.faults disk.old ≤ D.faults disk.new }
     ensures files_later { F.faults files.old ≤ F.faults files.new }
     ensures failed { F.tells → AddsFailed (F.failed files.old) (F.failed files.new) result }

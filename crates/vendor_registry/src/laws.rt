@@ -1,10 +1,28 @@
 //! Laws of the definitions that contracts cite.
-ghost use Rattle.std.specs.Prelude.{List};
+ghost use Rattle.std.specs.Prelude.{◌≡◌, ℕ, List, Ok};
+ghost use Rattle.tame_names.specs.MemoryFiles.{host_in};
+ghost use Rattle.tame_names.specs.declared.memory_files.MemFiles.{MemFiles};
+ghost use Rattle.tame_local.specs.Inserts.{StandsPlain};
+ghost use Rattle.audit_lock.specs.Locked.{locked};
 ghost use Rattle.audit_lock.specs.declared.resolving.Package.{Package};
 ghost use Rattle.vendor_registry.specs.Looked.{AreEachPair, looked};
+ghost use Rattle.vendor_registry.specs.Named.{AreVersioned};
 
 /// The packages that a registry is made of are those of the default registry, in the lockfile's
 /// order, each pair of name and version once: none is left out, and none comes twice.
 pub fn each_pair_is_looked_at_once()
     ensures { (packages : List Package) → AreEachPair packages (looked packages) }
+{}
+
+/// Each package of a lockfile has a version of SemVer, as the clause that what was built agrees
+/// with its index asks for.
+pub fn packages_of_lockfiles_are_versioned()
+    ensures { (text : List ℕ) (packages : List Package) → locked text ≡ Ok packages
+        → AreVersioned packages }
+{}
+
+/// On a host in memory the same stands at paths that differ by slashes at their ends, as the
+/// clauses on what was built ask for.
+pub fn hosts_in_memory_stand_plain()
+    ensures { (files : MemFiles) → StandsPlain (host_in files).stands }
 {}

@@ -14,10 +14,13 @@
 
 mod building;
 mod checks;
+mod grouping;
 mod laws;
 mod looking;
 mod vendoring;
 
-pub use laws::each_pair_is_looked_at_once;
+pub use laws::{
+    each_pair_is_looked_at_once, hosts_in_memory_stand_plain, packages_of_lockfiles_are_versioned,
+};
 pub use vendor_faults::VendorFault;
 pub use vendoring::{Vendored, vendor};

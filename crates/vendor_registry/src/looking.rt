@@ -1,53 +1,56 @@
 //! The packages of a lockfile that a registry is made of, each checked whole before the next.
-ghost use Rattle.std.specs.Prelude.{◌≡◌, ◌≤◌, ℕ, List, Ok, Err, IfOk, IfErr, IsTrue};
+ghost use Rattle.std.specs.Prelude.{◌≡◌, ◌≤◌, ◌++◌, ◌∷◌, [], ◌&&◌, not, ℕ, List, Ok, Err, IfOk, IfErr, OnOk, IsTrue};
+ghost use Rattle.std.specs.List.{list_any};
 ghost use Rattle.tame_names.specs.Counts.{CountRose};
-ghost use Rattle.vendor_registry.specs.Checks.{IsCheckFault, all_checked, is_of_package, stock_of};
+ghost use Rattle.vendor_registry.specs.Checks.{IsCheckFault, IsStopped, all_checked, is_of_package, stock_of};
 ghost use Rattle.audit_core.specs.Paths as paths_spec;
 ghost use Rattle.vendor_registry.specs.Failed.{AddsFailed};
-ghost use Rattle.vendor_registry.specs.Looked.{looked};
+ghost use Rattle.audit_lock.specs.declared.resolving.Package.{Package};
+ghost use Rattle.vendor_registry.specs.Looked.{HasPairs, looked, stands_for};
 ghost use Rattle.vendor_registry.specs.Looked as spec;
 ghost use Rattle.vendor_registry.specs.Named.{AreTexts};
 
 use crate::checks::{Checked, check_package};
-use audit_lock::{Package, is_default_registry};
+use audit_core::is_default;
+use audit_lock::Package;
 use std::alloc::Global;
+use std::collections::BTreeSet;
 use tame_cache::CacheDisk;
-use tame_names::{FileLock, Files, Items};
+use tame_names::{FileLock, Files, Items, NoMemory, Text};
 use tame_sparse::SparseIndex;
 use vendor_faults::VendorFault;
 
-/// Whether a package is of the default registry.
-fn is_default(locked: &Package) -> bool
-    ensures { result ≡ paths_spec.is_default locked.now }
+/// The name and the version of a package.
+#[derive(Debug, Drop, PartialEq, Eq, PartialOrd, Ord)]
+pub struct Pair {
+    pub name: Text,
+    pub version: Text,
+}
+
+/// The pair of a package.
+fn pair_of(alloc: Global, locked: &Package) -> Result<Pair, NoMemory>
+    ensures { IfOk result (λ pair. pair ≡ spec.pair_of locked.now.name locked.now.version) }
 {
-    match &locked.source {
-        None => false,
-        Some(source) => is_default_registry(source.as_str()),
+    let name = locked.name.try_clone(alloc)?;
+    let version = locked.version.try_clone(alloc)?;
+    Ok(Pair { name, version })
+}
+
+/// Whether a package is of the default registry and the first with its name and version, behind
+/// packages whose pairs are these; its pair is one of them from now on.
+fn is_first(alloc: Global, pairs: &mut BTreeSet<Pair>, locked: &Package) -> Result<bool, NoMemory>
+    ensures first { (front : List Package) → HasPairs pairs.old.keys front
+        → IfOk result (λ first. first
+        ≡ (paths_spec.is_default locked.now && not (list_any (stands_for locked.now) front))) }
+    ensures pairs { (front : List Package) → HasPairs pairs.old.keys front
+        → OnOk result (HasPairs pairs.new.keys (front ++ locked.now ∷ [])) }
+{
+    if !is_default(locked) {
+        return Ok(false);
     }
-}
-
-/// Whether a package is of the default registry and has the name and the version of another.
-fn stands_for(locked: &Package, other: &Package) -> bool
-    ensures { result ≡ spec.stands_for locked.now other.now }
-{
-    is_default(other)
-        && other.name.as_str() == locked.name.as_str()
-        && other.version.as_str() == locked.version.as_str()
-}
-
-/// The first place of a package of the default registry with the name and the version of another.
-fn first_place(packages: &[Package], locked: &Package) -> Option<usize>
-    ensures { result ≡ spec.first_place packages.now locked.now }
-{
-    packages.iter().position(|other| stands_for(locked, other))
-}
-
-/// Whether the package at a place is of the default registry and the first with its name and
-/// version.
-fn is_looked(packages: &[Package], place: usize, locked: &Package) -> bool
-    ensures { result ≡ spec.is_looked packages.now (place, locked.now) }
-{
-    is_default(locked) && first_place(packages, locked) == Some(place)
+    let pair = pair_of(alloc, locked)?;
+    let first = pairs.insert(pair)?;
+    Ok(first)
 }
 
 /// Checks the packages of the default registry in their order, each pair of name and version once
@@ -68,6 +71,9 @@ pub fn check_packages<F: Files, D: CacheDisk>(
     ensures refused { F.tells → D.tells → IfErr result (λ e. IsTrue (is_of_package e)
         → all_checked (stock_of (D.past disk.old) index.now (F.host files.old) crates.now)
         (looked packages.now) ≡ Err e) }
+    ensures stopped { F.tells → D.tells → IfErr result (IsStopped
+        (stock_of (D.past disk.old) index.now (F.host files.old) crates.now)
+        (looked packages.now)) }
     ensures texts { IfOk result AreTexts }
     ensures only { IfErr result IsCheckFault }
     ensures store { (at : ℕ) → result ≡ Err (VendorFault.Store at)
@@ -82,8 +88,10 @@ pub fn check_packages<F: Files, D: CacheDisk>(
     ensures files_same { F.tells → F.host files.new ≡ F.host files.old }
 {
     let mut checked = Items::new(alloc);
+    let mut pairs = BTreeSet::new(alloc);
     for (place, locked) in packages.iter().enumerate() {
-        if is_looked(packages, place, locked) {
+        let first = is_first(alloc, &mut pairs, locked)?;
+        if first {
             match check_package(alloc, index, crates, place, locked, files, lock, disk) {
                 Ok(one) => checked.add(one)?,
                 Err(fault) => return Err(fault),

@@ -5,8 +5,8 @@ ghost use Rattle.tame_local.specs.Inserts.{StandsPlain};
 ghost use Rattle.tame_local.specs.Refusals.{refused as refused_by};
 ghost use Rattle.tame_local.specs.Registries.{registry_at};
 ghost use Rattle.tame_names.specs.declared.errors.Error.{Error};
-ghost use Rattle.vendor_registry.specs.Built.{IsBuilt, IsOccupied, IsUnfinished, free_fault, is_behind};
-ghost use Rattle.vendor_registry.specs.Checks.{all_checked, is_of_package, stock_of};
+ghost use Rattle.vendor_registry.specs.Built.{IsBuilt, IsOccupied, IsStoppedBy, IsTakenFor, IsUnfinished, free_fault, is_behind};
+ghost use Rattle.vendor_registry.specs.Checks.{all_checked, is_of_checks, is_of_package, stock_of};
 ghost use Rattle.vendor_registry.specs.Failed.{AddsFailed};
 ghost use Rattle.vendor_registry.specs.Looked.{looked};
 ghost use Rattle.vendor_registry.specs.Named.{AreVersioned, IsFolderPath};
@@ -64,8 +64,12 @@ pub fn vendor<F: Files, D: CacheDisk>(
     ensures refused { F.tells → D.tells → IfErr result (λ e. IsTrue (is_of_package e)
         → all_checked (stock_of (D.past disk.old) index.now (F.host files.old) crates.now)
         (looked audited.now.lockfile) ≡ Err e) }
-    ensures unwritten { F.tells → IfErr result (λ e. IsTrue (is_of_package e)
+    ensures unwritten { F.tells → IfErr result (λ e. IsTrue (is_of_checks e)
         → F.host files.new ≡ F.host files.old) }
+    // a call failed at the first package that wasn't checked, or once all were
+    ensures stopped { F.tells → D.tells → IfErr result (IsStoppedBy
+        (stock_of (D.past disk.old) index.now (F.host files.old) crates.now)
+        audited.now.lockfile) }
     // the folder is refused by what stands there, once all packages were checked
     ensures behind { F.tells → D.tells → IfErr result (λ e. IsTrue (is_behind e)
         → IsOk (all_checked (stock_of (D.past disk.old) index.now (F.host files.old) crates.now)
@@ -75,6 +79,10 @@ pub fn vendor<F: Files, D: CacheDisk>(
     ensures not_empty { F.tells → D.tells → IsBare (F.host files.old) to → (n : ℕ)
         → result ≡ Err (VendorFault.NotEmpty n)
         → free_fault ((F.host files.old).stands to) ≡ Some (VendorFault.NotEmpty n) }
+    ensures taken { F.tells → D.tells → (n : ℕ) → result ≡ Err (VendorFault.NotEmpty n)
+        → free_fault ((F.host files.old).stands to) ≡ None → IsTakenFor
+        (stock_of (D.past disk.old) index.now (F.host files.old) crates.now)
+        audited.now.lockfile to (F.host files.old) }
     ensures free { F.tells → OnOk result (free_fault ((F.host files.old).stands to) ≡ None) }
     // refused by it, nothing was written; any other refusal leaves changes begun in their order
     ensures unmade { F.tells → IfErr result (λ e.
@@ -102,10 +110,11 @@ pub fn vendor<F: Files, D: CacheDisk>(
 {
     let packages = audited.lockfile.packages();
     let checked = check_packages(alloc, packages, index, crates, files, lock, disk)?;
-    let built = build(alloc, to, checked.as_slice(), files)?;
+    let count = checked.len();
+    let built = build(alloc, to, checked, files)?;
     Ok(Vendored {
         registry: built.registry,
-        packages: checked.len(),
+        packages: count,
         bytes: built.bytes,
     })
 }

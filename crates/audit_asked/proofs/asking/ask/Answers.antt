@@ -21,6 +21,11 @@ returns-in_err-config-clause-start_cause g c =
     let is : c.from_residual.result ≡ Err c.in_err-config.field-0.0 = first_of (search rules, grind (arith, common_steps)) in
     rw is (quiet_cause _ _ (Err c.in_err-config.field-0.0) (omega arith) c.in_err-config.ensures.only)
 
+pub returns-in_err-place-clause-only : goal.returns-in_err-place-clause-only
+returns-in_err-place-clause-only g c =
+    let is : c.from_residual-in_err-place.result ≡ Err c.in_err-place.field-0.0 = first_of (search rules, grind (arith, common_steps)) in
+    rw is (c.in_err-place.ensures.only (option_map (λ path. path.now) c.args.named))
+
 pub returns-in_err-place-clause-failed : goal.returns-in_err-place-clause-failed
 returns-in_err-place-clause-failed g c = λ told.
     let is : c.from_residual-in_err-place.result ≡ Err c.in_err-place.field-0.0 = first_of (search rules, grind (arith, common_steps)) in
@@ -32,7 +37,7 @@ pub returns-clause-started : goal.returns-clause-started
 returns-clause-started g c = λ told told_starts.
     let h : RunStartsWhere (is_to_generate c.args.command.now.file (g.F.Files.host c.args.files.now)) (g.R.Runner.starts c.args.runner.now) (g.R.Runner.starts c.place.new.runner) (Ok c.in_ok-place.place) =
     rw (c.path_of.ensures, c.in_ok-config.ensures.same told) at (c.in_ok-place.ensures.started told told_starts) in
-    rw (c.in_ok-config.ensures.ok told) (late _ _ _ c.in_ok-place.place c.texts.result c.texts.ensures.only h)
+    rw (c.in_ok-config.ensures.ok told) (late (option_map (λ path. path.now) c.args.named) _ _ _ c.in_ok-place.place c.texts.result c.texts.ensures.only h)
 
 pub returns-clause-failed : goal.returns-clause-failed
 returns-clause-failed g c = λ told.

@@ -69,7 +69,7 @@ returns-in-Ok-clause-cause g c =
 pub returns-in-Err-clause-cause : goal.returns-in-Err-clause-cause
 returns-in-Err-clause-cause g c =
     refused_cause g.F.Files.tells c.args.task.now (g.F.Files.host c.args.files.now) c.in-Err.fault c.failed.result.fault c.failed.ensures.fault
-    (record { gives = λ told. rw c.baseline.ensures at (c.in-Err.ensures.gives told).refused; only = c.in-Err.ensures.only })
+    (record { gives = λ told. rw c.baseline.ensures at (c.in-Err.ensures.gives told).refused; only = rw c.baseline.ensures at c.in-Err.ensures.only })
 
 pub returns-in-Ok-clause-files_same : goal.returns-in-Ok-clause-files_same
 returns-in-Ok-clause-files_same g c told unwritten = rw (c.run_given.ensures.unwritten told unwritten) (c.in-Ok.ensures.same told)
@@ -108,7 +108,7 @@ returns-in-Err-clause-started g c told_files told =
 
 pub returns-in-Err-clause-failed : goal.returns-in-Err-clause-failed
 returns-in-Err-clause-failed g c told =
-    calls_asked c.args.task.now (g.F.Files.host c.args.files.now) _ _ c.in-Err.fault c.failed.result.fault c.failed.ensures.fault c.in-Err.ensures.only (rw c.baseline.ensures at (c.in-Err.ensures.failed told))
+    calls_asked _ c.args.task.now (g.F.Files.host c.args.files.now) _ _ c.in-Err.fault c.failed.result.fault c.failed.ensures.fault c.in-Err.ensures.only (rw c.baseline.ensures at (c.in-Err.ensures.failed told))
 
 pub returns-in-Ok-clause-failed : goal.returns-in-Ok-clause-failed
 returns-in-Ok-clause-failed g c told =
@@ -116,7 +116,7 @@ returns-in-Ok-clause-failed g c told =
 
 pub returns-in-Err-clause-one_start : goal.returns-in-Err-clause-one_start
 returns-in-Err-clause-one_start g c failed is =
-    if_none c.failed.result.audited _ (asked_one c.in-Err.fault c.failed.result.fault failed c.failed.ensures.fault c.in-Err.ensures.only is)
+    if_none c.failed.result.audited _ (asked_one _ c.in-Err.fault c.failed.result.fault failed c.failed.ensures.fault c.in-Err.ensures.only is)
 
 pub returns-in-Err-clause-kept : goal.returns-in-Err-clause-kept
 returns-in-Err-clause-kept g c told_wire told = keeps_nothing (g.W.Wire.exchanges c.args.wire.now) (g.W.Wire.exchanges c.args.wire.now) (g.D.CacheDisk.past c.args.disk.now)

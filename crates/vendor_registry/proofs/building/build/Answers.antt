@@ -19,43 +19,47 @@ returns-in_err-builder-clause-taken g c = λ told pathed n is free.
 
 pub returns-in_err-paths-clause-begun : goal.returns-in_err-paths-clause-begun
 returns-in_err-paths-clause-begun g c = λ told pathed.
-    on_err _ _ (created_begun c.args.to c.args.checked.now (g.F.Files.host c.args.files.now) _ (c.in_ok-builder.ensures.made told))
+    on_err _ _ (created_begun c.args.to c.args.checked (g.F.Files.host c.args.files.now) _ (c.in_ok-builder.ensures.made told))
+
+pub returns-in_err-groups-clause-begun : goal.returns-in_err-groups-clause-begun
+returns-in_err-groups-clause-begun g c = λ told pathed.
+    on_err _ _ (created_begun c.args.to c.args.checked (g.F.Files.host c.args.files.now) _ (c.in_ok-builder.ensures.made told))
 
 pub returns-in-Err-IoPath-Failed-default-clause-begun : goal.returns-in-Err-IoPath-Failed-default-clause-begun
 returns-in-Err-IoPath-Failed-default-clause-begun g c = λ told pathed.
     let to : List ℕ = c.args.to in
-    let cs : List Checked = c.args.checked.now in
+    let cs : List Checked = c.args.checked in
     let old : Host = g.F.Files.host c.args.files.now in
     let mid : Host = g.F.Files.host c.begin.new.files in
-    let paths = c.as_slice.ensures ∙ c.in_ok-paths.ensures in
+    let paths = c.as_slice-2.ensures ∙ c.in_ok-paths.ensures ∙ ap (λ (xs : List Checked). paths_of xs) c.as_slice.ensures in
     whole_begun to cs old (g.F.Files.host c.finalize.new.files)
-    (c.in-Err-IoPath-Failed-default.ensures.same told ∙ c.in_ok-bytes.ensures.made told pathed
-    ∙ ap (λ (f : List ℕ). after (paths_made f cs c.as_slice.result.now) mid) c.in_ok-builder.ensures.path
+    (c.in-Err-IoPath-Failed-default.ensures.same told ∙ c.in_ok-bytes.ensures.made told cs c.in_ok-groups.ensures pathed
+    ∙ ap (λ (f : List ℕ). after (paths_made f cs c.as_slice-2.result.now) mid) c.in_ok-builder.ensures.path
     ∙ ap (λ (ps : List (List ℕ)). after (paths_made to cs ps) mid) paths
     ∙ ap (after (paths_made to cs (paths_of cs))) (c.in_ok-builder.ensures.made told))
 
 pub returns-in-Err-NoMemory-clause-begun : goal.returns-in-Err-NoMemory-clause-begun
 returns-in-Err-NoMemory-clause-begun g c = λ told pathed.
     let to : List ℕ = c.args.to in
-    let cs : List Checked = c.args.checked.now in
+    let cs : List Checked = c.args.checked in
     let old : Host = g.F.Files.host c.args.files.now in
     let mid : Host = g.F.Files.host c.begin.new.files in
-    let paths = c.as_slice.ensures ∙ c.in_ok-paths.ensures in
+    let paths = c.as_slice-2.ensures ∙ c.in_ok-paths.ensures ∙ ap (λ (xs : List Checked). paths_of xs) c.as_slice.ensures in
     whole_begun to cs old (g.F.Files.host c.finalize.new.files)
-    (c.in-Err-NoMemory.ensures.same told ∙ c.in_ok-bytes.ensures.made told pathed
-    ∙ ap (λ (f : List ℕ). after (paths_made f cs c.as_slice.result.now) mid) c.in_ok-builder.ensures.path
+    (c.in-Err-NoMemory.ensures.same told ∙ c.in_ok-bytes.ensures.made told cs c.in_ok-groups.ensures pathed
+    ∙ ap (λ (f : List ℕ). after (paths_made f cs c.as_slice-2.result.now) mid) c.in_ok-builder.ensures.path
     ∙ ap (λ (ps : List (List ℕ)). after (paths_made to cs ps) mid) paths
     ∙ ap (after (paths_made to cs (paths_of cs))) (c.in_ok-builder.ensures.made told))
 
 pub returns-clause-begun : goal.returns-clause-begun
 returns-clause-begun g c = λ told pathed.
     let to : List ℕ = c.args.to in
-    let cs : List Checked = c.args.checked.now in
+    let cs : List Checked = c.args.checked in
     let old : Host = g.F.Files.host c.args.files.now in
     let mid : Host = g.F.Files.host c.begin.new.files in
-    let paths = c.as_slice.ensures ∙ c.in_ok-paths.ensures in
+    let paths = c.as_slice-2.ensures ∙ c.in_ok-paths.ensures ∙ ap (λ (xs : List Checked). paths_of xs) c.as_slice.ensures in
     whole_begun to cs old (g.F.Files.host c.finalize.new.files)
-    (c.in-Err.ensures.same told ∙ c.in_ok-bytes.ensures.made told pathed
-    ∙ ap (λ (f : List ℕ). after (paths_made f cs c.as_slice.result.now) mid) c.in_ok-builder.ensures.path
+    (c.in-Err.ensures.same told ∙ c.in_ok-bytes.ensures.made told cs c.in_ok-groups.ensures pathed
+    ∙ ap (λ (f : List ℕ). after (paths_made f cs c.as_slice-2.result.now) mid) c.in_ok-builder.ensures.path
     ∙ ap (λ (ps : List (List ℕ)). after (paths_made to cs ps) mid) paths
     ∙ ap (after (paths_made to cs (paths_of cs))) (c.in_ok-builder.ensures.made told))

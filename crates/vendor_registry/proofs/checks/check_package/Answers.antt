@@ -4,6 +4,7 @@ use Rattle.tame_names.specs.KrateNames.{text_of}
 use Rattle.tame_names.specs.Names.{path}
 use Rattle.tame_cache.specs.Kept.{cache_file, cache_file_of}
 use Rattle.vendor_registry.specs.Checks.{Stock, checked, crate_checked, stock_of}
+use Rattle.vendor_registry.proofs.Decided.{crate_read, deciding_text}
 use Rattle.vendor_registry.proofs.Facts.{checked_is, decided_ok, package_ok, package_refused, text_ok}
 use Rattle.vendor_registry.proofs.checks.check_package.Goals as goal
 
@@ -35,3 +36,9 @@ pub returns-clause-text : goal.returns-clause-text
 returns-clause-text g c =
     let same = decided_ok c.args.place c.args.locked.now c.in_ok-records.records c.in_ok-version.version (sym c.in_ok-version.ensures.decided) in
     text_ok c.in_ok-version.version c.as_str.result.now c.check_crate.result c.as_str.utf8 (same.1 ∙ sym c.as_str.ensures) c.check_crate.ensures.version
+
+pub returns-clause-file : goal.returns-clause-file
+returns-clause-file g c = λ at is.
+    let same = decided_ok c.args.place c.args.locked.now c.in_ok-records.records c.in_ok-version.version (sym c.in_ok-version.ensures.decided) in
+    let version = deciding_text c.args.locked.now.version c.in_ok-records.records c.in_ok-version.version same.0 in
+    crate_read c.args.crates.now c.in_ok-version.version c.args.locked.now c.check_crate.result _ same.1 version at is c.check_crate.ensures.settled

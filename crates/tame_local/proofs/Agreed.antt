@@ -1,5 +1,5 @@
 -- A registry whose crate files agree with their index files is opened and validated.
-use Rattle.std.proofs.Common.{◌≡◌, ℕ, List, [], ◌∷◌, ◌++◌, codes, IsUtf8, IsTrue, is_none, Bool, true, false, cond, All, Option, Some, None, Result, Ok, Err, refl, sym, ap, ◌∙◌, inl, inr, subst, lit<}
+use Rattle.std.proofs.Common.{◌≡◌, ℕ, ◌<◌, List, [], ◌∷◌, ◌++◌, length, codes, IsUtf8, IsTrue, is_none, Bool, true, false, cond, All, Option, Some, None, Result, Ok, Err, refl, sym, ap, ◌∙◌, inl, inr, subst, lit<}
 use Rattle.std.specs.Prelude.{unwrap_or}
 use Rattle.std.specs.Cmp.Lexicographic.{slice_cmp}
 use Rattle.std.specs.Ordering.{nat_cmp}
@@ -7,7 +7,7 @@ use Rattle.std.proofs.lemmas.List.Elements.{All-head, All-nil, All-tail}
 use Rattle.std.proofs.lemmas.Map.Views.{All-insert_key}
 use Rattle.tame_names.specs.Changes.{is_folder}
 use Rattle.tame_names.specs.Names.{NameRefusal, is_name, refusal_of, relative_path, separator}
-use Rattle.tame_names.specs.Paths.{begins_with_slash, join}
+use Rattle.tame_names.specs.Paths.{begins_with_slash, ends_with_slash, join}
 use Rattle.tame_names.specs.Standing.{Host, Standing, Nothing, File, Folder, Other}
 use Rattle.tame_names.specs.declared.host.Listed.{Listed}
 use Rattle.tame_local.specs.CrateFiles.{Lacks, crate_file}
@@ -15,10 +15,13 @@ use Rattle.tame_local.specs.Digests.{has_digest}
 use Rattle.tame_local.specs.Inserts.{HasNoCrate, IsEmptyRegistry, StandsPlain}
 use Rattle.tame_local.specs.Refusals.{NoVersion, OtherDigest, Refusal, and_then, or_refusal}
 use Rattle.tame_local.specs.Registries.{bytes_at, crate_file_name, crate_file_names, crates_folder, digest_checked, file_checked, file_if_parts, files_checked, folder_at, index_file, index_of, located_checked, named_unless, records_at, records_in, registry_at, sum_at, sum_in, validated, with_name}
-use Rattle.vendor_registry.proofs.Agreeing.{AllSound, HasFile, IsSound, Sound, file_of}
-use Rattle.vendor_registry.proofs.Dashes.{gives_back}
-use Rattle.vendor_registry.proofs.RegistryPaths.{file_lacks, index_parts, index_path, joined, name_lacks, no_slash, parent_behind}
-use Rattle.vendor_registry.specs.Named.{IsPlace}
+use Rattle.tame_local.proofs.Agreeing.{AllSound, HasFile, IsSound, Sound, file_of}
+use Rattle.tame_local.proofs.Dashes.{gives_back}
+use Rattle.tame_local.proofs.RegistryPaths.{file_lacks, index_parts, index_path, joined, name_lacks, no_slash, parent_behind}
+
+-- a registry's path, which isn't empty and ends with no slash
+abbrev pub IsPlace : List ℕ → Type 0
+IsPlace r = (0 < length r) × (ends_with_slash r ≡ false)
 
 index_is : (r : List ℕ) → IsPlace r → index_of r ≡ r ++ 47 ∷ codes "index"
 index_is r place = joined r (codes "index") place.0 place.1 refl

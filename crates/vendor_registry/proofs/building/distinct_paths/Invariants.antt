@@ -1,9 +1,0 @@
-use Rattle.std.proofs.Common.{◌≡◌, ◌++◌, map, drop}
-use Rattle.audit_core.specs.Paths.{distinct_after}
-use Rattle.vendor_registry.specs.Vendored.{paths_of}
-use Rattle.vendor_registry.proofs.building.distinct_paths.Given as goal
-
--- the paths so far, in front of those that what is left adds
-abbrev pub invariant-loop-one : goal.invariant-loop-one
-invariant-loop-one l =
-    paths_of l.checked ≡ l.paths ++ distinct_after l.paths (map (λ c. c.path) (drop l.one-index l.checked))
