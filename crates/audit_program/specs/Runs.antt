@@ -119,6 +119,9 @@ pub record IsGivenRun (tells : Telling) (task : Task) (given : Asked) (began end
   pub err : tells.err → IsEnded (place_of task.command.file) sinks.err_before
       ((task_output task given audited it).err ++ task_lines task given audited statuses)
       ending.fault sinks.err_now sinks.err_faults sinks.err_faults_now
+  -- no step is started before the whole text for out stands there
+  pub shown : (starts.now ≡ starts.before)
+      ⊎ (tells.out → sinks.out_now ≡ sinks.out_before ++ (task_output task given audited it).out)
   pub is_end : IsEndBy task given audited it ending
 
 -- the audit of a run: what the host has gives what was asked, of which nothing but standard input

@@ -104,3 +104,52 @@ pub fn failed<E: Sink>(
         fault: Some(fault),
     }
 }
+
+/// Ends a run that has done what it was to do.
+pub fn ended(status: u8, audited: Audited, plan: Option<Items<PlanItem>>) -> Outcome
+    ensures { result ≡ record {
+      status = status;
+      audited = Some audited;
+      binaries = None;
+      generated = None;
+      plan = plan;
+      fault = None;
+    } }
+{
+    Outcome {
+        status,
+        audited: Some(audited),
+        binaries: None,
+        generated: None,
+        plan,
+        fault: None,
+    }
+}
+
+/// Ends a run whose audit couldn't be told, or wasn't acted on, as `failed` does.
+pub fn unfinished<E: Sink>(
+    alloc: Global,
+    err: &mut E,
+    place: &str,
+    fault: RunFault,
+    audited: Audited,
+    plan: Option<Items<PlanItem>>,
+) -> Outcome
+    ensures fault { (result.fault ≡ Some fault) ⊎ (result.fault ≡ Some RunFault.NoMemory) }
+    ensures audited { result.audited ≡ Some audited }
+    ensures binaries { result.binaries ≡ None }
+    ensures generated { result.generated ≡ None }
+    ensures plan { result.plan ≡ plan }
+    ensures status { (f : RunFault) → result.fault ≡ Some f → result.status ≡ spec.fault_status f }
+    ensures ended { E.tells → (before text : List ℕ)
+        → IsPutBy before text (Some fault) (E.holds err.old)
+        → IsEnded place.now before text result.fault (E.holds err.new) (E.faults err.old)
+        (E.faults err.new) }
+    ensures put { (before text now : List ℕ) → IsPutBy before text (Some fault) now
+        → IsPutBy before text result.fault now }
+    ensures later { E.faults err.old ≤ E.faults err.new }
+{
+    let mut outcome = failed(alloc, err, place, fault, Some(audited), None);
+    outcome.plan = plan;
+    outcome
+}

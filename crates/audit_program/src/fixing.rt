@@ -119,6 +119,9 @@ pub fn print_and_fix<R: Runner, O: Sink, E: Sink>(
         (R.starts runner.old) (R.starts runner.new)
         (output_of task.now.command.verdicts (shown_on sheet.now) sheet.now.place.now
         sheet.now.audited.now).err (E.holds err.old) (E.holds err.new) (end_of result) }
+    ensures shown { (R.starts runner.new ≡ R.starts runner.old) ⊎ (O.tells → O.holds out.new
+        ≡ O.holds out.old ++ (output_of task.now.command.verdicts (shown_on sheet.now)
+        sheet.now.place.now sheet.now.audited.now).out) }
     ensures status { IfOk result (λ status. status ≡ task_status task.now.remedy
         sheet.now.auditor.now.database sheet.now.audited.now) }
     ensures out_later { O.faults out.old ≤ O.faults out.new }

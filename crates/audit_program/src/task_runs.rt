@@ -26,7 +26,7 @@ ghost use Rattle.vendor_faults.specs.declared.faults.VendorFault.{VendorFault};
 ghost use Rattle.vendor_faults.specs.declared.faults.VendorFault.TheVariants as VendorFault;
 
 use crate::auditing::audit;
-use crate::ending::{Outcome, failed};
+use crate::ending::{Outcome, ended, failed, unfinished};
 use crate::making::make;
 use crate::tasks::Task;
 use crate::telling::finish;
@@ -166,19 +166,8 @@ fn run_given<F: Files, R: Runner, W: Wire, D: CacheDisk, O: Sink, E: Sink>(
         audited: &audited,
     };
     match finish(alloc, task, &sheet, &made, runner, out, err) {
-        Ok(status) => Outcome {
-            status,
-            audited: Some(audited),
-            binaries: None,
-            generated: None,
-            plan: made.into_plan(),
-            fault: None,
-        },
-        Err(fault) => {
-            let mut outcome = failed(alloc, err, task.place(), fault, Some(audited), None);
-            outcome.plan = made.into_plan();
-            outcome
-        }
+        Ok(status) => ended(status, audited, made.into_plan()),
+        Err(fault) => unfinished(alloc, err, task.place(), fault, audited, made.into_plan()),
     }
 }
 

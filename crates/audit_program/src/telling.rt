@@ -110,6 +110,10 @@ pub fn finish<R: Runner, O: Sink, E: Sink>(
         (made_output (output_of task.now.command.verdicts (shown_on sheet.now)
         sheet.now.place.now sheet.now.audited.now) sheet.now.audited.now made.now).err
         (E.holds err.old) (E.holds err.new) (end_of result) }
+    ensures shown { (R.starts runner.new ≡ R.starts runner.old) ⊎ (O.tells → O.holds out.new
+        ≡ O.holds out.old ++ (made_output (output_of task.now.command.verdicts
+        (shown_on sheet.now) sheet.now.place.now sheet.now.audited.now) sheet.now.audited.now
+        made.now).out) }
     ensures status { IfOk result (λ status. status ≡ made_status task.now.remedy
         sheet.now.auditor.now.database sheet.now.audited.now made.now) }
     ensures out_later { O.faults out.old ≤ O.faults out.new }

@@ -1,10 +1,11 @@
 -- Where a crate's entry of an index is kept, whatever the index is (this project).
-use Rattle.std.specs.Prelude.{◌≡◌, ℕ, List, Bool, true, false, IsTrue, Option, Some, None, Result, Ok, Err}
+use Rattle.std.specs.Prelude.{◌≡◌, ◌⊎◌, ℕ, List, Bool, true, false, IsTrue, Option, Some, None, Result, Ok, Err}
 use Rattle.tame_names.specs.Standing.{Host}
 use Rattle.tame_names.specs.declared.errors.Error.{Error}
 use Rattle.tame_names.specs.declared.errors.Error.TheVariants as error
 use Rattle.tame_names.specs.declared.errors.IoKind.TheVariants as io_kind
-use Rattle.tame_location.specs.Homes.{IsTold}
+use Rattle.tame_names.specs.declared.host.FailedCall.{FailedCall}
+use Rattle.tame_location.specs.Homes.{AddsHomeCall, IsHomeCall, IsTold}
 use Rattle.tame_location.specs.IndexUrls.{is_sparse}
 use Rattle.tame_location.specs.declared.index_urls.IndexUrl.{IndexUrl}
 use Rattle.tame_location.specs.declared.index_urls.IndexUrl.TheVariants as url
@@ -14,8 +15,8 @@ use Rattle.tame_cache.specs.CacheFiles.{HandsOut}
 use Rattle.tame_cache.specs.Disk.{File}
 use Rattle.tame_cache.specs.Kept.{cache_file_of}
 use Rattle.tame_sparse.specs.Located.{IsPlaceError, git_place, missing_sparse, sparse_for_git, sparse_place}
-use Rattle.tame_local.specs.Refusals.{IsFolderError, is_told, refused}
-use Rattle.tame_local.specs.Registries.{HandsOutFile, index_at, index_file}
+use Rattle.tame_local.specs.Refusals.{AddsFailed, IsFailedAt, IsNoFolderAt, is_told, refused}
+use Rattle.tame_local.specs.Registries.{HandsOutFile, index_at, index_file, index_of}
 use Rattle.tame_local.specs.declared.combos.ComboIndexCache.{ComboIndexCache}
 use Rattle.tame_local.specs.declared.combos.ComboIndexCache.TheVariants as combo
 
@@ -50,12 +51,11 @@ abbrev pub IsIndexed : Kept → List ℕ → Host → Option IndexEntry → Type
 IsIndexed (InCache root url) name host entry = Unit {0}
 IsIndexed (InIndex index) name host entry = HandsOutFile entry (host.stands (index_file index name))
 
--- a failed read of a cache, or of a file of an index
-abbrev pub IsCombinedError : Error → Type 0
-IsCombinedError (error.Io io_kind.Failed) = Unit {0}
-IsCombinedError (error.IoPath io_kind.Failed path) = Unit {0}
-IsCombinedError error.NoMemory = Unit {0}
-IsCombinedError e = ⊥
+-- a failed read of a cache, or of the crate's file of an index
+abbrev pub IsCombinedError : Kept → List ℕ → Error → Type 0
+IsCombinedError (InCache root url) name e =
+    (e ≡ error.NoMemory) ⊎ (e ≡ error.Io io_kind.Failed)
+IsCombinedError (InIndex index) name e = IsFailedAt (index_file index name) e
 
 -- ---- which cache there is at a location
 
@@ -86,7 +86,8 @@ IsOpened ident location host OfServer (Ok (combo.Sparse index)) =
 IsOpened ident location host OfServer (Err e) =
     IsTold e → sparse_place ident location host ≡ Err e
 IsOpened ident location host OfRepository (Ok (combo.Git index)) =
-    git_place ident location host ≡ Ok (index.cache.path, index.cache.index)
+    (git_place ident location host ≡ Ok (index.cache.path, index.cache.index))
+    × (index.head ≡ None)
 IsOpened ident location host OfRepository (Err e) =
     IsTold e → git_place ident location host ≡ Err e
 IsOpened ident location host (OfFolder path) (Ok (combo.Local index)) =
@@ -99,4 +100,11 @@ IsOpened ident location host kind result = ⊥
 abbrev pub IsOpenError : IndexLocation → IndexKind → Error → Type 0
 IsOpenError location OfServer e = IsPlaceError (missing_sparse location.url) location e
 IsOpenError location OfRepository e = IsPlaceError (sparse_for_git location.url) location e
-IsOpenError location (OfFolder path) e = IsFolderError e
+IsOpenError location (OfFolder path) e = IsNoFolderAt (index_of path) e
+
+-- a refusal by a call that failed adds that call to the failed ones, any other answer none: a call
+-- for cargo's home, or for the folder of the path
+abbrev pub AddsOpenCall : {T : Type 0} → IndexKind → Host → List FailedCall → List FailedCall
+    → Result T Error → Type 0
+AddsOpenCall (OfFolder path) host before now result = AddsFailed before now result
+AddsOpenCall kind host before now result = AddsHomeCall (IsHomeCall host) before now result

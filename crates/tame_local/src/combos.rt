@@ -4,7 +4,8 @@ ghost use Rattle.tame_names.specs.Counts.{CountRose};
 ghost use Rattle.tame_names.specs.KrateNames.{text_of};
 ghost use Rattle.tame_cache.specs.Disk.{reads};
 ghost use Rattle.tame_local.specs.Combos as spec;
-ghost use Rattle.tame_local.specs.Combos.{IsCached, IsCombinedError, IsIndexed, IsOpenError, IsOpened, cached_file_of, file_of, kept_in, kind_of};
+ghost use Rattle.tame_local.specs.Refusals.{AddsFailed};
+ghost use Rattle.tame_local.specs.Combos.{AddsOpenCall, IsCached, IsCombinedError, IsIndexed, IsOpenError, IsOpened, cached_file_of, file_of, kept_in, kind_of};
 
 use crate::indexes::LocalIndex;
 use crate::registries::LocalRegistry;
@@ -55,6 +56,8 @@ impl ComboIndexCache {
         ensures folder_rose { (path : List ℕ) → result ≡ Err (Error.IoPath IoKind.Failed path)
             → CountRose (F.faults files.old) (F.faults files.new) }
         ensures later { F.faults files.old ≤ F.faults files.new }
+        ensures failed { F.tells → AddsOpenCall (kind_of location.entry.url)
+            (F.host files.old) (F.failed files.old) (F.failed files.new) result }
         ensures same { F.tells → F.host files.new ≡ F.host files.old }
     {
         if let Some(path) = local_path(&location.url) {
@@ -85,13 +88,15 @@ impl ComboIndexCache {
             → IfOk result (IsCached (kept_in self.now) (reads (D.past disk.old q))) }
         ensures indexed { F.tells → IfOk result (IsIndexed (kept_in self.now) (text_of name.entry)
             (F.host files.old)) }
-        ensures only { IfErr result IsCombinedError }
+        ensures only { IfErr result
+            (IsCombinedError (kept_in self.now) (text_of name.entry)) }
         ensures disk_rose { result ≡ Err (Error.Io IoKind.Failed)
             → CountRose (D.faults disk.old) (D.faults disk.new) }
         ensures files_rose { (path : List ℕ) → result ≡ Err (Error.IoPath IoKind.Failed path)
             → CountRose (F.faults files.old) (F.faults files.new) }
         ensures disk_later { D.faults disk.old ≤ D.faults disk.new }
         ensures files_later { F.faults files.old ≤ F.faults files.new }
+        ensures failed { F.tells → AddsFailed (F.failed files.old) (F.failed files.new) result }
         ensures disk_same { D.tells → (q : List ℕ) → D.past disk.new q ≡ D.past disk.old q }
         ensures disk_folders { D.tells → D.folders disk.new ≡ D.folders disk.old }
         ensures files_same { F.tells → F.host files.new ≡ F.host files.old }

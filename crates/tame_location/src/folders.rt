@@ -159,7 +159,7 @@ pub fn root_of<F: Files>(alloc: Global, files: &mut F, root: Option<&str>) -> Re
 
 /// The path of the folder that cargo keeps for a url, below a root or else below cargo's home, and
 /// the url that it keeps it for. Errors are those of `url_to_local_dir`, and then those of
-/// `cargo_home` where no root is given.
+/// `cargo_home` where no root is given: of a url without a folder the host isn't asked.
 pub fn get_index_details<F: Files, I: Ident>(
     alloc: Global,
     files: &mut F,
@@ -180,6 +180,8 @@ pub fn get_index_details<F: Files, I: Ident>(
         (F.failed files.old) (F.failed files.new) result }
     ensures same { F.tells → F.host files.new ≡ F.host files.old }
     ensures given { IsSome root.entry → files.new ≡ files.old }
+    ensures refused_unasked { IfErr (dir_of stable (I.number ident.now) url.now)
+        (λ why. files.new ≡ files.old) }
 {
     let dir = url_to_local_dir(alloc, url, stable, ident)?;
     let root = root_of(alloc, files, root)?;

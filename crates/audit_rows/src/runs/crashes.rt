@@ -1,23 +1,13 @@
 //! Audits that are stopped at a call of the disk, and then crash.
 use crate::runs::kept_files::named_next;
-use crate::runs::running::{Ran, audited};
+use crate::runs::running::audited;
 use crate::runs::stage::Stage;
+use crate::runs::telling::Telling;
 use crate::scripts::answer_of;
-use row_fixtures::{RevisionWord, Row, RowFault, flagged_body, owned_text, shown};
+use row_fixtures::{RevisionWord, Row, RowFault, flagged_body};
 use std::alloc::Global;
 use tame_cache::CacheDisk;
 use tame_entry::OwnedRevision;
-
-/// What a run named, was answered and printed.
-pub fn line_of(alloc: Global, ran: &Ran, answered: u16) -> Result<String, RowFault> {
-    let Some(exchange) = ran.wire.exchanges().first() else {
-        return Ok(String::from_str(alloc, "nothing asked")?);
-    };
-    let named = owned_text(alloc, &exchange.named)?;
-    let printed = shown(alloc, ran.out.bytes())?;
-    let exit = ran.outcome.status;
-    Ok(format!(in alloc; "{named} {answered}: {exit} [{printed}]")?)
-}
 
 /// Adds the answer of a server that holds the line with this flag: yanked under `x`, else under
 /// `y`.
@@ -36,8 +26,7 @@ fn audit_line(
     yanked: bool,
 ) -> Result<String, RowFault> {
     serve(alloc, stage, status, yanked)?;
-    let ran = audited(alloc, stage)?;
-    line_of(alloc, &ran, status)
+    audited(alloc, stage, Telling::Named(status))
 }
 
 /// The status that a server answers with that holds a line under `y`.

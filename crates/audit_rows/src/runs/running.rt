@@ -1,12 +1,12 @@
 //! Runs of the command over a host in memory.
 use crate::runs::stage::Stage;
-use crate::runs::telling::{told, told_short};
+use crate::runs::telling::{Telling, tell};
 use crate::scripts::scripted;
 use audit_asked::MemRunner;
 use audit_binaries::MemDecoder;
 use audit_program::{Outcome, run};
 use row_fixtures::{Row, RowFault, host_with};
-use std::alloc::{AllocError, Global};
+use std::alloc::Global;
 use std::mem;
 use tame_cache::MemCacheDisk;
 use tame_names::{FileLock, Items, MemFiles, MemSink};
@@ -85,22 +85,36 @@ fn taken(alloc: Global, numbers: &mut Vec<u64>) -> Items<u64> {
     Items::of(mem::replace(numbers, Vec::new(alloc)))
 }
 
-/// The command over the stage; its answers, the ends of starts and the numbers of calls that fail
-/// are used up.
-pub fn ran_over(alloc: Global, stage: &mut Stage, words: &[String]) -> Result<Ran, RowFault> {
+/// What a run is made over, of the stage: its answers, the ends of starts and the numbers of calls
+/// that fail are used up.
+fn outside_of(alloc: Global, stage: &mut Stage) -> Result<Outside, RowFault> {
     let calls = mem::replace(&mut stage.calls, Vec::new(alloc));
     let files = files_of(alloc, stage, calls)?;
     let statuses = mem::replace(&mut stage.statuses, Items::new(alloc));
     let script = mem::replace(&mut stage.script, Items::new(alloc));
-    let outside = Outside {
+    Ok(Outside {
         files,
         decoder: MemDecoder::new(taken(alloc, &mut stage.decodes)),
         runner: MemRunner::new(alloc, statuses),
         wire: MemWire::new(alloc, script),
         out: MemSink::new(alloc, taken(alloc, &mut stage.puts)),
         err: MemSink::new(alloc, taken(alloc, &mut stage.errors)),
-    };
-    Ok(command(alloc, words, outside, &mut stage.disk))
+    })
+}
+
+/// The command over the stage, and what is told of it. The run's value lives here alone.
+pub fn told_of(
+    alloc: Global,
+    stage: &mut Stage,
+    words: &[String],
+    telling: Telling,
+) -> Result<String, RowFault> {
+    let outside = outside_of(alloc, stage)?;
+    let ran = command(alloc, words, outside, &mut stage.disk);
+    let told = tell(alloc, &ran, &stage.disk, telling);
+    let Ran { files, .. } = ran;
+    stage.files = Some(files);
+    told
 }
 
 /// The words that are divided by blanks.
@@ -117,39 +131,21 @@ pub fn words_of(alloc: Global, text: &str) -> Result<Vec<String>, RowFault> {
 /// `words WORD ..`: a run of these words.
 pub fn run_words(alloc: Global, stage: &mut Stage, words: Row<'_>) -> Result<String, RowFault> {
     let words = words_of(alloc, words.rest())?;
-    let ran = ran_over(alloc, stage, words.as_slice())?;
-    let line = told(alloc, &ran, &stage.disk)?;
-    stage.files = Some(ran.files);
-    Ok(line)
+    told_of(alloc, stage, words.as_slice(), Telling::Whole)
 }
 
-/// Adds the n-th call on the host's files, which failed in a run, and the run's fault; or that no
-/// such call was made.
-fn push_failed(out: &mut String, ran: &Ran, n: u64) -> Result<bool, AllocError> {
-    let fault = &ran.outcome.fault;
-    match ran.files.failed() {
-        [call] => write!(out, "{n} {call:?} {fault:?}; ")?,
-        _ => {
-            write!(out, "{n} {fault:?}")?;
-            return Ok(false);
-        }
-    }
-    Ok(true)
-}
-
-/// The same of a run of these words, in which the n-th call fails.
-fn push_failing(
+/// A run of these words, in which the n-th call on the host's files fails: the call and the run's
+/// fault, or that no such call was made.
+fn failing_line(
     alloc: Global,
-    out: &mut String,
     stage: &mut Stage,
     words: &[String],
     n: u64,
-) -> Result<bool, RowFault> {
+) -> Result<String, RowFault> {
     let mut calls = Vec::new(alloc);
     calls.push(n)?;
     stage.calls = calls;
-    let ran = ran_over(alloc, stage, words)?;
-    Ok(push_failed(out, &ran, n)?)
+    told_of(alloc, stage, words, Telling::Failing(n))
 }
 
 /// `failing WORD ..`: runs of these words, of which each call on the host's files fails in turn,
@@ -158,7 +154,9 @@ pub fn run_failing(alloc: Global, stage: &mut Stage, words: Row<'_>) -> Result<S
     let words = words_of(alloc, words.rest())?;
     let mut out = String::new(alloc);
     for n in 1..65 {
-        if !push_failing(alloc, &mut out, stage, words.as_slice(), n)? {
+        let line = failing_line(alloc, stage, words.as_slice(), n)?;
+        out.push_str(line.as_str())?;
+        if !line.as_str().ends_with("; ") {
             return Ok(out);
         }
     }
@@ -166,15 +164,14 @@ pub fn run_failing(alloc: Global, stage: &mut Stage, words: Row<'_>) -> Result<S
 }
 
 /// An audit of `Cargo.lock`.
-pub fn audited(alloc: Global, stage: &mut Stage) -> Result<Ran, RowFault> {
+pub fn audited(alloc: Global, stage: &mut Stage, telling: Telling) -> Result<String, RowFault> {
     let words = words_of(alloc, "audit --verdicts -f Cargo.lock")?;
-    ran_over(alloc, stage, words.as_slice())
+    told_of(alloc, stage, words.as_slice(), telling)
 }
 
 /// `run`: an audit of `Cargo.lock`.
 pub fn run_audit(alloc: Global, stage: &mut Stage) -> Result<String, RowFault> {
-    let ran = audited(alloc, stage)?;
-    told(alloc, &ran, &stage.disk)
+    audited(alloc, stage, Telling::Whole)
 }
 
 /// `audit STATUS REVISION BODY`: an audit of version 0.1.0 of the crate `a` without a cache, where
@@ -182,6 +179,5 @@ pub fn run_audit(alloc: Global, stage: &mut Stage) -> Result<String, RowFault> {
 pub fn audit(alloc: Global, stage: &mut Stage, words: Row<'_>) -> Result<String, RowFault> {
     stage.lock_one(alloc)?;
     stage.script.add(scripted(alloc, words)?)?;
-    let ran = audited(alloc, stage)?;
-    told_short(alloc, &ran)
+    audited(alloc, stage, Telling::Short)
 }

@@ -1,9 +1,10 @@
 //! Runs over a cache file with another first byte, over a part of one, and over one of the version
 //! of entries before this one.
-use crate::runs::crashes::{line_of, serve};
+use crate::runs::crashes::serve;
 use crate::runs::kept_files::left_file;
 use crate::runs::running::audited;
 use crate::runs::stage::Stage;
+use crate::runs::telling::Telling;
 use row_fixtures::{INDEX_URL, Row, RowFault, disk_with, flagged_entry};
 use std::alloc::{AllocError, Global};
 
@@ -69,8 +70,7 @@ fn line_over(
         stage.stop(n);
     }
     serve(alloc, stage, status, true)?;
-    let ran = audited(alloc, stage)?;
-    line_of(alloc, &ran, status)
+    audited(alloc, stage, Telling::Named(status))
 }
 
 /// The same where the body is sent, with the file that a read gives afterwards.

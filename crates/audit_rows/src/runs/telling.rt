@@ -154,7 +154,7 @@ fn push_made(out: &mut String, ran: &Ran) -> Result<(), AllocError> {
 /// A run as a line: its status, its output and errors, what was asked and named, the audit, the
 /// fault, how many calls of the disk have failed, and, if there are any, the starts, the answers
 /// for binaries, and how many exchanges the audits of made packages had.
-pub fn told(alloc: Global, ran: &Ran, disk: &MemCacheDisk) -> Result<String, RowFault> {
+fn told(alloc: Global, ran: &Ran, disk: &MemCacheDisk) -> Result<String, RowFault> {
     let status = ran.outcome.status;
     let printed = shown(alloc, ran.out.bytes())?;
     let errors = shown(alloc, ran.err.bytes())?;
@@ -171,10 +171,59 @@ pub fn told(alloc: Global, ran: &Ran, disk: &MemCacheDisk) -> Result<String, Row
 }
 
 /// What a run printed, and how many exchanges there were.
-pub fn told_short(alloc: Global, ran: &Ran) -> Result<String, RowFault> {
+fn told_short(alloc: Global, ran: &Ran) -> Result<String, RowFault> {
     let printed = shown(alloc, ran.out.bytes())?;
     let errors = ran.err.bytes().len();
     let asked = ran.wire.exchanges().len();
     let status = ran.outcome.status;
     Ok(format!(in alloc; "{status} [{printed}]; {errors} errors; {asked} asked")?)
+}
+
+/// What a run named, was answered and printed.
+fn named_line(alloc: Global, ran: &Ran, answered: u16) -> Result<String, RowFault> {
+    let Some(exchange) = ran.wire.exchanges().first() else {
+        return Ok(String::from_str(alloc, "nothing asked")?);
+    };
+    let named = owned_text(alloc, &exchange.named)?;
+    let printed = shown(alloc, ran.out.bytes())?;
+    let exit = ran.outcome.status;
+    Ok(format!(in alloc; "{named} {answered}: {exit} [{printed}]")?)
+}
+
+/// The n-th call on the host's files, which failed in a run, and the run's fault; or that no such
+/// call was made.
+fn failed_line(alloc: Global, ran: &Ran, n: u64) -> Result<String, RowFault> {
+    let fault = &ran.outcome.fault;
+    match ran.files.failed() {
+        [call] => Ok(format!(in alloc; "{n} {call:?} {fault:?}; ")?),
+        _ => Ok(format!(in alloc; "{n} {fault:?}")?),
+    }
+}
+
+/// What is told of a run.
+#[derive(Clone, Copy)]
+pub enum Telling {
+    /// All of it.
+    Whole,
+    /// What it printed, and how many exchanges there were.
+    Short,
+    /// What its first request named, this status, which it was answered, and what it printed.
+    Named(u16),
+    /// The call on the host's files with this number, which failed, and the fault.
+    Failing(u64),
+}
+
+/// A run as a line.
+pub fn tell(
+    alloc: Global,
+    ran: &Ran,
+    disk: &MemCacheDisk,
+    telling: Telling,
+) -> Result<String, RowFault> {
+    match telling {
+        Telling::Whole => told(alloc, ran, disk),
+        Telling::Short => told_short(alloc, ran),
+        Telling::Named(answered) => named_line(alloc, ran, answered),
+        Telling::Failing(n) => failed_line(alloc, ran, n),
+    }
 }

@@ -1,4 +1,4 @@
-use Rattle.std.proofs.Common.{◌≡◌, [], None, Ok, Err, rules, arith}
+use Rattle.std.proofs.Common.{◌≡◌, [], None, Ok, Err, inr, rules, arith}
 use Rattle.std.proofs.lemmas.Grind.{common_steps}
 use Rattle.audit_program.specs.Finishes.{end_of}
 use Rattle.audit_program.proofs.Finishing.{part_nothing, partly_started, unfixed_finished}
@@ -47,3 +47,6 @@ returns-in-Fix-clause-finished g c =
       started = f.started;
       put = λ told. put_behind _ _ _ _ _ (end_of c.fix.result) (c.in_ok-print.ensures.err told).whole (f.put told);
     }
+
+pub returns-in-Fix-clause-shown : goal.returns-in-Fix-clause-shown
+returns-in-Fix-clause-shown g c = inr (λ told. (c.in_ok-print.ensures.out told).whole)

@@ -1,4 +1,4 @@
-use Rattle.std.proofs.Common.{◌≡◌, [], Some, None, Ok, Err, refl, ap, sym, ◌∙◌}
+use Rattle.std.proofs.Common.{◌≡◌, inl, [], Some, None, Ok, Err, refl, ap, sym, ◌∙◌}
 use Rattle.audit_asked.specs.declared.faults.RunFault.{RunFault}
 use Rattle.audit_asked.specs.declared.faults.RunFault.TheVariants as fault
 use Rattle.audit_core.specs.Checks.{asked_of, checks_of}
@@ -80,6 +80,7 @@ returns-in-Err-made-clause-audited g c =
       out = λ told. put_failed _ _ _ f c.failed-in-Err-made.result.fault end (put_nothing _ (Some f));
       err = λ told.
           rw c.place-in-Err-made.ensures at (c.failed-in-Err-made.ensures.ended told _ _ (unmade_lines c.args.task.now.remedy c.args.given.advisories c.in-Ok-audit.audited c.args.task.now.command.verdicts (g.E.Sink.holds c.args.err.now) f other));
+      shown = inl refl;
       is_end = record { unmade = end; made = tt; status = tt };
     }
 
@@ -137,7 +138,7 @@ returns-in-Ok-finish-clause-off g c unread off =
 pub returns-in-Ok-finish-clause-audited : goal.returns-in-Ok-finish-clause-audited
 returns-in-Ok-finish-clause-audited g c =
     let f = rw (c.in-Ok.ensures, c.as_str-2.ensures, c.as_str-3.ensures) at c.in-Ok-finish.ensures.finished in
-    record {
+    rw c.ended.ensures record {
       left = moment (g.W.Wire.exchanges c.audit.new.wire) (g.D.CacheDisk.past c.audit.new.disk) (g.W.Wire.faults c.audit.new.wire) (g.D.CacheDisk.faults c.audit.new.disk);
       audit = rw (c.in-Ok.ensures, c.as_str.ensures) at c.in-Ok-audit.ensures.audited;
       it = Ok c.in-Ok-made.made;
@@ -147,6 +148,7 @@ returns-in-Ok-finish-clause-audited g c =
       started = f.started;
       out = λ told. rw (c.in-Ok.ensures, c.as_str-2.ensures, c.as_str-3.ensures) at (c.in-Ok-finish.ensures.out told);
       err = f.put;
+      shown = rw (c.in-Ok.ensures, c.as_str-2.ensures, c.as_str-3.ensures) at c.in-Ok-finish.ensures.shown;
       is_end = record { unmade = tt; made = tt; status = λ none. rw c.in-Ok.ensures at c.in-Ok-finish.ensures.status };
     }
 
@@ -185,44 +187,45 @@ returns-clause-off g c unread off =
 pub returns-clause-audited : goal.returns-clause-audited
 returns-clause-audited g c =
     let f = rw (c.in-Ok.ensures, c.as_str-2.ensures, c.as_str-3.ensures) at c.in-Err-finish.ensures.finished in
-    let end = c.failed-outcome.ensures.fault in
-    rw c.failed-outcome.ensures.audited record {
+    let end = c.unfinished.ensures.fault in
+    rw c.unfinished.ensures.audited record {
       left = moment (g.W.Wire.exchanges c.audit.new.wire) (g.D.CacheDisk.past c.audit.new.disk) (g.W.Wire.faults c.audit.new.wire) (g.D.CacheDisk.faults c.audit.new.disk);
       audit = rw (c.in-Ok.ensures, c.as_str.ensures) at c.in-Ok-audit.ensures.audited;
       it = Ok c.in-Ok-made.made;
       is_made = rw c.in-Ok.ensures at (c.in-Ok-made.ensures.made (g.W.Wire.exchanges c.audit.new.wire) (g.W.Wire.faults c.audit.new.wire));
-      is_plan = c.into_plan-in-Err-finish.ensures;
+      is_plan = rw c.unfinished.ensures.plan c.into_plan-in-Err-finish.ensures;
       statuses = f.statuses;
-      started = started_failed _ _ _ _ _ c.in-Err-finish.fault c.failed-outcome.result.fault end f.started;
-      out = λ told. c.failed-outcome.ensures.put _ _ _ (rw (c.in-Ok.ensures, c.as_str-2.ensures, c.as_str-3.ensures) at (c.in-Err-finish.ensures.out told));
+      started = started_failed _ _ _ _ _ c.in-Err-finish.fault c.unfinished.result.fault end f.started;
+      out = λ told. c.unfinished.ensures.put _ _ _ (rw (c.in-Ok.ensures, c.as_str-2.ensures, c.as_str-3.ensures) at (c.in-Err-finish.ensures.out told));
       err = λ told.
-          ended_from _ _ _ c.failed-outcome.result.fault _ _ _ _ c.in-Err-finish.ensures.err_later c.failed-outcome.ensures.later
-          (rw c.place-in-Err-finish.ensures at (c.failed-outcome.ensures.ended told _ _ (f.put told)));
+          ended_from _ _ _ c.unfinished.result.fault _ _ _ _ c.in-Err-finish.ensures.err_later c.unfinished.ensures.later
+          (rw c.place-in-Err-finish.ensures at (c.unfinished.ensures.ended told _ _ (f.put told)));
+      shown = rw (c.in-Ok.ensures, c.as_str-2.ensures, c.as_str-3.ensures) at c.in-Err-finish.ensures.shown;
       is_end = record {
         unmade = tt;
-        made = ends_with IsFinishFault c.failed-outcome.result.fault c.in-Err-finish.fault end c.in-Err-finish.ensures.only tt;
-        status = λ none. has_fault c.in-Err-finish.fault c.failed-outcome.result.fault end none;
+        made = ends_with IsFinishFault c.unfinished.result.fault c.in-Err-finish.fault end c.in-Err-finish.ensures.only tt;
+        status = λ none. has_fault c.in-Err-finish.fault c.unfinished.result.fault end none;
       };
     }
 
 pub returns-clause-fault : goal.returns-clause-fault
 returns-clause-fault g c =
     let P : RunFault → Type 0 = λ e. IsAskedFault c.args.task.now c.args.given e in
-    ends_with P c.failed-outcome.result.fault c.in-Err-finish.fault c.failed-outcome.ensures.fault
+    ends_with P c.unfinished.result.fault c.in-Err-finish.fault c.unfinished.ensures.fault
     (finish_case P c.in-Err-finish.fault c.in-Err-finish.ensures.only tt (λ failed some. some) tt) tt
 
 pub returns-clause-rose : goal.returns-clause-rose
 returns-clause-rose g c is =
-    let mine = same_fault c.in-Err-finish.fault fault.Print c.failed-outcome.result.fault c.failed-outcome.ensures.fault is memory_no_print in
-    rose_later _ _ _ _ _ (c.in-Err-finish.ensures.print_rose (ap (λ (e : RunFault). Err e) mine)) c.failed-outcome.ensures.later
+    let mine = same_fault c.in-Err-finish.fault fault.Print c.unfinished.result.fault c.unfinished.ensures.fault is memory_no_print in
+    rose_later _ _ _ _ _ (c.in-Err-finish.ensures.print_rose (ap (λ (e : RunFault). Err e) mine)) c.unfinished.ensures.later
 
 pub returns-clause-no_audit : goal.returns-clause-no_audit
 returns-clause-no_audit g c =
-    let P : RunFault → Type 0 = λ e. IsEarly c.args.task.now.remedy e → c.failed-outcome.result.audited ≡ None in
-    ends_with P c.failed-outcome.result.fault c.in-Err-finish.fault c.failed-outcome.ensures.fault
+    let P : RunFault → Type 0 = λ e. IsEarly c.args.task.now.remedy e → c.unfinished.result.audited ≡ None in
+    ends_with P c.unfinished.result.fault c.in-Err-finish.fault c.unfinished.ensures.fault
     (finish_case P c.in-Err-finish.fault c.in-Err-finish.ensures.only (λ early. late_print c.args.task.now.remedy early) (λ failed some early. late_start c.args.task.now.remedy failed early)
     (λ early. late_memory c.args.task.now.remedy early)) (λ early. late_memory c.args.task.now.remedy early)
 
 pub returns-clause-failed : goal.returns-clause-failed
 returns-clause-failed g c told =
-    finishing_told c.args.task.now.remedy _ _ c.in-Err-finish.fault c.failed-outcome.result.fault c.failed-outcome.ensures.fault c.in-Err-finish.ensures.only (c.in-Ok-made.ensures.failed told)
+    finishing_told c.args.task.now.remedy _ _ c.in-Err-finish.fault c.unfinished.result.fault c.unfinished.ensures.fault c.in-Err-finish.ensures.only (c.in-Ok-made.ensures.failed told)
