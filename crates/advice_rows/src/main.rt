@@ -27,36 +27,25 @@ use std::{env, io};
 /// The table that rows are read by.
 #[derive(Drop)]
 enum Section {
-    Unnamed,
     Words,
     Advisories(Stage),
     Reports(Stage),
     Trees(Stage),
 }
 
-impl Section {
-    /// `== SECTION`: the table of this name, with nothing on its stage.
-    fn begin(&mut self, alloc: Global, mut words: Row<'_>) -> Result<String, RowFault> {
-        let name = words.word();
-        *self = match name {
-            "words" => Section::Words,
-            "advisories" => Section::Advisories(Stage::new(alloc)),
-            "reports" => Section::Reports(Stage::new(alloc)),
-            "trees" => Section::Trees(Stage::new(alloc)),
-            _ => return Err(RowFault::Unread),
-        };
-        Ok(format!(in alloc; "== {name}")?)
-    }
-}
-
 impl Table for Section {
-    fn answer(&mut self, alloc: Global, row: Row<'_>) -> Result<String, RowFault> {
-        let mut words = row;
-        if words.word() == "==" {
-            return self.begin(alloc, words);
+    fn of(alloc: Global, name: &str) -> Result<Section, RowFault> {
+        match name {
+            "words" => Ok(Section::Words),
+            "advisories" => Ok(Section::Advisories(Stage::new(alloc))),
+            "reports" => Ok(Section::Reports(Stage::new(alloc))),
+            "trees" => Ok(Section::Trees(Stage::new(alloc))),
+            _ => Err(RowFault::Unread),
         }
+    }
+
+    fn answer(&mut self, alloc: Global, row: Row<'_>) -> Result<String, RowFault> {
         match self {
-            Section::Unnamed => Err(RowFault::Unread),
             Section::Words => words::answer(alloc, row),
             Section::Advisories(stage) => advisories::answer(alloc, stage, row),
             Section::Reports(stage) => reports::answer(alloc, stage, row),
@@ -68,7 +57,7 @@ impl Table for Section {
 fn main(rt: HostRuntime) -> io::Result<()> {
     let mut words = env::args(&rt)?.skip(1);
     let Some(way) = words.next() else {
-        return answer_lines(&rt, &mut Section::Unnamed);
+        return answer_lines::<Section>(&rt);
     };
     match way.as_str() {
         "reports" => timing::count_reports(&rt, words.next(), words.next(), words.next()),

@@ -51,6 +51,20 @@ pub record Making : Type 1 where
   pub host : Host
   pub host_now : Host
 
+abbrev pub making : Type 0 → Type 0 → List Advisory → Option (List Finding) → Audited → Moment
+    → Moment → Host → Host → Making
+making files_tell disk_tells advisories known audited left ended host host_now = record {
+  files_tell = files_tell;
+  disk_tells = disk_tells;
+  advisories = advisories;
+  known = known;
+  audited = audited;
+  left = left;
+  ended = ended;
+  host = host;
+  host_now = host_now;
+}
+
 -- ---- what stays
 
 -- the cache was only read
@@ -82,13 +96,14 @@ IsPlanMade m _ = ⊥
 
 -- ---- baselines
 
-abbrev pub findings_of : Making → List Finding
-findings_of m = audit_findings m.advisories m.audited
+abbrev pub making_findings : Making → List Finding
+making_findings m = audit_findings m.advisories m.audited
 
 -- the findings of the audit that the baseline doesn't list, in the report's order; no baseline
 -- lists nothing
 abbrev pub IsGateMade : Making → Result Made RunFault → Type 0
-IsGateMade m (Ok (made.Unlisted found)) = found ≡ unlisted (unwrap_or m.known []) (findings_of m)
+IsGateMade m (Ok (made.Unlisted found)) =
+    found ≡ unlisted (unwrap_or m.known []) (making_findings m)
 IsGateMade m (Err fault.NoMemory) = Unit {0}
 IsGateMade m _ = ⊥
 
@@ -101,7 +116,7 @@ done_of (Err reason) = Err reason
 -- told with this path, nothing or a part of them from the front
 abbrev pub IsFileMade : List ℕ → Making → Result Made RunFault → Type 0
 IsFileMade path m r =
-    m.files_tell → Creates path (written (listed (findings_of m))) m.host m.host_now (done_of r)
+    m.files_tell → Creates path (written (listed (making_findings m))) m.host m.host_now (done_of r)
 
 abbrev pub IsToldOf : List ℕ → Result Made RunFault → Type 0
 IsToldOf path (Ok made.Written) = Unit {0}

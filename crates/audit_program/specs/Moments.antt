@@ -3,9 +3,6 @@
 use Rattle.std.specs.Prelude.{ℕ, List, Option}
 use Rattle.tame_names.specs.Standing.{Host}
 use Rattle.tame_names.specs.declared.host.FailedCall.{FailedCall}
-use Rattle.known_findings.specs.declared.findings.Finding.{Finding}
-use Rattle.audit_advisory.specs.declared.advisories.Advisory.{Advisory}
-use Rattle.audit_core.specs.declared.auditing.Audited.{Audited}
 use Rattle.tame_cache.specs.Kept.{Disk}
 use Rattle.tame_sparse.specs.declared.network.Exchange.{Exchange}
 use Rattle.audit_asked.specs.declared.faults.RunFault.{RunFault}
@@ -14,7 +11,6 @@ use Rattle.audit_core.specs.Audits.{Moment}
 use Rattle.audit_binaries.specs.Binaries.{Outside}
 use Rattle.audit_program.specs.BinaryRuns.{BinariesTelling}
 use Rattle.audit_program.specs.Completes.{FaultCounts}
-use Rattle.audit_program.specs.Makings.{Making}
 use Rattle.audit_program.specs.Runs.{Ending, Hosts, Sinks, Starts, Telling}
 
 -- ---- what is told
@@ -74,21 +70,6 @@ fault_counts files starts out err =
 -- what the host had, and has
 abbrev pub hosts : Host → Host → Hosts
 hosts before now = record { before = before; now = now }
-
--- what there is to make something of
-abbrev pub making : Type 0 → Type 0 → List Advisory → Option (List Finding) → Audited → Moment
-    → Moment → Host → Host → Making
-making files_tell disk_tells advisories known audited left ended host host_now = record {
-  files_tell = files_tell;
-  disk_tells = disk_tells;
-  advisories = advisories;
-  known = known;
-  audited = audited;
-  left = left;
-  ended = ended;
-  host = host;
-  host_now = host_now;
-}
 
 -- the starts of programs before, and after
 abbrev pub starts : List Started → List Started → Starts

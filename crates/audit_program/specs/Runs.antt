@@ -15,7 +15,7 @@ use Rattle.audit_output.specs.Outputs.{Output, output_of, shown_of}
 use Rattle.upgrade_plan.specs.declared.plans.PlanItem.{PlanItem}
 use Rattle.audit_program.specs.Calls.{task_generates}
 use Rattle.audit_program.specs.Finishes.{IsFinishFault}
-use Rattle.audit_program.specs.Makings.{IsMade, Making, plan_in}
+use Rattle.audit_program.specs.Makings.{IsMade, making, plan_in}
 use Rattle.audit_program.specs.Outputs.{IsEnded, IsPutBy, lines_behind, output_by, remedy_lines_in}
 use Rattle.audit_program.specs.Statuses.{made_status, steps_of}
 use Rattle.audit_program.specs.Steps.{AreStarted}
@@ -73,20 +73,6 @@ task_lines task given audited statuses =
     lines_behind (steps_of task.remedy given.advisories audited) statuses
     (remedy_lines_in task.command.verdicts task.remedy given.advisories audited statuses)
 
--- what there is to make something of, once the audit has left the outside at a moment
-abbrev pub making_of : Telling → Asked → Audited → Moment → Moment → Hosts → Making
-making_of tells given audited left ended hosts = record {
-  files_tell = tells.files;
-  disk_tells = tells.disk;
-  advisories = given.advisories;
-  known = given.baseline;
-  audited = audited;
-  left = left;
-  ended = ended;
-  host = hosts.before;
-  host_now = hosts.now;
-}
-
 -- the fault with which a run ends that couldn't make what it was to, which is want of memory where
 -- none was left to tell it; once it was made, a put failed, steps couldn't be started, or memory
 -- ran out; and the status of a run that ends without a fault
@@ -109,7 +95,8 @@ pub record IsGivenRun (tells : Telling) (task : Task) (given : Asked) (began end
       began left given.text audited
   -- what was made of it, or why it couldn't be
   pub it : Result Made RunFault
-  pub is_made : IsMade task.remedy (making_of tells given audited left ended hosts) it
+  pub is_made : IsMade task.remedy (making tells.files tells.disk given.advisories given.baseline
+      audited left ended hosts.before hosts.now) it
   pub is_plan : plan ≡ plan_in it
   pub statuses : List (Option ℤ)
   pub started : AreStarted tells.runner (steps_of task.remedy given.advisories audited)
@@ -119,7 +106,7 @@ pub record IsGivenRun (tells : Telling) (task : Task) (given : Asked) (began end
   pub err : tells.err → IsEnded (place_of task.command.file) sinks.err_before
       ((task_output task given audited it).err ++ task_lines task given audited statuses)
       ending.fault sinks.err_now sinks.err_faults sinks.err_faults_now
-  -- no step is started before the whole text for out stands there
+  -- where a step was started, the whole text for out stands there
   pub shown : (starts.now ≡ starts.before)
       ⊎ (tells.out → sinks.out_now ≡ sinks.out_before ++ (task_output task given audited it).out)
   pub is_end : IsEndBy task given audited it ending

@@ -25,15 +25,15 @@ fault_status fault.NoMemory = 3
 fault_status _ = 2
 
 -- what `fix` plans for an audit
-abbrev pub plan_of : Bool → List Advisory → Audited → FixPlan
-plan_of dry_run advisories audited =
+abbrev pub fix_plan_of : Bool → List Advisory → Audited → FixPlan
+fix_plan_of dry_run advisories audited =
     fix_plan dry_run advisories audited.lockfile audited.report.vulnerabilities
 
 -- of an audit that ends without a fault: its exit, or by the plan that is started whole
 abbrev pub task_status : Remedy → List Advisory → Audited → ℕ
 task_status (Fix dry_run) advisories audited =
     fix_status dry_run audited.report.vulnerabilities
-    (plan_of dry_run advisories audited).unpatchable 0
+    (fix_plan_of dry_run advisories audited).unpatchable 0
 task_status remedy advisories audited = audited.exit
 
 -- by what was made of an audit: a plan by its items, the findings that a baseline doesn't list by
@@ -75,5 +75,5 @@ IsEarlyBy None reason = IsTrue (is_early reason)
 
 -- the starts that are planned
 abbrev pub steps_of : Remedy → List Advisory → Audited → List FixStep
-steps_of (Fix dry_run) advisories audited = (plan_of dry_run advisories audited).steps
+steps_of (Fix dry_run) advisories audited = (fix_plan_of dry_run advisories audited).steps
 steps_of remedy advisories audited = []

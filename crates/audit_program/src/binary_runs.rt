@@ -108,7 +108,7 @@ fn run_given<F: Files, P: Decoder, W: Wire, D: CacheDisk, O: Sink, E: Sink>(
         advisories,
     } = given;
     let Ok(auditor) = Auditor::of(alloc, &config, advisories) else {
-        return failed(alloc, err, "", RunFault::NoMemory, None, None);
+        return failed(alloc, err, "", RunFault::NoMemory);
     };
     let limits = BinaryLimits::of(more.max_binary_size, more.audit_data_size_limit);
     let Ok(binaries) = audit_binaries(
@@ -123,7 +123,7 @@ fn run_given<F: Files, P: Decoder, W: Wire, D: CacheDisk, O: Sink, E: Sink>(
         wire,
         disk,
     ) else {
-        return failed(alloc, err, "", RunFault::NoMemory, None, None);
+        return failed(alloc, err, "", RunFault::NoMemory);
     };
     let sheet = BinarySheet {
         config: &config.output,
@@ -133,15 +133,17 @@ fn run_given<F: Files, P: Decoder, W: Wire, D: CacheDisk, O: Sink, E: Sink>(
         answers: binaries.answers.as_slice(),
     };
     match print_binaries(alloc, command.verdicts, &sheet, out, err) {
-        Ok(()) => Outcome {
-            status: summary_status(binaries.summary),
-            audited: None,
+        Ok(()) => {
+            let status = summary_status(binaries.summary);
+            Outcome {
+                binaries: Some(binaries),
+                ..Outcome::of_status(status)
+            }
+        }
+        Err(fault) => Outcome {
             binaries: Some(binaries),
-            generated: None,
-            plan: None,
-            fault: None,
+            ..failed(alloc, err, "", fault)
         },
-        Err(fault) => failed(alloc, err, "", fault, None, Some(binaries)),
     }
 }
 
@@ -224,6 +226,6 @@ pub fn run_binaries<F: Files, P: Decoder, W: Wire, D: CacheDisk, O: Sink, E: Sin
         Ok(given) => run_given(
             alloc, command, more, given, files, decoder, lock, wire, disk, out, err,
         ),
-        Err(fault) => failed(alloc, err, "", fault, None, None),
+        Err(fault) => failed(alloc, err, "", fault),
     }
 }

@@ -31,6 +31,47 @@ pub struct Outcome {
     pub fault: Option<RunFault>,
 }
 
+impl Outcome {
+    /// Of this status, with nothing made and no fault.
+    pub(crate) fn of_status(status: u8) -> Outcome
+        ensures { result ≡ record {
+          status = status;
+          audited = None;
+          binaries = None;
+          generated = None;
+          plan = None;
+          fault = None;
+        } }
+    {
+        Outcome {
+            status,
+            audited: None,
+            binaries: None,
+            generated: None,
+            plan: None,
+            fault: None,
+        }
+    }
+
+    /// The same with the audit of a lockfile, and the plan that was made of it.
+    pub(crate) fn with_audit(self, audited: Audited, plan: Option<Items<PlanItem>>) -> Outcome
+        ensures { result ≡ record {
+          status = self.status;
+          audited = Some audited;
+          binaries = self.binaries;
+          generated = self.generated;
+          plan = plan;
+          fault = self.fault;
+        } }
+    {
+        Outcome {
+            audited: Some(audited),
+            plan,
+            ..self
+        }
+    }
+}
+
 fn fault_status(fault: &RunFault) -> u8
     ensures { result ≡ spec.fault_status fault.now }
 {
@@ -69,19 +110,12 @@ fn put_line<E: Sink>(alloc: Global, err: &mut E, place: &str, fault: RunFault) -
     }
 }
 
-/// Ends a run with a fault, whose line is put. The path is that of the lockfile, for a fault that
-/// tells it.
-pub fn failed<E: Sink>(
-    alloc: Global,
-    err: &mut E,
-    place: &str,
-    fault: RunFault,
-    audited: Option<Audited>,
-    binaries: Option<BinariesAudit>,
-) -> Outcome
+/// The end of a run with a fault, whose line is put, and of which nothing else is left: what it had
+/// made until then its caller adds. The path is that of the lockfile, for a fault that tells it.
+pub fn failed<E: Sink>(alloc: Global, err: &mut E, place: &str, fault: RunFault) -> Outcome
     ensures fault { (result.fault ≡ Some fault) ⊎ (result.fault ≡ Some RunFault.NoMemory) }
-    ensures audited { result.audited ≡ audited }
-    ensures binaries { result.binaries ≡ binaries }
+    ensures audited { result.audited ≡ None }
+    ensures binaries { result.binaries ≡ None }
     ensures generated { result.generated ≡ None }
     ensures plan { result.plan ≡ None }
     ensures status { (f : RunFault) → result.fault ≡ Some f → result.status ≡ spec.fault_status f }
@@ -95,61 +129,9 @@ pub fn failed<E: Sink>(
     ensures later { E.faults err.old ≤ E.faults err.new }
 {
     let fault = put_line(alloc, err, place, fault);
+    let status = fault_status(&fault);
     Outcome {
-        status: fault_status(&fault),
-        audited,
-        binaries,
-        generated: None,
-        plan: None,
         fault: Some(fault),
+        ..Outcome::of_status(status)
     }
-}
-
-/// Ends a run that has done what it was to do.
-pub fn ended(status: u8, audited: Audited, plan: Option<Items<PlanItem>>) -> Outcome
-    ensures { result ≡ record {
-      status = status;
-      audited = Some audited;
-      binaries = None;
-      generated = None;
-      plan = plan;
-      fault = None;
-    } }
-{
-    Outcome {
-        status,
-        audited: Some(audited),
-        binaries: None,
-        generated: None,
-        plan,
-        fault: None,
-    }
-}
-
-/// Ends a run whose audit couldn't be told, or wasn't acted on, as `failed` does.
-pub fn unfinished<E: Sink>(
-    alloc: Global,
-    err: &mut E,
-    place: &str,
-    fault: RunFault,
-    audited: Audited,
-    plan: Option<Items<PlanItem>>,
-) -> Outcome
-    ensures fault { (result.fault ≡ Some fault) ⊎ (result.fault ≡ Some RunFault.NoMemory) }
-    ensures audited { result.audited ≡ Some audited }
-    ensures binaries { result.binaries ≡ None }
-    ensures generated { result.generated ≡ None }
-    ensures plan { result.plan ≡ plan }
-    ensures status { (f : RunFault) → result.fault ≡ Some f → result.status ≡ spec.fault_status f }
-    ensures ended { E.tells → (before text : List ℕ)
-        → IsPutBy before text (Some fault) (E.holds err.old)
-        → IsEnded place.now before text result.fault (E.holds err.new) (E.faults err.old)
-        (E.faults err.new) }
-    ensures put { (before text now : List ℕ) → IsPutBy before text (Some fault) now
-        → IsPutBy before text result.fault now }
-    ensures later { E.faults err.old ≤ E.faults err.new }
-{
-    let mut outcome = failed(alloc, err, place, fault, Some(audited), None);
-    outcome.plan = plan;
-    outcome
 }

@@ -6,7 +6,7 @@ ghost use Rattle.audit_output.specs.Outputs.{IsPrintFault, output_of, shown_on};
 ghost use Rattle.audit_report.specs.Outputs.{IsPut};
 ghost use Rattle.audit_program.specs.Finishes.{IsFinishFault, IsFinished, end_of};
 ghost use Rattle.audit_program.specs.Outputs.{IsPutBy, remedy_lines_in};
-ghost use Rattle.audit_program.specs.Statuses.{plan_of, task_status};
+ghost use Rattle.audit_program.specs.Statuses.{fix_plan_of, task_status};
 ghost use Rattle.audit_program.specs.Steps.{AreStarted};
 ghost use Rattle.audit_program.specs.declared.tasks.Remedy.TheVariants as Remedy;
 
@@ -46,7 +46,7 @@ fn put_lines<E: Sink>(
 
 /// The status of `fix` where so many of its steps couldn't be started: none may have failed.
 fn fix_ended(sheet: &Sheet<'_>, plan: &FixPlan, dry_run: bool, failed: u64) -> Result<u8, RunFault>
-    requires plan { plan.now ≡ plan_of dry_run sheet.now.auditor.now.database
+    requires plan { plan.now ≡ fix_plan_of dry_run sheet.now.auditor.now.database
         sheet.now.audited.now }
     ensures status { IfOk result (λ status. status ≡ task_status (Remedy.Fix dry_run)
         sheet.now.auditor.now.database sheet.now.audited.now) }

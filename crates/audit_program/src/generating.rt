@@ -55,21 +55,16 @@ pub fn run_generated<O: Sink, E: Sink>(alloc: Global, n: u64, out: &mut O, err: 
         (E.faults err.old) (E.faults err.new) }
 {
     let Ok(made) = generate(alloc, n) else {
-        return failed(alloc, err, "", RunFault::NoMemory, None, None);
+        return failed(alloc, err, "", RunFault::NoMemory);
     };
     match put_summary(alloc, n, &made, out) {
         Ok(()) => Outcome {
-            status: 0,
-            audited: None,
-            binaries: None,
             generated: Some(made),
-            plan: None,
-            fault: None,
+            ..Outcome::of_status(0)
         },
-        Err(fault) => {
-            let mut outcome = failed(alloc, err, "", fault, None, None);
-            outcome.generated = Some(made);
-            outcome
-        }
+        Err(fault) => Outcome {
+            generated: Some(made),
+            ..failed(alloc, err, "", fault)
+        },
     }
 }

@@ -20,9 +20,9 @@ ghost use Rattle.vendor_registry.specs.Vendored.{IsBare, IsVendored};
 ghost use Rattle.audit_program.specs.Calls.{AddsMakingCalls};
 ghost use Rattle.audit_program.specs.Finishes.{end_of};
 ghost use Rattle.upgrade_plan.specs.Plans.{IsPlanBy};
-ghost use Rattle.audit_program.specs.Makings.{IsMade, IsMakingFault, IsVendorEnd, crates_io_stock};
+ghost use Rattle.audit_program.specs.Makings.{IsMade, IsMakingFault, IsVendorEnd, crates_io_stock, making};
 ghost use Rattle.audit_program.specs.Makings as spec;
-ghost use Rattle.audit_program.specs.Moments.{making, moment};
+ghost use Rattle.audit_program.specs.Moments.{moment};
 ghost use Rattle.audit_program.specs.Tasks.{ReadsCache, WritesFiles};
 ghost use Rattle.audit_program.specs.declared.tasks.Remedy.TheVariants as Remedy;
 

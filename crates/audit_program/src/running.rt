@@ -61,15 +61,8 @@ fn run_text<O: Sink, E: Sink>(alloc: Global, text: &str, out: &mut O, err: &mut 
         (E.faults err.old) (E.faults err.new) }
 {
     match print_text(alloc, text, out) {
-        Ok(()) => Outcome {
-            status: 0,
-            audited: None,
-            binaries: None,
-            generated: None,
-            plan: None,
-            fault: None,
-        },
-        Err(fault) => failed(alloc, err, "", fault, None, None),
+        Ok(()) => Outcome::of_status(0),
+        Err(fault) => failed(alloc, err, "", fault),
     }
 }
 
@@ -296,9 +289,7 @@ pub fn run<F: Files, P: Decoder, R: Runner, W: Wire, D: CacheDisk, O: Sink, E: S
         Ok(Job::Help) => run_text(alloc, HELP_TEXT, out, err),
         Ok(Job::Version) => run_text(alloc, VERSION_TEXT, out, err),
         Ok(Job::Generate(count)) => run_generated(alloc, count, out, err),
-        Err(WordsFault::Usage { place }) => {
-            failed(alloc, err, "", RunFault::Usage { place }, None, None)
-        }
-        Err(WordsFault::NoMemory) => failed(alloc, err, "", RunFault::NoMemory, None, None),
+        Err(WordsFault::Usage { place }) => { failed(alloc, err, "", RunFault::Usage { place }) }
+        Err(WordsFault::NoMemory) => failed(alloc, err, "", RunFault::NoMemory),
     }
 }

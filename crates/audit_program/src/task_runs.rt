@@ -26,7 +26,7 @@ ghost use Rattle.vendor_faults.specs.declared.faults.VendorFault.{VendorFault};
 ghost use Rattle.vendor_faults.specs.declared.faults.VendorFault.TheVariants as VendorFault;
 
 use crate::auditing::audit;
-use crate::ending::{Outcome, ended, failed, unfinished};
+use crate::ending::{Outcome, failed};
 use crate::making::make;
 use crate::tasks::Task;
 use crate::telling::finish;
@@ -138,11 +138,11 @@ fn run_given<F: Files, R: Runner, W: Wire, D: CacheDisk, O: Sink, E: Sink>(
         text,
     } = given;
     let Ok(auditor) = Auditor::of(alloc, &config, advisories) else {
-        return failed(alloc, err, task.place(), RunFault::NoMemory, None, None);
+        return failed(alloc, err, task.place(), RunFault::NoMemory);
     };
     let audited = match audit(alloc, &auditor, text.as_str(), lock, wire, disk) {
         Ok(audited) => audited,
-        Err(fault) => return failed(alloc, err, task.place(), fault, None, None),
+        Err(fault) => return failed(alloc, err, task.place(), fault),
     };
     let made = make(
         alloc,
@@ -156,7 +156,7 @@ fn run_given<F: Files, R: Runner, W: Wire, D: CacheDisk, O: Sink, E: Sink>(
     );
     let made = match made {
         Ok(made) => made,
-        Err(fault) => return failed(alloc, err, task.place(), fault, Some(audited), None),
+        Err(fault) => return failed(alloc, err, task.place(), fault).with_audit(audited, None),
     };
     let sheet = Sheet {
         config: &config.output,
@@ -166,8 +166,8 @@ fn run_given<F: Files, R: Runner, W: Wire, D: CacheDisk, O: Sink, E: Sink>(
         audited: &audited,
     };
     match finish(alloc, task, &sheet, &made, runner, out, err) {
-        Ok(status) => ended(status, audited, made.into_plan()),
-        Err(fault) => unfinished(alloc, err, task.place(), fault, audited, made.into_plan()),
+        Ok(status) => Outcome::of_status(status).with_audit(audited, made.into_plan()),
+        Err(fault) => failed(alloc, err, task.place(), fault).with_audit(audited, made.into_plan()),
     }
 }
 
@@ -283,6 +283,6 @@ pub fn run_task<F: Files, R: Runner, W: Wire, D: CacheDisk, O: Sink, E: Sink>(
         Ok(given) => run_given(
             alloc, task, given, files, runner, lock, wire, disk, out, err,
         ),
-        Err(fault) => failed(alloc, err, task.place(), fault, None, None),
+        Err(fault) => failed(alloc, err, task.place(), fault),
     }
 }

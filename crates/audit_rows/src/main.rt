@@ -19,34 +19,23 @@ use std::io;
 /// The table that rows are read by.
 #[derive(Drop)]
 enum Section {
-    Unnamed,
     Binaries(binaries::Stage),
     Fixes(fixes::Stage),
     Runs(runs::Stage),
 }
 
-impl Section {
-    /// `== SECTION`: the table of this name, with nothing on its stage.
-    fn begin(&mut self, alloc: Global, mut words: Row<'_>) -> Result<String, RowFault> {
-        let name = words.word();
-        *self = match name {
-            "binaries" => Section::Binaries(binaries::Stage::new(alloc)),
-            "fixes" => Section::Fixes(fixes::Stage::new(alloc)),
-            "runs" => Section::Runs(runs::Stage::new(alloc)?),
-            _ => return Err(RowFault::Unread),
-        };
-        Ok(format!(in alloc; "== {name}")?)
-    }
-}
-
 impl Table for Section {
-    fn answer(&mut self, alloc: Global, row: Row<'_>) -> Result<String, RowFault> {
-        let mut words = row;
-        if words.word() == "==" {
-            return self.begin(alloc, words);
+    fn of(alloc: Global, name: &str) -> Result<Section, RowFault> {
+        match name {
+            "binaries" => Ok(Section::Binaries(binaries::Stage::new(alloc))),
+            "fixes" => Ok(Section::Fixes(fixes::Stage::new(alloc))),
+            "runs" => Ok(Section::Runs(runs::Stage::new(alloc)?)),
+            _ => Err(RowFault::Unread),
         }
+    }
+
+    fn answer(&mut self, alloc: Global, row: Row<'_>) -> Result<String, RowFault> {
         match self {
-            Section::Unnamed => Err(RowFault::Unread),
             Section::Binaries(stage) => binaries::answer(alloc, stage, row),
             Section::Fixes(stage) => fixes::answer(alloc, stage, row),
             Section::Runs(stage) => runs::answer(alloc, stage, row),
@@ -55,5 +44,5 @@ impl Table for Section {
 }
 
 fn main(rt: HostRuntime) -> io::Result<()> {
-    answer_lines(&rt, &mut Section::Unnamed)
+    answer_lines::<Section>(&rt)
 }

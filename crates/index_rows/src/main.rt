@@ -18,34 +18,23 @@ use std::io;
 /// The table that rows are read by.
 #[derive(Drop)]
 enum Section {
-    Unnamed,
     Formats(formats::Stage),
     Cache(cache::Stage),
     Sparse(sparse::Stage),
 }
 
-impl Section {
-    /// `== SECTION`: the table of this name, with nothing on its stage.
-    fn begin(&mut self, alloc: Global, mut words: Row<'_>) -> Result<String, RowFault> {
-        let name = words.word();
-        *self = match name {
-            "formats" => Section::Formats(formats::Stage::new(alloc)?),
-            "cache" => Section::Cache(cache::Stage::new(alloc)?),
-            "sparse" => Section::Sparse(sparse::Stage::new(alloc)?),
-            _ => return Err(RowFault::Unread),
-        };
-        Ok(format!(in alloc; "== {name}")?)
-    }
-}
-
 impl Table for Section {
-    fn answer(&mut self, alloc: Global, row: Row<'_>) -> Result<String, RowFault> {
-        let mut words = row;
-        if words.word() == "==" {
-            return self.begin(alloc, words);
+    fn of(alloc: Global, name: &str) -> Result<Section, RowFault> {
+        match name {
+            "formats" => Ok(Section::Formats(formats::Stage::new(alloc)?)),
+            "cache" => Ok(Section::Cache(cache::Stage::new(alloc)?)),
+            "sparse" => Ok(Section::Sparse(sparse::Stage::new(alloc)?)),
+            _ => Err(RowFault::Unread),
         }
+    }
+
+    fn answer(&mut self, alloc: Global, row: Row<'_>) -> Result<String, RowFault> {
         match self {
-            Section::Unnamed => Err(RowFault::Unread),
             Section::Formats(stage) => formats::answer(alloc, stage, row),
             Section::Cache(stage) => cache::answer(alloc, stage, row),
             Section::Sparse(stage) => sparse::answer(alloc, stage, row),
@@ -54,5 +43,5 @@ impl Table for Section {
 }
 
 fn main(rt: HostRuntime) -> io::Result<()> {
-    answer_lines(&rt, &mut Section::Unnamed)
+    answer_lines::<Section>(&rt)
 }

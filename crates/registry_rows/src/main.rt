@@ -16,32 +16,21 @@ use std::io;
 /// The table that rows are read by.
 #[derive(Drop)]
 enum Section {
-    Unnamed,
     Local(local::Stage),
     Locations(locations::Scene),
 }
 
-impl Section {
-    /// `== SECTION`: the table of this name, with nothing on its stage.
-    fn begin(&mut self, alloc: Global, mut words: Row<'_>) -> Result<String, RowFault> {
-        let name = words.word();
-        *self = match name {
-            "local" => Section::Local(local::Stage::new(alloc)),
-            "locations" => Section::Locations(locations::Scene::new(alloc)),
-            _ => return Err(RowFault::Unread),
-        };
-        Ok(format!(in alloc; "== {name}")?)
-    }
-}
-
 impl Table for Section {
-    fn answer(&mut self, alloc: Global, row: Row<'_>) -> Result<String, RowFault> {
-        let mut words = row;
-        if words.word() == "==" {
-            return self.begin(alloc, words);
+    fn of(alloc: Global, name: &str) -> Result<Section, RowFault> {
+        match name {
+            "local" => Ok(Section::Local(local::Stage::new(alloc))),
+            "locations" => Ok(Section::Locations(locations::Scene::new(alloc))),
+            _ => Err(RowFault::Unread),
         }
+    }
+
+    fn answer(&mut self, alloc: Global, row: Row<'_>) -> Result<String, RowFault> {
         match self {
-            Section::Unnamed => Err(RowFault::Unread),
             Section::Local(stage) => local::answer(alloc, stage, row),
             Section::Locations(scene) => locations::answer(alloc, scene, row),
         }
@@ -49,5 +38,5 @@ impl Table for Section {
 }
 
 fn main(rt: HostRuntime) -> io::Result<()> {
-    answer_lines(&rt, &mut Section::Unnamed)
+    answer_lines::<Section>(&rt)
 }

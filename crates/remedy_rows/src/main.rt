@@ -19,34 +19,23 @@ use std::io;
 /// The table that rows are read by.
 #[derive(Drop)]
 enum Section {
-    Unnamed,
     Baseline(baseline::Stage),
     Plan(plan::Stage),
     Vendor(vendor::Stage),
 }
 
-impl Section {
-    /// `== SECTION`: the table of this name, with nothing on its stage.
-    fn begin(&mut self, alloc: Global, mut words: Row<'_>) -> Result<String, RowFault> {
-        let name = words.word();
-        *self = match name {
-            "baseline" => Section::Baseline(baseline::Stage::new(alloc)),
-            "plan" => Section::Plan(plan::Stage::new(alloc)),
-            "vendor" => Section::Vendor(vendor::Stage::new(alloc)?),
-            _ => return Err(RowFault::Unread),
-        };
-        Ok(format!(in alloc; "== {name}")?)
-    }
-}
-
 impl Table for Section {
-    fn answer(&mut self, alloc: Global, row: Row<'_>) -> Result<String, RowFault> {
-        let mut words = row;
-        if words.word() == "==" {
-            return self.begin(alloc, words);
+    fn of(alloc: Global, name: &str) -> Result<Section, RowFault> {
+        match name {
+            "baseline" => Ok(Section::Baseline(baseline::Stage::new(alloc))),
+            "plan" => Ok(Section::Plan(plan::Stage::new(alloc))),
+            "vendor" => Ok(Section::Vendor(vendor::Stage::new(alloc)?)),
+            _ => Err(RowFault::Unread),
         }
+    }
+
+    fn answer(&mut self, alloc: Global, row: Row<'_>) -> Result<String, RowFault> {
         match self {
-            Section::Unnamed => Err(RowFault::Unread),
             Section::Baseline(stage) => baseline::answer(alloc, stage, row),
             Section::Plan(stage) => plan::answer(alloc, stage, row),
             Section::Vendor(stage) => vendor::answer(alloc, stage, row),
@@ -55,5 +44,5 @@ impl Table for Section {
 }
 
 fn main(rt: HostRuntime) -> io::Result<()> {
-    answer_lines(&rt, &mut Section::Unnamed)
+    answer_lines::<Section>(&rt)
 }

@@ -8,7 +8,7 @@ use Rattle.toml_tables.specs.Floats.{members_have_float}
 use Rattle.toml_tables.specs.Members.{optional, optional_texts, required}
 use Rattle.toml_tables.specs.Results.{and_then, or_fault}
 use Rattle.tame_names.specs.MemoryFiles.{file_at, host_in, standing_of}
-use Rattle.tame_names.specs.Paths.{plain_path}
+use Rattle.tame_names.specs.Paths.{join, plain_path}
 use Rattle.tame_names.specs.declared.memory_files.MemFiles.{MemFiles}
 use Rattle.tame_names.specs.declared.memory_nodes.MemFile.{MemFile}
 use Rattle.tame_local.specs.Inserts.{StandsPlain}
@@ -22,6 +22,7 @@ use Rattle.audit_lock.specs.declared.lockfiles.LockfileFault.{LockfileFault}
 use Rattle.audit_lock.specs.declared.lockfiles.LockfileFault.TheVariants as fault
 use Rattle.audit_lock.specs.declared.resolving.Package.{Package}
 use Rattle.vendor_registry.specs.Named.{AreVersioned}
+use Rattle.vendor_registry.specs.Vendored.{IsBare}
 
 -- ---- a host in memory
 
@@ -33,6 +34,9 @@ file_same (f ∷ fs) p q h =
 
 pub memory_plain : (files : MemFiles) → StandsPlain (host_in files).stands
 memory_plain files p q h = ap standing_of (file_same files.files p q ((bytes_eq-Decides (plain_path p) (plain_path q)).0 h))
+
+pub memory_bare : (files : MemFiles) (folder : List ℕ) → files.files ≡ [] → IsBare (host_in files) folder
+memory_bare files folder none path inner = ap (λ (fs : List MemFile). standing_of (file_at fs (join folder path))) none
 
 -- ---- steps of which each may refuse
 

@@ -1,5 +1,5 @@
 //! Laws of the definitions that contracts cite.
-ghost use Rattle.std.specs.Prelude.{◌≡◌, ℕ, List, Ok};
+ghost use Rattle.std.specs.Prelude.{◌≡◌, [], ℕ, List, Ok};
 ghost use Rattle.tame_names.specs.MemoryFiles.{host_in};
 ghost use Rattle.tame_names.specs.declared.memory_files.MemFiles.{MemFiles};
 ghost use Rattle.tame_local.specs.Inserts.{StandsPlain};
@@ -7,6 +7,7 @@ ghost use Rattle.audit_lock.specs.Locked.{locked};
 ghost use Rattle.audit_lock.specs.declared.resolving.Package.{Package};
 ghost use Rattle.vendor_registry.specs.Looked.{AreEachPair, looked};
 ghost use Rattle.vendor_registry.specs.Named.{AreVersioned};
+ghost use Rattle.vendor_registry.specs.Vendored.{IsBare};
 
 /// The packages that a registry is made of are those of the default registry, in the lockfile's
 /// order, each pair of name and version once: none is left out, and none comes twice.
@@ -25,4 +26,11 @@ pub fn packages_of_lockfiles_are_versioned()
 /// clauses on what was built ask for.
 pub fn hosts_in_memory_stand_plain()
     ensures { (files : MemFiles) → StandsPlain (host_in files).stands }
+{}
+
+/// On a host in memory that has no file nothing is in any folder, however deep, as the clauses on
+/// what is vendored ask for.
+pub fn empty_hosts_in_memory_are_bare()
+    ensures { (files : MemFiles) (folder : List ℕ) → files.files ≡ []
+        → IsBare (host_in files) folder }
 {}

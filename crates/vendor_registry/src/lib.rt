@@ -20,7 +20,8 @@ mod looking;
 mod vendoring;
 
 pub use laws::{
-    each_pair_is_looked_at_once, hosts_in_memory_stand_plain, packages_of_lockfiles_are_versioned,
+    each_pair_is_looked_at_once, empty_hosts_in_memory_are_bare, hosts_in_memory_stand_plain,
+    packages_of_lockfiles_are_versioned,
 };
 pub use vendor_faults::VendorFault;
 pub use vendoring::{Vendored, vendor};

@@ -102,27 +102,48 @@ fn told(
     Ok(out)
 }
 
-/// `audit PATH ..`: the audit of the binaries at these paths.
-pub fn audit(alloc: Global, stage: &mut Stage, words: Row<'_>) -> Result<String, RowFault> {
-    let script = mem::replace(&mut stage.script, Items::new(alloc));
-    let reads = mem::replace(&mut stage.reads, Vec::new(alloc));
-    let decodes = mem::replace(&mut stage.decodes, Vec::new(alloc));
-    let auditor = auditor_of(alloc, stage)?;
-    let paths = paths_of(alloc, words)?;
-    let mut files = host_with(alloc, stage.laid.as_slice(), &[], reads)?;
-    let mut decoder = MemDecoder::new(Items::of(decodes));
-    let mut wire = MemWire::new(alloc, script);
+/// The audits of the binaries at these paths, as a line.
+fn audit_line(
+    alloc: Global,
+    stage: &mut Stage,
+    auditor: &Auditor,
+    paths: &Items<Text>,
+    files: &mut MemFiles,
+    decoder: &mut MemDecoder,
+    wire: &mut MemWire,
+) -> Result<String, RowFault> {
     let audit = audit_binaries(
         alloc,
-        &auditor,
+        auditor,
         &stage.limits,
         stage.deny.as_slice(),
+        paths,
+        files,
+        decoder,
+        &FileLock::unlocked(),
+        wire,
+        &mut stage.disk,
+    )?;
+    told(alloc, &audit, wire, files)
+}
+
+/// `audit PATH ..`: the audit of the binaries at these paths.
+pub fn audit(alloc: Global, stage: &mut Stage, words: Row<'_>) -> Result<String, RowFault> {
+    let paths = paths_of(alloc, words)?;
+    let reads = mem::replace(&mut stage.reads, Vec::new(alloc));
+    let mut files = host_with(alloc, stage.laid.as_slice(), &[], reads)?;
+    let auditor = auditor_of(alloc, stage)?;
+    let decodes = mem::replace(&mut stage.decodes, Vec::new(alloc));
+    let mut decoder = MemDecoder::new(Items::of(decodes));
+    let script = mem::replace(&mut stage.script, Items::new(alloc));
+    let mut wire = MemWire::new(alloc, script);
+    audit_line(
+        alloc,
+        stage,
+        &auditor,
         &paths,
         &mut files,
         &mut decoder,
-        &FileLock::unlocked(),
         &mut wire,
-        &mut stage.disk,
-    )?;
-    told(alloc, &audit, &wire, &files)
+    )
 }

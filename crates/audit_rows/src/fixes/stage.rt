@@ -84,6 +84,14 @@ fn audit_of(alloc: Global, database: &Database, lockfile: Lockfile) -> Result<Au
     })
 }
 
+/// The audit of the lockfile with this text, with these advisories.
+fn laid_of(alloc: Global, advisories: &[Text], lock: &str) -> Result<Laid, RowFault> {
+    let lockfile = read_lockfile(alloc, lock)?;
+    let database = Database::new(alloc, read_advisories(alloc, advisories)?)?;
+    let audited = audit_of(alloc, &database, lockfile)?;
+    Ok(Laid { database, audited })
+}
+
 impl Stage {
     /// A stage without anything.
     pub fn new(alloc: Global) -> Stage {
@@ -135,11 +143,8 @@ impl Stage {
     /// `audit`
     pub fn make_audit(&mut self, alloc: Global) -> Result<String, RowFault> {
         self.begin(alloc, Begun::Nothing)?;
-        let advisories = read_advisories(alloc, self.advisories.as_slice())?;
-        let database = Database::new(alloc, advisories)?;
-        let lockfile = read_lockfile(alloc, self.lock.as_str())?;
-        let audited = audit_of(alloc, &database, lockfile)?;
-        self.laid = Some(Laid { database, audited });
+        let laid = laid_of(alloc, self.advisories.as_slice(), self.lock.as_str())?;
+        self.laid = Some(laid);
         Ok(String::new(alloc))
     }
 

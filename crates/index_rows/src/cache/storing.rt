@@ -113,24 +113,27 @@ pub fn first(alloc: Global, mut words: Row<'_>) -> Result<String, RowFault> {
     write_and_look(alloc, &mut disk, false)
 }
 
-/// `second FAILING`: the same over a disk that keeps the yanked line.
-pub fn second(alloc: Global, mut words: Row<'_>) -> Result<String, RowFault> {
-    let mut disk = disk_failing(alloc, words.numbers(alloc)?);
-    let first = write(alloc, &mut disk, true)?;
-    let then = write_and_look(alloc, &mut disk, false)?;
+/// Stores the yanked line, then the other one, and looks.
+fn write_both(alloc: Global, disk: &mut MemCacheDisk) -> Result<String, RowFault> {
+    let first = write(alloc, disk, true)?;
+    let then = write_and_look(alloc, disk, false)?;
     Ok(format!(in alloc; "{first}, {then}")?)
 }
 
-/// `torn FILE AT PIECE`: what a write of a piece at a place that fails leaves of a file, where a
-/// failed write tears.
-pub fn torn(alloc: Global, mut words: Row<'_>) -> Result<String, RowFault> {
-    let file = words.bytes(alloc)?;
-    let at = words.number()?;
-    let piece = words.bytes(alloc)?;
-    let mut first = Row::of("1");
-    let mut disk = disk_with(alloc, file.as_slice(), first.numbers(alloc)?)?;
-    disk.tear();
-    if disk.write_at(FLAGGED_FILE, at, piece.as_slice()).is_ok() {
+/// `second FAILING`: the same over a disk that keeps the yanked line.
+pub fn second(alloc: Global, mut words: Row<'_>) -> Result<String, RowFault> {
+    let mut disk = disk_failing(alloc, words.numbers(alloc)?);
+    write_both(alloc, &mut disk)
+}
+
+/// What a write of a piece at a place that fails leaves of a file.
+fn left_of(
+    alloc: Global,
+    disk: &mut MemCacheDisk,
+    at: u64,
+    piece: &[u8],
+) -> Result<String, RowFault> {
+    if disk.write_at(FLAGGED_FILE, at, piece).is_ok() {
         return Ok(String::from_str(alloc, "written")?);
     }
     match disk.read(alloc, FLAGGED_FILE) {
@@ -139,11 +142,29 @@ pub fn torn(alloc: Global, mut words: Row<'_>) -> Result<String, RowFault> {
     }
 }
 
-/// What a read finds after a crash, and what storing once more does.
-fn after_crash(alloc: Global, disk: MemCacheDisk, pick: u8) -> Result<String, RowFault> {
-    let mut disk = crashed(alloc, disk, pick)?;
-    let found = look(alloc, &mut disk)?;
-    let again = write_and_look(alloc, &mut disk, false)?;
+/// `torn FILE AT PIECE`: the same where a failed write tears.
+pub fn torn(alloc: Global, mut words: Row<'_>) -> Result<String, RowFault> {
+    let file = words.bytes(alloc)?;
+    let at = words.number()?;
+    let piece = words.bytes(alloc)?;
+    let mut first = Row::of("1");
+    let mut disk = disk_with(alloc, file.as_slice(), first.numbers(alloc)?)?;
+    disk.tear();
+    left_of(alloc, &mut disk, at, piece.as_slice())
+}
+
+/// Stores the yanked line, then the other one, stopped at this call.
+fn stopped_write(alloc: Global, disk: &mut MemCacheDisk, at: u64) -> Result<String, RowFault> {
+    let first = write(alloc, disk, true)?;
+    stop(disk, at);
+    let done = write(alloc, disk, false)?;
+    Ok(format!(in alloc; "{first}, {done}")?)
+}
+
+/// What a read finds, and what storing once more does.
+fn look_and_write(alloc: Global, disk: &mut MemCacheDisk) -> Result<String, RowFault> {
+    let found = look(alloc, disk)?;
+    let again = write_and_look(alloc, disk, false)?;
     Ok(format!(in alloc; "{found}; {again}")?)
 }
 
@@ -153,11 +174,10 @@ pub fn crashed_write(alloc: Global, mut words: Row<'_>) -> Result<String, RowFau
     let at = words.number()?;
     let pick = words.byte_or_none()?.unwrap_or(0);
     let mut disk = disk_failing(alloc, Vec::new(alloc));
-    let first = write(alloc, &mut disk, true)?;
-    stop(&mut disk, at);
-    let done = write(alloc, &mut disk, false)?;
-    let after = after_crash(alloc, disk, pick)?;
-    Ok(format!(in alloc; "{first}, {done}: {after}")?)
+    let before = stopped_write(alloc, &mut disk, at)?;
+    let mut left = crashed(alloc, disk, pick)?;
+    let after = look_and_write(alloc, &mut left)?;
+    Ok(format!(in alloc; "{before}: {after}")?)
 }
 
 /// The entry of the yanked line with another first byte; no bytes without one.
@@ -180,16 +200,21 @@ fn seen(alloc: Global, disk: &mut MemCacheDisk) -> Result<String, AllocError> {
     }
 }
 
+/// What stands first in the file of the crate `a`, and what storing this line over it does.
+fn written_over(alloc: Global, disk: &mut MemCacheDisk, yanked: bool) -> Result<String, RowFault> {
+    let seen = seen(alloc, disk)?;
+    let then = write_and_look(alloc, disk, yanked)?;
+    Ok(format!(in alloc; "{seen}; {then}; {} faults", disk.disk_faults())?)
+}
+
 /// `foreign (HH | -) (YANKED | UNYANKED)`: storing a line over a file with another first byte, or
 /// without one.
 pub fn foreign(alloc: Global, mut words: Row<'_>) -> Result<String, RowFault> {
     let bytes = foreign_bytes(alloc, words.byte_or_none()?)?;
     let yanked = words.is("YANKED", "UNYANKED")?;
     let mut disk = disk_with(alloc, bytes.as_slice(), Vec::new(alloc))?;
-    let seen = seen(alloc, &mut disk)?;
-    let then = write_and_look(alloc, &mut disk, yanked)?;
-    let (len, faults) = (bytes.len(), disk.disk_faults());
-    Ok(format!(in alloc; "{len} bytes, {seen}; {then}; {faults} faults")?)
+    let written = written_over(alloc, &mut disk, yanked)?;
+    Ok(format!(in alloc; "{} bytes, {written}", bytes.len())?)
 }
 
 /// `store REVISION BODY`: what storing a body under a revision answers.

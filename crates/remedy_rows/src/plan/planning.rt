@@ -69,23 +69,33 @@ fn audit_of(
     }
 }
 
-/// `plan IGNORE SEVERITY`
-pub fn plan_of(alloc: Global, stage: &mut Stage, words: Row<'_>) -> Result<String, RowFault> {
-    let auditor = auditor_of(alloc, stage, words)?;
-    let mut disk = disk_of(alloc, stage)?;
-    let audited = audit_of(alloc, &auditor, stage.lock.as_str(), &mut disk)?;
+/// The plan for an audit as lines, its status, and how many calls on the disk have failed.
+fn planned(
+    alloc: Global,
+    auditor: &Auditor,
+    audited: &Audited,
+    disk: &mut MemCacheDisk,
+) -> Result<String, RowFault> {
     let index = crates_io_index(alloc, "")?;
     let items = plan(
         alloc,
-        &audited,
+        audited,
         auditor.database(),
         &index,
         &FileLock::unlocked(),
-        &mut disk,
+        disk,
     )?;
     let mut out = plan_lines(alloc, audited.lockfile.packages(), items.as_slice())?;
     let status = plan_status(items.as_slice());
     let faults = disk.disk_faults();
     write!(out, "status {status}, {faults} failed calls")?;
     Ok(out)
+}
+
+/// `plan IGNORE SEVERITY`
+pub fn plan_of(alloc: Global, stage: &mut Stage, words: Row<'_>) -> Result<String, RowFault> {
+    let mut disk = disk_of(alloc, stage)?;
+    let auditor = auditor_of(alloc, stage, words)?;
+    let audited = audit_of(alloc, &auditor, stage.lock.as_str(), &mut disk)?;
+    planned(alloc, &auditor, &audited, &mut disk)
 }

@@ -37,25 +37,24 @@ fn refused(alloc: Global, fault: &VendorFault) -> Result<String, RowFault> {
     }
 }
 
-/// `vendor CRATES TO`
-pub fn vendor_row(
+/// Makes a registry of an audit in a folder, and tells what came of it.
+fn vendored(
     alloc: Global,
+    audited: &Audited,
     stage: &mut Stage,
-    mut words: Row<'_>,
+    crates: &str,
+    to: Text,
+    lock: &FileLock,
 ) -> Result<String, RowFault> {
-    let lock = FileLock::unlocked();
-    let audited = audit(alloc, stage.lockfile.as_str(), &lock)?;
-    let crates = words.word();
-    let to = Text::of(alloc, words.word())?;
     let before = stage.files.file_faults();
     let made = vendor(
         alloc,
-        &audited,
+        audited,
         &stage.index,
         crates,
         to,
         &mut stage.files,
-        &lock,
+        lock,
         &mut stage.disk,
     );
     let faults = stage.files.file_faults() - before;
@@ -72,6 +71,19 @@ pub fn vendor_row(
             Ok(format!(in alloc; "{text}, {faults} failed")?)
         }
     }
+}
+
+/// `vendor CRATES TO`
+pub fn vendor_row(
+    alloc: Global,
+    stage: &mut Stage,
+    mut words: Row<'_>,
+) -> Result<String, RowFault> {
+    let lock = FileLock::unlocked();
+    let crates = words.word();
+    let to = Text::of(alloc, words.word())?;
+    let audited = audit(alloc, stage.lockfile.as_str(), &lock)?;
+    vendored(alloc, &audited, stage, crates, to, &lock)
 }
 
 /// `validate PATH`

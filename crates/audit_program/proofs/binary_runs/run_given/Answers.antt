@@ -23,7 +23,7 @@ pub returns-in-Ok-print_binaries-clause-binaries : goal.returns-in-Ok-print_bina
 returns-in-Ok-print_binaries-clause-binaries g c =
     let made = c.in-Ok-audit_binaries.ensures in
     let printed = c.in-Ok-print_binaries.ensures in
-    record {
+    rw c.of_status.ensures record {
       answered = rw (c.in-Ok.ensures, c.of-limits.ensures) at made.answered;
       summary = rw (c.in-Ok.ensures, c.as_slice.ensures) at made.summary;
       together = record {
@@ -37,7 +37,7 @@ returns-in-Ok-print_binaries-clause-binaries g c =
       };
       out = λ told. put_by _ _ _ (Ok c.in-Ok-print_binaries.field-0) tt (rw (c.in-Ok.ensures, c.as_str.ensures, c.as_slice-2.ensures, c.as_slice-3.ensures) at (printed.out told));
       err = λ told. put_by _ _ _ (Ok c.in-Ok-print_binaries.field-0) tt (rw (c.in-Ok.ensures, c.as_str.ensures, c.as_slice-2.ensures, c.as_slice-3.ensures) at (printed.err told));
-      status = λ none. c.summary_status.ensures;
+      status = λ none. c.summary_status-status.ensures;
     }
 
 pub returns-clause-binaries : goal.returns-clause-binaries
@@ -45,7 +45,7 @@ returns-clause-binaries g c =
     let made = c.in-Ok-audit_binaries.ensures in
     let printed = c.in-Err.ensures in
     let end = c.failed-in-Err.ensures.fault in
-    rw c.failed-in-Err.ensures.binaries record {
+    record {
       answered = rw (c.in-Ok.ensures, c.of-limits.ensures) at made.answered;
       summary = rw (c.in-Ok.ensures, c.as_slice.ensures) at made.summary;
       together = record {

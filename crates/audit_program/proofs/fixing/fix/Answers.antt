@@ -3,7 +3,7 @@ use Rattle.std.proofs.lemmas.Grind.{common_steps}
 use Rattle.audit_asked.specs.declared.faults.RunFault.TheVariants as fault
 use Rattle.audit_report.proofs.Puts.{part_none}
 use Rattle.audit_program.specs.Finishes.{end_of}
-use Rattle.audit_program.specs.Statuses.{plan_of}
+use Rattle.audit_program.specs.Statuses.{fix_plan_of}
 use Rattle.audit_program.proofs.Finishing.{all_printing, lines_put, part_nothing, partly_started}
 use Rattle.audit_program.proofs.Putting.{put_memory, put_part}
 use Rattle.audit_program.proofs.fixing.fix.Goals as goal
@@ -28,7 +28,7 @@ returns-in_err-statuses-clause-fixed g c =
 
 pub returns-clause-fixed : goal.returns-clause-fixed
 returns-clause-fixed g c =
-    let each : length c.in_ok-statuses.statuses ≡ length (plan_of c.args.dry_run c.args.sheet.now.auditor.now.database c.args.sheet.now.audited.now).steps =
+    let each : length c.in_ok-statuses.statuses ≡ length (fix_plan_of c.args.dry_run c.args.sheet.now.auditor.now.database c.args.sheet.now.audited.now).steps =
     rw (c.in_ok-plan.ensures.plan, c.database.ensures) at c.in_ok-statuses.ensures.one_each in
     record {
       statuses = c.in_ok-statuses.statuses;
@@ -41,7 +41,7 @@ returns-clause-fixed g c =
 pub returns-in_err-put_lines-clause-fixed : goal.returns-in_err-put_lines-clause-fixed
 returns-in_err-put_lines-clause-fixed g c =
     let is : c.from_residual-in_err-put_lines.result ≡ Err c.in_err-put_lines.field-0.0 = first_of (search rules, grind (arith, common_steps)) in
-    let each : length c.in_ok-statuses.statuses ≡ length (plan_of c.args.dry_run c.args.sheet.now.auditor.now.database c.args.sheet.now.audited.now).steps =
+    let each : length c.in_ok-statuses.statuses ≡ length (fix_plan_of c.args.dry_run c.args.sheet.now.auditor.now.database c.args.sheet.now.audited.now).steps =
     rw (c.in_ok-plan.ensures.plan, c.database.ensures) at c.in_ok-statuses.ensures.one_each in
     rw is record {
       statuses = c.in_ok-statuses.statuses;

@@ -68,12 +68,12 @@ returns-in-Err-made-clause-audited g c =
     let made = rw c.in-Ok.ensures at (c.in-Err-made.ensures.made (g.W.Wire.exchanges c.audit.new.wire) (g.W.Wire.faults c.audit.new.wire)) in
     let other = unmade_unfixed c.args.task.now.remedy _ f (c.in-Err-made.ensures.made (g.W.Wire.exchanges c.audit.new.wire) (g.W.Wire.faults c.audit.new.wire)) in
     let end = c.failed-in-Err-made.ensures.fault in
-    rw c.failed-in-Err-made.ensures.audited record {
+    rw c.with_audit.ensures record {
       left = moment (g.W.Wire.exchanges c.audit.new.wire) (g.D.CacheDisk.past c.audit.new.disk) (g.W.Wire.faults c.audit.new.wire) (g.D.CacheDisk.faults c.audit.new.disk);
       audit = rw (c.in-Ok.ensures, c.as_str.ensures) at c.in-Ok-audit.ensures.audited;
       it = Err f;
       is_made = made;
-      is_plan = c.failed-in-Err-made.ensures.plan;
+      is_plan = refl;
       statuses = [];
       started = started_failed _ _ _ _ [] f c.failed-in-Err-made.result.fault end
           (unmade_started g.R.Runner.tells c.args.task.now.remedy c.args.given.advisories c.in-Ok-audit.audited (g.R.Runner.starts c.args.runner.now) f only other);
@@ -87,18 +87,19 @@ returns-in-Err-made-clause-audited g c =
 pub returns-in-Err-made-clause-fault : goal.returns-in-Err-made-clause-fault
 returns-in-Err-made-clause-fault g c =
     let P : RunFault → Type 0 = λ e. IsAskedFault c.args.task.now c.args.given e in
-    ends_with P c.failed-in-Err-made.result.fault c.in-Err-made.fault c.failed-in-Err-made.ensures.fault
-    (making_case P c.args.task.now.remedy c.in-Err-made.fault c.in-Err-made.ensures.only (λ told is. is) (λ reason is other. (is, other)) tt) tt
+    rw c.with_audit.ensures (ends_with P c.failed-in-Err-made.result.fault c.in-Err-made.fault c.failed-in-Err-made.ensures.fault
+    (making_case P c.args.task.now.remedy c.in-Err-made.fault c.in-Err-made.ensures.only (λ told is. is) (λ reason is other. (is, other)) tt) tt)
 
 pub returns-in-Err-made-clause-no_audit : goal.returns-in-Err-made-clause-no_audit
 returns-in-Err-made-clause-no_audit g c =
-    let P : RunFault → Type 0 = λ e. IsEarly c.args.task.now.remedy e → c.failed-in-Err-made.result.audited ≡ None in
-    ends_with P c.failed-in-Err-made.result.fault c.in-Err-made.fault c.failed-in-Err-made.ensures.fault
-    (λ early. late_making c.args.task.now.remedy c.in-Err-made.fault c.in-Err-made.ensures.only early) (λ early. late_memory c.args.task.now.remedy early)
+    let P : RunFault → Type 0 = λ e. IsEarly c.args.task.now.remedy e → Some c.in-Ok-audit.audited ≡ None in
+    rw c.with_audit.ensures (ends_with P c.failed-in-Err-made.result.fault c.in-Err-made.fault c.failed-in-Err-made.ensures.fault
+    (λ early. late_making c.args.task.now.remedy c.in-Err-made.fault c.in-Err-made.ensures.only early) (λ early. late_memory c.args.task.now.remedy early))
 
 pub returns-in-Err-made-clause-failed : goal.returns-in-Err-made-clause-failed
 returns-in-Err-made-clause-failed g c told =
-    making_told c.args.task.now.remedy _ _ c.in-Err-made.fault c.failed-in-Err-made.result.fault c.failed-in-Err-made.ensures.fault (c.in-Err-made.ensures.failed told)
+    rw c.with_audit.ensures
+    (making_told c.args.task.now.remedy _ _ c.in-Err-made.fault c.failed-in-Err-made.result.fault c.failed-in-Err-made.ensures.fault (c.in-Err-made.ensures.failed told))
 
 -- ---- where all was done
 
@@ -138,7 +139,7 @@ returns-in-Ok-finish-clause-off g c unread off =
 pub returns-in-Ok-finish-clause-audited : goal.returns-in-Ok-finish-clause-audited
 returns-in-Ok-finish-clause-audited g c =
     let f = rw (c.in-Ok.ensures, c.as_str-2.ensures, c.as_str-3.ensures) at c.in-Ok-finish.ensures.finished in
-    rw c.ended.ensures record {
+    rw (c.with_audit-in-Ok-finish.ensures, c.of_status.ensures) record {
       left = moment (g.W.Wire.exchanges c.audit.new.wire) (g.D.CacheDisk.past c.audit.new.disk) (g.W.Wire.faults c.audit.new.wire) (g.D.CacheDisk.faults c.audit.new.disk);
       audit = rw (c.in-Ok.ensures, c.as_str.ensures) at c.in-Ok-audit.ensures.audited;
       it = Ok c.in-Ok-made.made;
@@ -187,45 +188,46 @@ returns-clause-off g c unread off =
 pub returns-clause-audited : goal.returns-clause-audited
 returns-clause-audited g c =
     let f = rw (c.in-Ok.ensures, c.as_str-2.ensures, c.as_str-3.ensures) at c.in-Err-finish.ensures.finished in
-    let end = c.unfinished.ensures.fault in
-    rw c.unfinished.ensures.audited record {
+    let end = c.failed-in-Err-finish.ensures.fault in
+    rw c.with_audit-in-Err-finish.ensures record {
       left = moment (g.W.Wire.exchanges c.audit.new.wire) (g.D.CacheDisk.past c.audit.new.disk) (g.W.Wire.faults c.audit.new.wire) (g.D.CacheDisk.faults c.audit.new.disk);
       audit = rw (c.in-Ok.ensures, c.as_str.ensures) at c.in-Ok-audit.ensures.audited;
       it = Ok c.in-Ok-made.made;
       is_made = rw c.in-Ok.ensures at (c.in-Ok-made.ensures.made (g.W.Wire.exchanges c.audit.new.wire) (g.W.Wire.faults c.audit.new.wire));
-      is_plan = rw c.unfinished.ensures.plan c.into_plan-in-Err-finish.ensures;
+      is_plan = c.into_plan-in-Err-finish.ensures;
       statuses = f.statuses;
-      started = started_failed _ _ _ _ _ c.in-Err-finish.fault c.unfinished.result.fault end f.started;
-      out = λ told. c.unfinished.ensures.put _ _ _ (rw (c.in-Ok.ensures, c.as_str-2.ensures, c.as_str-3.ensures) at (c.in-Err-finish.ensures.out told));
+      started = started_failed _ _ _ _ _ c.in-Err-finish.fault c.failed-in-Err-finish.result.fault end f.started;
+      out = λ told. c.failed-in-Err-finish.ensures.put _ _ _ (rw (c.in-Ok.ensures, c.as_str-2.ensures, c.as_str-3.ensures) at (c.in-Err-finish.ensures.out told));
       err = λ told.
-          ended_from _ _ _ c.unfinished.result.fault _ _ _ _ c.in-Err-finish.ensures.err_later c.unfinished.ensures.later
-          (rw c.place-in-Err-finish.ensures at (c.unfinished.ensures.ended told _ _ (f.put told)));
+          ended_from _ _ _ c.failed-in-Err-finish.result.fault _ _ _ _ c.in-Err-finish.ensures.err_later c.failed-in-Err-finish.ensures.later
+          (rw c.place-in-Err-finish.ensures at (c.failed-in-Err-finish.ensures.ended told _ _ (f.put told)));
       shown = rw (c.in-Ok.ensures, c.as_str-2.ensures, c.as_str-3.ensures) at c.in-Err-finish.ensures.shown;
       is_end = record {
         unmade = tt;
-        made = ends_with IsFinishFault c.unfinished.result.fault c.in-Err-finish.fault end c.in-Err-finish.ensures.only tt;
-        status = λ none. has_fault c.in-Err-finish.fault c.unfinished.result.fault end none;
+        made = ends_with IsFinishFault c.failed-in-Err-finish.result.fault c.in-Err-finish.fault end c.in-Err-finish.ensures.only tt;
+        status = λ none. has_fault c.in-Err-finish.fault c.failed-in-Err-finish.result.fault end none;
       };
     }
 
 pub returns-clause-fault : goal.returns-clause-fault
 returns-clause-fault g c =
     let P : RunFault → Type 0 = λ e. IsAskedFault c.args.task.now c.args.given e in
-    ends_with P c.unfinished.result.fault c.in-Err-finish.fault c.unfinished.ensures.fault
-    (finish_case P c.in-Err-finish.fault c.in-Err-finish.ensures.only tt (λ failed some. some) tt) tt
+    rw c.with_audit-in-Err-finish.ensures (ends_with P c.failed-in-Err-finish.result.fault c.in-Err-finish.fault c.failed-in-Err-finish.ensures.fault
+    (finish_case P c.in-Err-finish.fault c.in-Err-finish.ensures.only tt (λ failed some. some) tt) tt)
 
 pub returns-clause-rose : goal.returns-clause-rose
 returns-clause-rose g c is =
-    let mine = same_fault c.in-Err-finish.fault fault.Print c.unfinished.result.fault c.unfinished.ensures.fault is memory_no_print in
-    rose_later _ _ _ _ _ (c.in-Err-finish.ensures.print_rose (ap (λ (e : RunFault). Err e) mine)) c.unfinished.ensures.later
+    let mine = same_fault c.in-Err-finish.fault fault.Print c.failed-in-Err-finish.result.fault c.failed-in-Err-finish.ensures.fault (rw c.with_audit-in-Err-finish.ensures at is) memory_no_print in
+    rose_later _ _ _ _ _ (c.in-Err-finish.ensures.print_rose (ap (λ (e : RunFault). Err e) mine)) c.failed-in-Err-finish.ensures.later
 
 pub returns-clause-no_audit : goal.returns-clause-no_audit
 returns-clause-no_audit g c =
-    let P : RunFault → Type 0 = λ e. IsEarly c.args.task.now.remedy e → c.unfinished.result.audited ≡ None in
-    ends_with P c.unfinished.result.fault c.in-Err-finish.fault c.unfinished.ensures.fault
+    let P : RunFault → Type 0 = λ e. IsEarly c.args.task.now.remedy e → Some c.in-Ok-audit.audited ≡ None in
+    rw c.with_audit-in-Err-finish.ensures (ends_with P c.failed-in-Err-finish.result.fault c.in-Err-finish.fault c.failed-in-Err-finish.ensures.fault
     (finish_case P c.in-Err-finish.fault c.in-Err-finish.ensures.only (λ early. late_print c.args.task.now.remedy early) (λ failed some early. late_start c.args.task.now.remedy failed early)
-    (λ early. late_memory c.args.task.now.remedy early)) (λ early. late_memory c.args.task.now.remedy early)
+    (λ early. late_memory c.args.task.now.remedy early)) (λ early. late_memory c.args.task.now.remedy early))
 
 pub returns-clause-failed : goal.returns-clause-failed
 returns-clause-failed g c told =
-    finishing_told c.args.task.now.remedy _ _ c.in-Err-finish.fault c.unfinished.result.fault c.unfinished.ensures.fault c.in-Err-finish.ensures.only (c.in-Ok-made.ensures.failed told)
+    rw c.with_audit-in-Err-finish.ensures
+    (finishing_told c.args.task.now.remedy _ _ c.in-Err-finish.fault c.failed-in-Err-finish.result.fault c.failed-in-Err-finish.ensures.fault c.in-Err-finish.ensures.only (c.in-Ok-made.ensures.failed told))
