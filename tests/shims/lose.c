@@ -1,5 +1,5 @@
 /* Stands before the C library's fsync, and keeps what a disk would have: a file's bytes as they were
- * at its last sync, and of a folder the names that it had at its last one. bench/lose makes a crash of
+ * at its last sync, and of a folder the names that it had at its last one. tests/checks/lose makes a crash of
  * it. LOSE_FROM is the folder that is watched, LOSE_TO where the copies go; with LOSE_LIE set, a sync
  * does nothing and says that it did. */
 #define _GNU_SOURCE
