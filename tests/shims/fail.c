@@ -1,7 +1,8 @@
 /* Stands before the C library, counts the calls that the program makes on the system from the start of
  * its main on, and fails one of them with EIO: the one whose number FAIL_AT has, counted from 1. With
- * FAIL_AT=0 none fails, and at the end the names of all that were counted, one a line, go to the file
- * that FAIL_COUNT_TO names. tests/checks/hostile runs the program so once for each call. */
+ * FAIL_EVERY=N each Nth call of each name fails with EINTR instead. With neither none fails. Where
+ * FAIL_COUNT_TO names a file, the names of all calls go there at the end, one a line.
+ * tests/checks/hostile runs the program once for each call, tests/checks/odd with every other one. */
 #define _GNU_SOURCE
 #include <dirent.h>
 #include <dlfcn.h>
@@ -18,30 +19,40 @@
 enum { MOST = 1 << 16 };
 static const char *called[MOST];
 static int count, begun;
-static long fail_at;
+static long fail_at, fail_every;
 
-/* Whether this call is to fail. */
-static int fails(const char *name) {
+/* Whether this call is to fail; `own` is how many there were of its name. */
+static int fails(const char *name, long *own) {
   if (!begun) return 0;
   if (count < MOST) called[count] = name;
   count++;
-  if (count != fail_at) return 0;
-  errno = EIO;
-  return 1;
+  (*own)++;
+  if (count == fail_at) {
+    errno = EIO;
+    return 1;
+  }
+  if (fail_every && *own % fail_every == 0) {
+    errno = EINTR;
+    return 1;
+  }
+  return 0;
 }
 
 #define REAL(name) ((__typeof__(&name))dlsym(RTLD_NEXT, #name))
 #define CALL(type, name, parameters, ...)                        \
   type name parameters {                                         \
-    if (fails(#name)) return (type)-1;                           \
+    static long own;                                             \
+    if (fails(#name, &own)) return (type)-1;                     \
     return REAL(name)(__VA_ARGS__);                              \
   }
 #define CALL_OF_NONE(type, name, parameters, ...)                \
   type name parameters {                                         \
-    if (fails(#name)) return 0;                                  \
+    static long own;                                             \
+    if (fails(#name, &own)) return 0;                            \
     return REAL(name)(__VA_ARGS__);                              \
   }
 #define MODE(flags)                                              \
+  static long own;                                               \
   mode_t mode = 0;                                               \
   if ((flags) & (O_CREAT | O_TMPFILE)) {                         \
     va_list more;                                                \
@@ -50,10 +61,10 @@ static int fails(const char *name) {
     va_end(more);                                                \
   }
 
-int open(const char *path, int flags, ...) { MODE(flags) return fails("open") ? -1 : REAL(open)(path, flags, mode); }
-int open64(const char *path, int flags, ...) { MODE(flags) return fails("open64") ? -1 : REAL(open64)(path, flags, mode); }
-int openat(int at, const char *path, int flags, ...) { MODE(flags) return fails("openat") ? -1 : REAL(openat)(at, path, flags, mode); }
-int openat64(int at, const char *path, int flags, ...) { MODE(flags) return fails("openat64") ? -1 : REAL(openat64)(at, path, flags, mode); }
+int open(const char *path, int flags, ...) { MODE(flags) return fails("open", &own) ? -1 : REAL(open)(path, flags, mode); }
+int open64(const char *path, int flags, ...) { MODE(flags) return fails("open64", &own) ? -1 : REAL(open64)(path, flags, mode); }
+int openat(int at, const char *path, int flags, ...) { MODE(flags) return fails("openat", &own) ? -1 : REAL(openat)(at, path, flags, mode); }
+int openat64(int at, const char *path, int flags, ...) { MODE(flags) return fails("openat64", &own) ? -1 : REAL(openat64)(at, path, flags, mode); }
 
 CALL(int, stat, (const char *path, struct stat *found), path, found)
 CALL(int, lstat, (const char *path, struct stat *found), path, found)
@@ -90,8 +101,9 @@ CALL_OF_NONE(char *, getcwd, (char *to, size_t size), to, size)
 static int (*program)(int, char **, char **);
 
 static int from_main(int words, char **given, char **environment) {
-  const char *at = getenv("FAIL_AT");
+  const char *at = getenv("FAIL_AT"), *every = getenv("FAIL_EVERY");
   fail_at = at ? atol(at) : 0;
+  fail_every = every ? atol(every) : 0;
   begun = 1;
   return program(words, given, environment);
 }
