@@ -22,6 +22,8 @@ import traceback
 from typing import NamedTuple
 
 TOP = os.path.dirname(os.path.dirname(os.path.abspath(__file__)))
+# the current folder before a check went to its own
+BEGAN = os.environ.get("PWD", "/")
 PROGRAM = os.path.abspath(os.environ.get("CARGO_AUDIT_PROGRAM") or f"{TOP}/crates/cargo_audit/out/cargo_audit")
 
 # ---- results
@@ -259,10 +261,11 @@ def cargo_folder():
     return f"{found}/bin" if os.access(f"{found}/bin/cargo", os.X_OK) else os.path.dirname(shutil.which("cargo"))
 
 
-def with_cargo(**more):
-    """An environment in which the real cargo runs without a network, with an empty home of its own."""
-    path = f"{cargo_folder()}:{os.environ['PATH']}"
-    return environment(PATH=path, CARGO_NET_OFFLINE="true", CARGO_HOME=os.path.abspath("cargo-home"), **more)
+def with_cargo(home, programs="", **more):
+    """An environment in which the real cargo runs without a network, with a home of its own and the
+    programs of a folder."""
+    path = [programs] * bool(programs) + [cargo_folder(), os.environ["PATH"]]
+    return environment(PATH=":".join(path), CARGO_NET_OFFLINE="true", CARGO_HOME=os.path.abspath(home), **more)
 
 
 # ---- files
@@ -273,6 +276,11 @@ def put(path, content):
     os.makedirs(os.path.dirname(path) or ".", exist_ok=True)
     with open(path, "wb") as out:
         out.write(content.encode() if isinstance(content, str) else content)
+
+
+def given_path(path):
+    """A path that was given as a word, from the folder that the check was started in."""
+    return os.path.normpath(os.path.join(BEGAN, path))
 
 
 def bytes_of(path):
