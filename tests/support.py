@@ -268,6 +268,26 @@ def with_cargo(home, programs="", **more):
     return environment(PATH=":".join(path), CARGO_NET_OFFLINE="true", CARGO_HOME=os.path.abspath(home), **more)
 
 
+# ---- programs over tables
+
+
+def row_word(content):
+    """A text or bytes as a word of a row."""
+    plain = content.encode() if isinstance(content, str) else content
+    if not plain:
+        return "''"
+    is_safe = set(b"abcdefghijklmnopqrstuvwxyzABCDEFGHIJKLMNOPQRSTUVWXYZ0123456789/.:_+=@") | ({ord("-")} if plain != b"-" else set())
+    return "".join(chr(byte) if byte in is_safe else f"\\x{byte:02x}" for byte in plain)
+
+
+def rows(crate, section, lines):
+    """The answers of a program over tables to rows of a section; None where it isn't built."""
+    program = f"{TOP}/crates/{crate}/out/{crate}"
+    if not os.access(program, os.X_OK):
+        return None
+    return run([program], given=f"== {section}\n" + "\n".join(lines) + "\n").out.split("\n")[1:]
+
+
 # ---- files
 
 
