@@ -3,9 +3,11 @@
 
 mod locking;
 mod starting;
+mod streams;
 
 use crate::locking::cache_lock;
 use crate::starting::{StartFault, folder, words};
+use crate::streams::closed_streams;
 use audit_asked::NoRunner;
 use audit_binaries::PlainDecoder;
 use audit_edges::{FileCacheDisk, MirrorWire, StdFiles, StdSink};
@@ -20,6 +22,7 @@ const DEFAULT_MIRROR: &str = "index-mirror";
 const DEFAULT_CACHE: &str = "index-cache";
 
 fn audit(rt: &HostRuntime) -> Result<u8, StartFault> {
+    let _streams = closed_streams(rt)?;
     let words = words(rt)?;
     let mirror = folder(rt, "CARGO_AUDIT_MIRROR", DEFAULT_MIRROR)?;
     let cache = folder(rt, "CARGO_AUDIT_INDEX", DEFAULT_CACHE)?;
