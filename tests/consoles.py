@@ -205,8 +205,7 @@ def run_block(block, program):
         programs_in(f"{room}/bin", program, block.needs)
         lay(block, work)
         places = {"[FOLDER]": work, "[HOME]": home}
-        path = os.environ["PATH"] if block.needs else os.defpath
-        env = {"PATH": f"{room}/bin:{path}", "HOME": home, "LC_ALL": "C.UTF-8", "TMPDIR": f"{room}/tmp"}
+        env = {"PATH": f"{room}/bin:{os.environ['PATH']}", "HOME": home, "LC_ALL": "C.UTF-8", "TMPDIR": f"{room}/tmp"}
         shell = subprocess.Popen(["bash", "-c", script_of(block, kept, places)], cwd=work, env=env, stdin=subprocess.DEVNULL,
                                  stdout=subprocess.DEVNULL, stderr=subprocess.DEVNULL, start_new_session=True)
         try:
