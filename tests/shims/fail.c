@@ -2,7 +2,7 @@
  * its main on, and fails one of them with EIO: the one whose number FAIL_AT has, counted from 1. With
  * FAIL_EVERY=N each Nth call of each name fails with EINTR instead. With neither none fails. Where
  * FAIL_COUNT_TO names a file, the names of all calls go there at the end, one a line.
- * tests/checks/hostile runs the program once for each call, tests/checks/odd with every other one. */
+ * tests/checks/failing runs the program once for each call, tests/checks/odd with every other one. */
 #define _GNU_SOURCE
 #include <dirent.h>
 #include <dlfcn.h>

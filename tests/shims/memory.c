@@ -1,6 +1,6 @@
 /* Stands before the C library's malloc and realloc, counts how often the program asks for memory from
  * the start of its main on, and refuses it once: the time that REFUSE_AT has, counted from 1. At the end
- * the count goes to the file that REFUSE_COUNT_TO names. tests/checks/hostile runs the program so once for
+ * the count goes to the file that REFUSE_COUNT_TO names. tests/checks/failing runs the program so once for
  * each time. A program that brings its own malloc isn't counted. */
 #define _GNU_SOURCE
 #include <dlfcn.h>
