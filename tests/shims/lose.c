@@ -1,7 +1,7 @@
 /* Stands before the C library's fsync, and keeps what a disk would have: a file's bytes as they were
  * at its last sync, and of a folder the names that it had at its last one. tests/checks/lose makes a crash of
  * it. LOSE_FROM is the folder that is watched, LOSE_TO where the copies go; with LOSE_LIE set, a sync
- * does nothing and says that it did. */
+ * does nothing and says that it did; LOSE_STOP_AT=N ends the program in front of its Nth sync there. */
 #define _GNU_SOURCE
 #include <dirent.h>
 #include <dlfcn.h>
@@ -11,6 +11,8 @@
 #include <string.h>
 #include <sys/stat.h>
 #include <unistd.h>
+
+enum { STOPPED = 99 };
 
 static void make_folders(char *path) {
   for (char *at = path + 1; *at; at++)
@@ -47,6 +49,9 @@ int fsync(int fd) {
   if (!from || !to || n < 0 || fstat(fd, &found) < 0) return real(fd);
   path[n] = 0;
   if (strncmp(path, from, strlen(from)) != 0) return real(fd);
+  static long count;
+  const char *stop = getenv("LOSE_STOP_AT");
+  if (stop && ++count == atol(stop)) _exit(STOPPED);
   int is_folder = S_ISDIR(found.st_mode);
   snprintf(kept, sizeof kept, "%s%s%s", to, path + strlen(from), is_folder ? "/.names" : "");
   snprintf(half, sizeof half, "%s.half", kept);
