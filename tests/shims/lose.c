@@ -45,13 +45,13 @@ int fsync(int fd) {
   snprintf(link, sizeof link, "/proc/self/fd/%d", fd);
   ssize_t n = readlink(link, path, sizeof path - 1);
   struct stat found;
-  if (getenv("LOSE_LIE")) return 0;
   if (!from || !to || n < 0 || fstat(fd, &found) < 0) return real(fd);
   path[n] = 0;
   if (strncmp(path, from, strlen(from)) != 0) return real(fd);
   static long count;
   const char *stop = getenv("LOSE_STOP_AT");
   if (stop && ++count == atol(stop)) _exit(STOPPED);
+  if (getenv("LOSE_LIE")) return 0;
   int is_folder = S_ISDIR(found.st_mode);
   snprintf(kept, sizeof kept, "%s%s%s", to, path + strlen(from), is_folder ? "/.names" : "");
   snprintf(half, sizeof half, "%s.half", kept);
