@@ -1,9 +1,12 @@
 //! What lies below a folder. No link is followed there, and nothing but a plain file is opened.
+ghost use Rattle.std.specs.Prelude.{◌≡◌};
+
 use crate::calls::{look, look_at_opened, open};
-use crate::reading::{ReadBuffer, is_absent, made};
+use crate::reading::{is_absent, made, read_within};
 use std::alloc::Global;
+use std::collections::BTreeSet;
 use std::fs::{Metadata, OpenOptions};
-use std::io::{self, ErrorKind};
+use std::io::{self, ErrorKind, Read};
 use std::os::unix::fs::MetadataExt;
 use std::rt::Files;
 use tame_names::{ReadAnswer, Text, join};
@@ -47,27 +50,24 @@ pub struct Below {
     pub file: Option<Metadata>,
 }
 
-/// The file at a path below a folder. Each folder on the way is looked at first; below a file and
-/// below nothing there is none.
-pub fn file_below<R: Files + AllocGlobal>(rt: &R, folder: &str, path: &str) -> io::Result<Below> {
-    let alloc = rt.alloc();
-    let mut place = joined(alloc, folder, "")?;
-    let mut found = Found::Folder;
-    for name in path.split('/') {
-        place = inside(alloc, place.as_str(), name)?;
-        found = match found {
-            Found::Folder => found_at(rt, place.as_str())?,
-            _ => Found::Nothing,
-        };
+/// A file that was opened to be read, and what was found there before.
+#[derive(Drop)]
+pub struct OpenedToRead<F: Drop> {
+    pub file: F,
+    pub found: Metadata,
+}
+
+/// Whether two looks saw the same file, as long as it is open.
+pub fn is_same(first: &Metadata, second: &Metadata) -> bool {
+    first.dev() == second.dev() && first.ino() == second.ino()
+}
+
+/// An error where a file has more than `limit` bytes.
+pub fn check_limit(found: &Metadata, limit: u64) -> io::Result<()> {
+    if found.len() > limit {
+        return Err(io::Error::from(ErrorKind::FileTooLarge));
     }
-    match found {
-        Found::Nothing => Ok(Below { place, file: None }),
-        Found::File(file) => Ok(Below {
-            place,
-            file: Some(file),
-        }),
-        Found::Folder => Err(io::Error::from(ErrorKind::IsADirectory)),
-    }
+    Ok(())
 }
 
 /// Opens the file that was found at a place, where it has at most `limit` bytes and no other one
@@ -79,60 +79,143 @@ pub fn open_found<R: Files>(
     how: &OpenOptions,
     limit: u64,
 ) -> io::Result<R::File> {
-    if found.len() > limit {
-        return Err(io::Error::from(ErrorKind::FileTooLarge));
-    }
+    check_limit(found, limit)?;
     let file = open(rt, how, place)?;
     let opened = look_at_opened(&file)?;
-    if opened.is_file() && opened.dev() == found.dev() && opened.ino() == found.ino() {
+    if opened.is_file() && is_same(&opened, found) {
         Ok(file)
     } else {
         Err(io::Error::from(ErrorKind::InvalidInput))
     }
 }
 
-/// A file that was opened to be read, and how many bytes it had then.
-#[derive(Drop)]
-pub struct OpenedToRead<F: Drop> {
-    pub file: F,
-    pub len: u64,
-}
-
-/// Opens the file at a path below a folder to be read, if there is one. One of more than `limit`
-/// bytes is an error.
-pub fn open_below<R: Files + AllocGlobal>(
+/// Opens the file that was found at a place to be read, as `open_found` does.
+pub fn open_to_read<R: Files>(
     rt: &R,
-    folder: &str,
-    path: &str,
+    place: &str,
+    found: Metadata,
     limit: u64,
-) -> io::Result<Option<OpenedToRead<R::File>>> {
-    let below = file_below(rt, folder, path)?;
-    let Some(found) = below.file else {
-        return Ok(None);
-    };
+) -> io::Result<OpenedToRead<R::File>> {
     let mut how = OpenOptions::new();
     how.read(true);
-    let file = open_found(rt, below.place.as_str(), &found, &how, limit)?;
-    Ok(Some(OpenedToRead {
-        file,
-        len: found.len(),
-    }))
+    Ok(OpenedToRead {
+        file: open_found(rt, place, &found, &how, limit)?,
+        found,
+    })
 }
 
-/// The bytes of the file at a path below a folder, if there is one. One of more than `limit`
-/// bytes is an error.
-pub fn read_below<R: Files + AllocGlobal>(
-    rt: &R,
+/// A folder, with what is known of those below it. One that was found there to be a folder isn't
+/// looked at again.
+#[derive(Drop)]
+pub struct Root<'a, R: Files + AllocGlobal> {
+    rt: &'a R,
+    pub folder: &'a str,
+    /// The places below the folder at which folders were found.
+    known: BTreeSet<Text>,
+}
+
+impl<'a, R: Files + AllocGlobal> Root<'a, R> {
+    pub fn new(rt: &'a R, folder: &'a str) -> Root<'a, R>
+        ensures { result.folder.now ≡ folder.now }
+    {
+        Root {
+            rt,
+            folder,
+            known: BTreeSet::new(rt.alloc()),
+        }
+    }
+
+    /// Notes that a folder is at a place.
+    pub fn note_folder(&mut self, place: &str) -> io::Result<()> {
+        let place = made(Text::of(self.rt.alloc(), place))?;
+        match self.known.insert(place) {
+            Ok(_) => Ok(()),
+            Err(_) => Err(io::Error::from(ErrorKind::OutOfMemory)),
+        }
+    }
+
+    /// Whether a folder is at a place.
+    fn is_folder(&mut self, place: &Text) -> io::Result<bool> {
+        if self.known.contains(place) {
+            return Ok(true);
+        }
+        match found_at(self.rt, place.as_str())? {
+            Found::Folder => {
+                self.note_folder(place.as_str())?;
+                Ok(true)
+            }
+            _ => Ok(false),
+        }
+    }
+
+    /// Whether folders that were found before are still there.
+    pub fn still_has(&self, folders: &str) -> io::Result<bool> {
+        let place = joined(self.rt.alloc(), self.folder, folders)?;
+        if !self.known.contains(&place) {
+            return Ok(false);
+        }
+        Ok(matches!(found_at(self.rt, place.as_str())?, Found::Folder))
+    }
+
+    /// The place of folders, and whether they are there. Each is looked at; below a file and below
+    /// nothing there is none.
+    fn way(&mut self, folders: &str) -> io::Result<(Text, bool)> {
+        let alloc = self.rt.alloc();
+        let whole = joined(alloc, self.folder, folders)?;
+        if self.known.contains(&whole) {
+            return Ok((whole, true));
+        }
+        let mut place = joined(alloc, self.folder, "")?;
+        let mut is_there = true;
+        for name in folders.split('/') {
+            place = inside(alloc, place.as_str(), name)?;
+            is_there = is_there && self.is_folder(&place)?;
+        }
+        Ok((place, is_there))
+    }
+
+    /// The file at a path.
+    pub fn file(&mut self, path: &str) -> io::Result<Below> {
+        let alloc = self.rt.alloc();
+        let ((above, is_there), name) = match path.rsplit_once('/') {
+            Some((folders, name)) => (self.way(folders)?, name),
+            None => ((joined(alloc, self.folder, "")?, true), path),
+        };
+        let place = inside(alloc, above.as_str(), name)?;
+        if !is_there {
+            return Ok(Below { place, file: None });
+        }
+        match found_at(self.rt, place.as_str())? {
+            Found::Nothing => Ok(Below { place, file: None }),
+            Found::File(file) => Ok(Below {
+                place,
+                file: Some(file),
+            }),
+            Found::Folder => Err(io::Error::from(ErrorKind::IsADirectory)),
+        }
+    }
+
+    /// The bytes of the file at a path, if there is one. One of more than `limit` bytes is an
+    /// error.
+    pub fn read(&mut self, alloc: Global, path: &str, limit: u64) -> io::Result<Option<Vec<u8>>> {
+        let below = self.file(path)?;
+        let Some(found) = below.file else {
+            return Ok(None);
+        };
+        let len = found.len();
+        let mut opened = open_to_read(self.rt, below.place.as_str(), found, limit)?;
+        read_whole(alloc, &mut opened.file, len, limit)
+    }
+}
+
+/// The bytes of an opened file, of which `expected` should come. More than `limit` are an error.
+pub fn read_whole<F: Read>(
     alloc: Global,
-    buffer: &mut ReadBuffer,
-    folder: &str,
-    path: &str,
+    file: &mut F,
+    expected: u64,
     limit: u64,
 ) -> io::Result<Option<Vec<u8>>> {
-    let Some(mut opened) = open_below(rt, folder, path, limit)? else {
-        return Ok(None);
-    };
-    match buffer.read_within(alloc, &mut opened.file, opened.len, limit)? {
+    match read_within(alloc, file, expected, limit)? {
         ReadAnswer::Whole(bytes) => Ok(Some(bytes)),
         ReadAnswer::Absent => Ok(None),
         ReadAnswer::Over(_) => Err(io::Error::from(ErrorKind::FileTooLarge)),

@@ -5,6 +5,7 @@ ghost use Rattle.tame_names.specs.Counts.{CountRose};
 use crate::cache_folder::CacheFolder;
 use std::alloc::Global;
 use std::io::ErrorKind;
+use std::os::unix::fs::FileExt;
 use std::rt;
 use tame_cache::{CacheDisk, DiskFault, DiskReadFault, Peek};
 
@@ -17,10 +18,13 @@ pub struct FileCacheDisk<'a, R: rt::Files + AllocGlobal> {
     faults: u64,
 }
 
-impl<'a, R: rt::Files + AllocGlobal> FileCacheDisk<'a, R> {
+impl<'a, R: rt::Files + AllocGlobal> FileCacheDisk<'a, R>
+where
+    R::File: FileExt,
+{
     /// The disk of the files in a folder.
     pub fn new(rt: &'a R, folder: &'a str) -> FileCacheDisk<'a, R>
-        ensures folder { result.files.folder.now ≡ folder.now }
+        ensures folder { result.files.root.folder.now ≡ folder.now }
         ensures faults { result.faults ≡ 0 }
     {
         FileCacheDisk {
@@ -38,7 +42,10 @@ impl<'a, R: rt::Files + AllocGlobal> FileCacheDisk<'a, R> {
     }
 }
 
-impl<'a, R: rt::Files + AllocGlobal> CacheDisk for FileCacheDisk<'a, R> {
+impl<'a, R: rt::Files + AllocGlobal> CacheDisk for FileCacheDisk<'a, R>
+where
+    R::File: FileExt,
+{
     ghost tells = { ⊥ };
 
     ghost past = { λ _ _. [] };

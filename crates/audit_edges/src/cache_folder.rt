@@ -3,16 +3,17 @@
 ghost use Rattle.std.specs.Prelude.{◌≡◌};
 
 use crate::below::{
-    Found, file_below, found_at, inside, joined, open_below, open_found, read_below,
+    Found, OpenedToRead, Root, check_limit, found_at, inside, is_same, joined, open_found,
+    open_to_read, read_whole,
 };
-use crate::calls::{
-    go_to, look_at_opened, look_through, make_folder, next_byte, open, set_len, sync,
-};
-use crate::reading::{ReadBuffer, made};
+use crate::calls::{first_byte, look_at_opened, look_through, make_folder, open, set_len, sync};
+use crate::reading::{FromStart, made};
+use crate::waiting::Waiting;
 use std::alloc::Global;
 use std::fs::{OpenFile, OpenOptions};
-use std::io::{self, ErrorKind, Read, Seek, Write};
+use std::io::{self, ErrorKind};
 use std::mem;
+use std::os::unix::fs::FileExt;
 use std::rt::Files;
 use tame_cache::Peek;
 use tame_names::{Items, Text};
@@ -33,15 +34,18 @@ struct OpenedFile<F: Drop> {
 #[derive(Drop)]
 pub struct CacheFolder<'a, R: Files + AllocGlobal> {
     rt: &'a R,
-    pub folder: &'a str,
+    pub root: Root<'a, R>,
     /// The file that was written or synced last.
     opened: Option<OpenedFile<R::File>>,
+    /// What was written to it last, and isn't in it yet.
+    waiting: Waiting,
+    /// The file that was read last.
+    read: Option<OpenedToRead<R::File>>,
     /// The folders in which something was made since they were synced.
     unsynced: Items<Text>,
     /// That a sync has failed: of the file that is open, or of its folders. Nothing is written
     /// from then on, and that file isn't read.
     has_failed: bool,
-    buffer: ReadBuffer,
 }
 
 /// The folder that a place lies in.
@@ -53,34 +57,32 @@ fn above(place: &str) -> &str {
     }
 }
 
-fn write_piece<F: Write + Seek>(file: &mut F, at: u64, piece: &[u8]) -> io::Result<()> {
-    go_to(file, at)?;
-    file.write_all(piece)
-}
-
 /// Writes a closed gate once more. After a failed sync of another process the system may hold the
 /// 0 alone, and count it as written; now it goes to the disk by this descriptor. A gate that isn't
 /// closed isn't written, so none is ever opened here.
-fn close_again<F: Read + Write + Seek>(file: &mut F) -> io::Result<()> {
-    go_to(file, 0)?;
-    match next_byte(file)? {
-        Some(0) => write_piece(file, 0, &[0]),
+fn close_again<F: FileExt>(file: &F) -> io::Result<()> {
+    match first_byte(file)? {
+        Some(0) => file.write_all_at(&[0], 0),
         _ => Ok(()),
     }
 }
 
-impl<'a, R: Files + AllocGlobal> CacheFolder<'a, R> {
+impl<'a, R: Files + AllocGlobal> CacheFolder<'a, R>
+where
+    R::File: FileExt,
+{
     /// The files of a folder.
     pub fn new(rt: &'a R, folder: &'a str) -> CacheFolder<'a, R>
-        ensures { result.folder.now ≡ folder.now }
+        ensures { result.root.folder.now ≡ folder.now }
     {
         CacheFolder {
             rt,
-            folder,
+            root: Root::new(rt, folder),
             opened: None,
+            waiting: Waiting::new(rt.alloc()),
+            read: None,
             unsynced: Items::new(rt.alloc()),
             has_failed: false,
-            buffer: ReadBuffer::new(),
         }
     }
 
@@ -92,21 +94,59 @@ impl<'a, R: Files + AllocGlobal> CacheFolder<'a, R> {
         Ok(())
     }
 
-    /// An error where the sync of this file has failed.
-    fn may_read(&self, path: &str) -> io::Result<()> {
+    /// Writes what waits to be written.
+    fn write_waiting(&mut self) -> io::Result<()> {
         match &self.opened {
-            Some(opened) if opened.path.as_str() == path => self.may_write(),
-            _ => Ok(()),
+            Some(opened) => self.waiting.write(&opened.file),
+            None => Ok(()),
+        }
+    }
+
+    /// Whether this file is the one that was written or synced last.
+    fn is_opened(&self, path: &str) -> bool {
+        match &self.opened {
+            Some(opened) => opened.path.as_str() == path,
+            None => false,
+        }
+    }
+
+    /// What was written to this file is in it; an error where the sync of it has failed.
+    fn ready_to_read(&mut self, path: &str) -> io::Result<()> {
+        if self.is_opened(path) {
+            self.may_write()?;
+            self.write_waiting()?;
+        }
+        Ok(())
+    }
+
+    /// The file at a path, opened to be read, if there is one. The one that was read last is still
+    /// open, and is opened again only where another one has come to the path.
+    fn open_to_read(&mut self, path: &str) -> io::Result<Option<OpenedToRead<R::File>>> {
+        self.ready_to_read(path)?;
+        let below = self.root.file(path)?;
+        let Some(found) = below.file else {
+            return Ok(None);
+        };
+        match self.read.take() {
+            Some(read) if is_same(&read.found, &found) => {
+                check_limit(&found, CACHE_LIMIT)?;
+                Ok(Some(OpenedToRead {
+                    file: read.file,
+                    found,
+                }))
+            }
+            _ => Ok(Some(open_to_read(self.rt, below.place.as_str(), found, CACHE_LIMIT)?)),
         }
     }
 
     /// The first byte of a file.
-    pub fn first_byte(&self, path: &str) -> io::Result<Peek> {
-        self.may_read(path)?;
-        let Some(mut opened) = open_below(self.rt, self.folder, path, CACHE_LIMIT)? else {
+    pub fn first_byte(&mut self, path: &str) -> io::Result<Peek> {
+        let Some(opened) = self.open_to_read(path)? else {
             return Ok(Peek::Absent);
         };
-        match next_byte(&mut opened.file)? {
+        let first = first_byte(&opened.file);
+        self.read = Some(opened);
+        match first? {
             None => Ok(Peek::Empty),
             Some(first) => Ok(Peek::Byte(first)),
         }
@@ -114,15 +154,13 @@ impl<'a, R: Files + AllocGlobal> CacheFolder<'a, R> {
 
     /// The bytes of a file, if there is one.
     pub fn whole(&mut self, alloc: Global, path: &str) -> io::Result<Option<Vec<u8>>> {
-        self.may_read(path)?;
-        read_below(
-            self.rt,
-            alloc,
-            &mut self.buffer,
-            self.folder,
-            path,
-            CACHE_LIMIT,
-        )
+        let Some(opened) = self.open_to_read(path)? else {
+            return Ok(None);
+        };
+        let len = opened.found.len();
+        let whole = read_whole(alloc, &mut FromStart::new(&opened.file), len, CACHE_LIMIT);
+        self.read = Some(opened);
+        whole
     }
 
     /// Notes that something is to be made at a place: its folder has to be synced.
@@ -140,14 +178,15 @@ impl<'a, R: Files + AllocGlobal> CacheFolder<'a, R> {
     fn make_folder(&mut self, place: &str) -> io::Result<()> {
         self.note_made(place)?;
         match make_folder(self.rt, place) {
-            Err(error) if error.kind() != ErrorKind::AlreadyExists => Err(error),
-            _ => Ok(()),
+            Ok(()) => self.root.note_folder(place),
+            Err(error) if error.kind() == ErrorKind::AlreadyExists => Ok(()),
+            Err(error) => Err(error),
         }
     }
 
     /// Makes the cache folder and those above it, where links may lead, if they are missing.
     fn make_cache_folder(&mut self) -> io::Result<()> {
-        match look_through(self.rt, self.folder) {
+        match look_through(self.rt, self.root.folder) {
             Err(error) if error.kind() == ErrorKind::NotFound => {}
             found => {
                 found?;
@@ -155,13 +194,10 @@ impl<'a, R: Files + AllocGlobal> CacheFolder<'a, R> {
             }
         }
         let alloc = self.rt.alloc();
-        let root = if self.folder.starts_with('/') {
-            "/"
-        } else {
-            ""
-        };
-        let mut place = made(Text::of(alloc, root))?;
-        for name in self.folder.split('/') {
+        let folder = self.root.folder;
+        let first = if folder.starts_with('/') { "/" } else { "" };
+        let mut place = made(Text::of(alloc, first))?;
+        for name in folder.split('/') {
             if name.is_empty() {
                 continue;
             }
@@ -180,16 +216,19 @@ impl<'a, R: Files + AllocGlobal> CacheFolder<'a, R> {
     /// Makes the folders above a path.
     pub fn make_folders(&mut self, path: &str) -> io::Result<()> {
         self.may_write()?;
-        self.make_cache_folder()?;
         let Some((folders, _)) = path.rsplit_once('/') else {
-            return Ok(());
+            return self.make_cache_folder();
         };
+        if self.root.still_has(folders)? {
+            return Ok(());
+        }
+        self.make_cache_folder()?;
         let alloc = self.rt.alloc();
-        let mut place = joined(alloc, self.folder, "")?;
+        let mut place = joined(alloc, self.root.folder, "")?;
         for name in folders.split('/') {
             place = inside(alloc, place.as_str(), name)?;
             match found_at(self.rt, place.as_str())? {
-                Found::Folder => {}
+                Found::Folder => self.root.note_folder(place.as_str())?,
                 Found::File(_) => return Err(io::Error::from(ErrorKind::NotADirectory)),
                 Found::Nothing => self.make_folder(place.as_str())?,
             }
@@ -199,7 +238,7 @@ impl<'a, R: Files + AllocGlobal> CacheFolder<'a, R> {
 
     /// Opens a file to be written; makes it where it may be made and there is none.
     fn open(&mut self, path: &str, may_make: bool) -> io::Result<OpenedFile<R::File>> {
-        let below = file_below(self.rt, self.folder, path)?;
+        let below = self.root.file(path)?;
         let place = below.place.as_str();
         let mut how = OpenOptions::new();
         how.read(true);
@@ -224,6 +263,9 @@ impl<'a, R: Files + AllocGlobal> CacheFolder<'a, R> {
     /// The file that is open, if it is this one, or else this one opened.
     fn opened(&mut self, path: &str, may_make: bool) -> io::Result<OpenedFile<R::File>> {
         self.may_write()?;
+        if !self.is_opened(path) {
+            self.write_waiting()?;
+        }
         match self.opened.take() {
             Some(opened) if opened.path.as_str() == path => Ok(opened),
             _ => self.open(path, may_make),
@@ -232,8 +274,8 @@ impl<'a, R: Files + AllocGlobal> CacheFolder<'a, R> {
 
     /// Writes a piece at a place of a file, and makes the file where there is none.
     pub fn write(&mut self, path: &str, at: u64, piece: &[u8]) -> io::Result<()> {
-        let mut opened = self.opened(path, true)?;
-        let done = write_piece(&mut opened.file, at, piece);
+        let opened = self.opened(path, true)?;
+        let done = self.waiting.add(&opened.file, at, piece);
         self.opened = Some(opened);
         done
     }
@@ -241,7 +283,10 @@ impl<'a, R: Files + AllocGlobal> CacheFolder<'a, R> {
     /// Cuts a file to a length, where it is longer.
     pub fn cut(&mut self, path: &str, len: u64) -> io::Result<()> {
         let opened = self.opened(path, false)?;
-        let done = shorten(&opened.file, len);
+        let done = match self.waiting.write(&opened.file) {
+            Ok(()) => shorten(&opened.file, len),
+            failed => failed,
+        };
         self.opened = Some(opened);
         done
     }
@@ -261,8 +306,9 @@ impl<'a, R: Files + AllocGlobal> CacheFolder<'a, R> {
     }
 
     fn settle(&mut self, opened: &mut OpenedFile<R::File>) -> io::Result<()> {
+        self.waiting.write(&opened.file)?;
         if !opened.is_settled {
-            close_again(&mut opened.file)?;
+            close_again(&opened.file)?;
         }
         self.sync_all(&opened.file)?;
         opened.is_settled = true;

@@ -3,7 +3,8 @@ use crate::locking::LockFiles;
 use std::alloc::Global;
 use std::env;
 use std::fs::{self, File, Metadata, OpenFile, OpenOptions, ReadDir};
-use std::io::{self, ErrorKind, Read, Seek, SeekFrom, Write};
+use std::io::{self, ErrorKind, Read, Write};
+use std::os::unix::fs::FileExt;
 use std::path::PathBuf;
 use std::rt::{Env, Files};
 
@@ -72,23 +73,23 @@ pub fn current_path<R: Env + AllocGlobal>(rt: &R) -> io::Result<PathBuf> {
     again!(env::current_dir(rt))
 }
 
-/// The next byte of a file; none at its end.
-pub fn next_byte<F: Read>(file: &mut F) -> io::Result<Option<u8>> {
-    let mut buffer = [0u8; 1];
+/// Reads once from a reader.
+pub fn read_once<R: Read>(reader: &mut R, room: &mut [u8]) -> io::Result<usize> {
+    again!(reader.read(room))
+}
+
+/// The first byte of a file; none where it has none.
+pub fn first_byte<F: FileExt>(file: &F) -> io::Result<Option<u8>> {
+    let mut room = [0u8; 1];
     for _ in 0..u64::MAX {
-        match file.read(&mut buffer) {
+        match file.read_at(&mut room, 0) {
             Ok(0) => return Ok(None),
-            Ok(_) => return Ok(Some(buffer[0])),
+            Ok(_) => return Ok(Some(room[0])),
             Err(error) if error.kind() == ErrorKind::Interrupted => {}
             Err(error) => return Err(error),
         }
     }
     Err(io::Error::from(ErrorKind::Interrupted))
-}
-
-/// Goes to a place of a file, counted from its beginning.
-pub fn go_to<F: Seek>(file: &mut F, at: u64) -> io::Result<u64> {
-    again!(file.seek(SeekFrom::Start(at)))
 }
 
 pub fn set_len<F: OpenFile>(file: &F, len: u64) -> io::Result<()> {

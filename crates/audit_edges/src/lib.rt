@@ -25,6 +25,7 @@ mod reading;
 mod std_files;
 mod std_sink;
 mod surroundings;
+mod waiting;
 
 pub use cache_disk::FileCacheDisk;
 pub use cache_folder::CACHE_LIMIT;

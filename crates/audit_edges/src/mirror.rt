@@ -1,8 +1,8 @@
 //! A folder in place of a server.
 ghost use Rattle.std.specs.Prelude.{◌≡◌, [], ⊤};
 
-use crate::below::read_below;
-use crate::reading::{ReadBuffer, made};
+use crate::below::Root;
+use crate::reading::made;
 use std::alloc::Global;
 use std::io::{self, ErrorKind};
 use std::rt;
@@ -17,27 +17,23 @@ pub const MIRROR_LIMIT: u64 = 67108864;
 /// tag is the named one, else 200. The tag is the text of the file with `.etag` added, without
 /// a newline at its end; a text that no request can name as it is, as an empty one, is no tag.
 /// Where the tag isn't the same before and after the file is read, the exchange fails. Below the
-/// folder no link is followed, and nothing but plain files is opened. It tells nothing of its
-/// exchanges.
+/// folder no link is followed, and nothing but plain files is opened; a folder there is looked at
+/// once. It tells nothing of its exchanges.
 #[derive(Drop)]
 pub struct MirrorWire<'a, R: rt::Files + AllocGlobal> {
-    rt: &'a R,
-    folder: &'a str,
+    root: Root<'a, R>,
     faults: u64,
-    buffer: ReadBuffer,
 }
 
 impl<'a, R: rt::Files + AllocGlobal> MirrorWire<'a, R> {
     /// The mirror in a folder.
     pub fn new(rt: &'a R, folder: &'a str) -> MirrorWire<'a, R>
-        ensures folder { result.folder.now ≡ folder.now }
+        ensures folder { result.root.folder.now ≡ folder.now }
         ensures faults { result.faults ≡ 0 }
     {
         MirrorWire {
-            rt,
-            folder,
+            root: Root::new(rt, folder),
             faults: 0,
-            buffer: ReadBuffer::new(),
         }
     }
 }
@@ -54,15 +50,13 @@ fn is_nameable(text: &str) -> bool {
 }
 
 /// The entity tag of the file at a path.
-fn read_etag<R: rt::Files + AllocGlobal>(
-    rt: &R,
+fn read_etag<'a, R: rt::Files + AllocGlobal>(
+    root: &mut Root<'a, R>,
     alloc: Global,
-    buffer: &mut ReadBuffer,
-    folder: &str,
     path: &str,
 ) -> io::Result<Option<Text>> {
     let tag = format!(in alloc; "{path}.etag")?;
-    let Some(bytes) = read_below(rt, alloc, buffer, folder, tag.as_str(), MIRROR_LIMIT)? else {
+    let Some(bytes) = root.read(alloc, tag.as_str(), MIRROR_LIMIT)? else {
         return Ok(None);
     };
     let line = match bytes.as_slice() {
@@ -82,23 +76,21 @@ fn is_named(named: &Option<OwnedRevision>, etag: &Option<Text>) -> bool {
     }
 }
 
-fn answer<R: rt::Files + AllocGlobal>(
-    rt: &R,
+fn answer<'a, R: rt::Files + AllocGlobal>(
+    root: &mut Root<'a, R>,
     alloc: Global,
-    buffer: &mut ReadBuffer,
-    folder: &str,
     request: &Request,
 ) -> io::Result<WireAnswer> {
     let path = request.path.as_str();
-    let etag = read_etag(rt, alloc, buffer, folder, path)?;
-    let Some(bytes) = read_below(rt, alloc, buffer, folder, path, MIRROR_LIMIT)? else {
+    let etag = read_etag(root, alloc, path)?;
+    let Some(bytes) = root.read(alloc, path, MIRROR_LIMIT)? else {
         return Ok(WireAnswer {
             status: 404,
             revision: None,
             body: Items::new(alloc),
         });
     };
-    if read_etag(rt, alloc, buffer, folder, path)? != etag {
+    if read_etag(root, alloc, path)? != etag {
         return Err(io::Error::from(ErrorKind::ResourceBusy));
     }
     let is_named = is_named(&request.named, &etag);
@@ -132,7 +124,7 @@ impl<'a, R: rt::Files + AllocGlobal> Wire for MirrorWire<'a, R> {
     }
 
     fn exchange(&mut self, alloc: Global, request: &Request) -> Result<WireAnswer, WireFault> {
-        match answer(self.rt, alloc, &mut self.buffer, self.folder, request) {
+        match answer(&mut self.root, alloc, request) {
             Ok(answer) => Ok(answer),
             Err(error) => {
                 if error.kind() == ErrorKind::OutOfMemory {

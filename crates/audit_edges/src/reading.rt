@@ -2,10 +2,11 @@
 ghost use Rattle.std.specs.Prelude.{◌≢◌, IfOk};
 ghost use Rattle.audit_edges.specs.Reading.{IsAbove};
 
-use crate::calls::{look_through, open};
+use crate::calls::{look_through, open, read_once};
 use std::alloc::Global;
 use std::fs::OpenOptions;
 use std::io::{self, ErrorKind, Read};
+use std::os::unix::fs::FileExt;
 use std::rt::Files;
 use tame_names::{NoMemory, ReadAnswer};
 
@@ -26,46 +27,85 @@ pub fn is_absent(kind: ErrorKind) -> bool {
     )
 }
 
-/// What pieces are read into. It is kept from file to file, so that it is cleared once.
-#[derive(Drop)]
-pub struct ReadBuffer {
-    bytes: [u8; 8192],
+/// How many bytes are asked for where it isn't known how many come.
+const PIECE: usize = 8192;
+
+/// How many bytes are cleared at once.
+const STEP: usize = 2048;
+
+/// Lengthens bytes by zeros until they have this length.
+fn lengthen(bytes: &mut Vec<u8>, len: usize) -> io::Result<()> {
+    for _ in 0..u64::MAX {
+        if bytes.len() >= len {
+            return Ok(());
+        }
+        let next = bytes.len().saturating_add(STEP).min(len);
+        bytes.resize(next, 0)?;
+    }
+    Err(io::Error::from(ErrorKind::Other))
 }
 
-impl ReadBuffer {
-    pub fn new() -> ReadBuffer {
-        ReadBuffer { bytes: [0; 8192] }
+/// Reads once, behind the bytes that are filled, and gives how many are then.
+fn fill<R: Read>(reader: &mut R, bytes: &mut [u8], filled: usize) -> io::Result<usize> {
+    match bytes.get_mut(filled..) {
+        Some(room) => Ok(filled.saturating_add(read_once(reader, room)?)),
+        None => Err(io::Error::from(ErrorKind::Other)),
     }
+}
 
-    /// The bytes of a reader, of which `expected` should come, or that they are more than the
-    /// limit.
-    pub fn read_within<R: Read>(
-        &mut self,
-        alloc: Global,
-        reader: &mut R,
-        expected: u64,
-        limit: u64,
-    ) -> io::Result<ReadAnswer>
-        ensures above { IfOk result (IsAbove limit) }
-        ensures there { IfOk result (λ answer. answer ≢ ReadAnswer.Absent) }
-    {
-        let mut bytes = Vec::with_capacity(alloc, expected.min(limit) as usize)?;
-        for _ in 0..u64::MAX {
-            let count = match reader.read(&mut self.bytes) {
-                Ok(count) => count,
-                Err(error) if error.kind() == ErrorKind::Interrupted => continue,
-                Err(error) => return Err(error),
-            };
-            if count == 0 {
-                return Ok(ReadAnswer::Whole(bytes));
-            }
-            bytes.extend_from_slice(&self.bytes[..count])?;
-            let len = bytes.len() as u64;
-            if len > limit {
-                return Ok(ReadAnswer::Over(len));
-            }
+/// The bytes of a reader, of which `expected` should come, or that they are more than the limit.
+/// The end is where a read gives nothing, or where it gives the last of the expected ones though
+/// it asked for more.
+pub fn read_within<R: Read>(
+    alloc: Global,
+    reader: &mut R,
+    expected: u64,
+    limit: u64,
+) -> io::Result<ReadAnswer>
+    ensures above { IfOk result (IsAbove limit) }
+    ensures there { IfOk result (λ answer. answer ≢ ReadAnswer.Absent) }
+{
+    let mut room = match expected.min(limit) as usize {
+        0 => PIECE,
+        expected => expected.saturating_add(1),
+    };
+    let mut bytes = Vec::with_capacity(alloc, room)?;
+    let mut filled = 0;
+    for _ in 0..u64::MAX {
+        lengthen(&mut bytes, room)?;
+        let before = filled;
+        filled = fill(reader, bytes.as_mut_slice(), filled)?;
+        let len = filled as u64;
+        if len > limit {
+            return Ok(ReadAnswer::Over(len));
         }
-        Err(io::Error::from(ErrorKind::Other))
+        if filled == before || len == expected {
+            bytes.truncate(filled);
+            return Ok(ReadAnswer::Whole(bytes));
+        }
+        room = filled.saturating_add(PIECE);
+    }
+    Err(io::Error::from(ErrorKind::Other))
+}
+
+/// A file that is read from its beginning on, wherever its own place stands.
+#[derive(Drop)]
+pub struct FromStart<'a, F> {
+    file: &'a F,
+    at: u64,
+}
+
+impl<'a, F> FromStart<'a, F> {
+    pub fn new(file: &'a F) -> FromStart<'a, F> {
+        FromStart { file, at: 0 }
+    }
+}
+
+impl<'a, F: FileExt> Read for FromStart<'a, F> {
+    fn read(&mut self, buf: &mut [u8]) -> io::Result<usize> {
+        let count = self.file.read_at(buf, self.at)?;
+        self.at = self.at.saturating_add(count as u64);
+        Ok(count)
     }
 }
 
@@ -81,7 +121,6 @@ pub fn without_last_slashes(path: &str) -> &str {
 pub fn read_file<R: Files + AllocGlobal>(
     rt: &R,
     alloc: Global,
-    buffer: &mut ReadBuffer,
     path: &str,
     limit: u64,
 ) -> io::Result<ReadAnswer>
@@ -108,5 +147,5 @@ pub fn read_file<R: Files + AllocGlobal>(
     let mut how = OpenOptions::new();
     how.read(true);
     let mut file = open(rt, &how, path)?;
-    buffer.read_within(alloc, &mut file, len, limit)
+    read_within(alloc, &mut file, len, limit)
 }

@@ -6,7 +6,7 @@ ghost use Rattle.tame_names.specs.Counts.{CountRose};
 use crate::listings::{kind_of, list_folder};
 use crate::locking::{LockFiles, open_to_lock, take_opened};
 use crate::making::{make_file, make_folders};
-use crate::reading::{ReadBuffer, read_file};
+use crate::reading::{read_file, read_within};
 use crate::surroundings::{current_folder, variable};
 use std::alloc::Global;
 use std::io::{ErrorKind, Input};
@@ -22,7 +22,6 @@ use tame_names::{
 pub struct StdFiles<'a, R: rt::Files + AllocGlobal> {
     rt: &'a R,
     faults: u64,
-    buffer: ReadBuffer,
 }
 
 impl<'a, R: rt::Files + AllocGlobal> StdFiles<'a, R> {
@@ -30,11 +29,7 @@ impl<'a, R: rt::Files + AllocGlobal> StdFiles<'a, R> {
     pub fn new(rt: &'a R) -> StdFiles<'a, R>
         ensures { result.faults ≡ 0 }
     {
-        StdFiles {
-            rt,
-            faults: 0,
-            buffer: ReadBuffer::new(),
-        }
+        StdFiles { rt, faults: 0 }
     }
 
     /// The fault of a call that gave an error of this kind, which is counted unless memory ran out.
@@ -107,17 +102,14 @@ impl<'a, R: rt::Files + LockFiles + AllocGlobal + Env + Input> Files for StdFile
     }
 
     fn read(&mut self, alloc: Global, path: &str, limit: u64) -> Result<ReadAnswer, FileFault> {
-        match read_file(self.rt, alloc, &mut self.buffer, path, limit) {
+        match read_file(self.rt, alloc, path, limit) {
             Ok(answer) => Ok(answer),
             Err(error) => Err(self.fault(error.kind())),
         }
     }
 
     fn read_stdin(&mut self, alloc: Global, limit: u64) -> Result<ReadAnswer, FileFault> {
-        let read = self
-            .buffer
-            .read_within(alloc, &mut self.rt.reader(), 0, limit);
-        match read {
+        match read_within(alloc, &mut self.rt.reader(), 0, limit) {
             Ok(answer) => Ok(answer),
             Err(error) => Err(self.fault(error.kind())),
         }

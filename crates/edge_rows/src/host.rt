@@ -3,6 +3,7 @@ use std::alloc::Global;
 use std::cell::Cell;
 use std::fs::{self, File, Metadata, OpenFile, OpenOptions};
 use std::io::{self, ErrorKind, Read, Seek, SeekFrom, Write};
+use std::os::unix::fs::FileExt;
 use std::rt::Files;
 
 /// What is counted, and what befalls the call that is meant.
@@ -82,8 +83,13 @@ impl<'a> Host<'a> {
         })
     }
 
-    /// Puts the folder `next` into the place of the mirror.
+    /// Puts the folder `next` into the place of the mirror, or where there is none the text of the
+    /// file `elsewhere/now` into the file `mirror/1/a`.
     fn turn(&self) -> io::Result<()> {
+        if !fs::exists(self.rt, "next")? {
+            let now = fs::read(self.rt, "elsewhere/now")?;
+            return fs::write(self.rt, "mirror/1/a", now.as_slice());
+        }
         fs::rename(self.rt, "mirror", "past")?;
         fs::rename(self.rt, "next", "mirror")
     }
@@ -223,6 +229,21 @@ impl<'a> Seek for HostFile<'a> {
         };
         self.host.call(name.as_str(), self.path.as_str())?;
         self.file.seek(to)
+    }
+}
+
+impl<'a> FileExt for HostFile<'a> {
+    fn read_at(&self, buf: &mut [u8], offset: u64) -> io::Result<usize> {
+        let name = format!(in self.host.rt.alloc(); "read at {offset} of")?;
+        self.host.call(name.as_str(), self.path.as_str())?;
+        self.file.read_at(buf, offset)
+    }
+
+    fn write_at(&self, buf: &[u8], offset: u64) -> io::Result<usize> {
+        let len = buf.len();
+        let name = format!(in self.host.rt.alloc(); "write {len} at {offset} to")?;
+        self.host.call(name.as_str(), self.path.as_str())?;
+        self.file.write_at(buf, offset)
     }
 }
 

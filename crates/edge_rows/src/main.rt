@@ -25,7 +25,8 @@
 //! `fails-as KIND N` with another error than a denied permission, `read-only` or `unsupported`;
 //! `each-fails` and `each-interrupted` make the call as often as it has such calls, from the state
 //! that the case's lines led to, and let each of them fail, or be interrupted, in turn;
-//! `each-turned` puts the folder `next` into the mirror's place before each of them in turn.
+//! `each-turned` puts the folder `next` into the mirror's place before each of them in turn, or
+//! where there is none the text of the file `elsewhere/now` into the file `mirror/1/a`.
 #![tactic(auto)]
 
 mod asked;
