@@ -195,16 +195,26 @@ impl<'a, R: Files + AllocGlobal> Root<'a, R> {
         }
     }
 
-    /// The bytes of the file at a path, if there is one. One of more than `limit` bytes is an
+    /// Opens the file at a path to be read, if there is one. One of more than `limit` bytes is an
     /// error.
-    pub fn read(&mut self, alloc: Global, path: &str, limit: u64) -> io::Result<Option<Vec<u8>>> {
+    pub fn open(&mut self, path: &str, limit: u64) -> io::Result<Option<OpenedToRead<R::File>>> {
         let below = self.file(path)?;
         let Some(found) = below.file else {
             return Ok(None);
         };
-        let len = found.len();
-        let mut opened = open_to_read(self.rt, below.place.as_str(), found, limit)?;
-        read_whole(alloc, &mut opened.file, len, limit)
+        let opened = open_to_read(self.rt, below.place.as_str(), found, limit)?;
+        Ok(Some(opened))
+    }
+
+    /// The bytes of the file at a path, if there is one. One of more than `limit` bytes is an
+    /// error.
+    pub fn read(&mut self, alloc: Global, path: &str, limit: u64) -> io::Result<Option<Vec<u8>>> {
+        let Some(mut opened) = self.open(path, limit)? else {
+            return Ok(None);
+        };
+        let len = opened.found.len();
+        let bytes = read_whole(alloc, &mut opened.file, len, limit)?;
+        Ok(Some(bytes))
     }
 }
 
@@ -214,10 +224,9 @@ pub fn read_whole<F: Read>(
     file: &mut F,
     expected: u64,
     limit: u64,
-) -> io::Result<Option<Vec<u8>>> {
+) -> io::Result<Vec<u8>> {
     match read_within(alloc, file, expected, limit)? {
-        ReadAnswer::Whole(bytes) => Ok(Some(bytes)),
-        ReadAnswer::Absent => Ok(None),
-        ReadAnswer::Over(_) => Err(io::Error::from(ErrorKind::FileTooLarge)),
+        ReadAnswer::Whole(bytes) => Ok(bytes),
+        _ => Err(io::Error::from(ErrorKind::FileTooLarge)),
     }
 }

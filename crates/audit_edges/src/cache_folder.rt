@@ -160,7 +160,7 @@ where
         let len = opened.found.len();
         let whole = read_whole(alloc, &mut FromStart::new(&opened.file), len, CACHE_LIMIT);
         self.read = Some(opened);
-        whole
+        Ok(Some(whole?))
     }
 
     /// Notes that something is to be made at a place: its folder has to be synced.

@@ -1,7 +1,7 @@
 //! A folder in place of a server.
 ghost use Rattle.std.specs.Prelude.{◌≡◌, [], ⊤};
 
-use crate::below::Root;
+use crate::below::{Root, read_whole};
 use crate::reading::made;
 use std::alloc::Global;
 use std::io::{self, ErrorKind};
@@ -76,6 +76,7 @@ fn is_named(named: &Option<OwnedRevision>, etag: &Option<Text>) -> bool {
     }
 }
 
+/// The answer to a request. A file whose tag is the named one is opened and not read.
 fn answer<'a, R: rt::Files + AllocGlobal>(
     root: &mut Root<'a, R>,
     alloc: Global,
@@ -83,26 +84,27 @@ fn answer<'a, R: rt::Files + AllocGlobal>(
 ) -> io::Result<WireAnswer> {
     let path = request.path.as_str();
     let etag = read_etag(root, alloc, path)?;
-    let Some(bytes) = root.read(alloc, path, MIRROR_LIMIT)? else {
+    let Some(mut opened) = root.open(path, MIRROR_LIMIT)? else {
         return Ok(WireAnswer {
             status: 404,
             revision: None,
             body: Items::new(alloc),
         });
     };
+    let is_named = is_named(&request.named, &etag);
+    let body = if is_named {
+        Items::new(alloc)
+    } else {
+        let len = opened.found.len();
+        Items::of(read_whole(alloc, &mut opened.file, len, MIRROR_LIMIT)?)
+    };
     if read_etag(root, alloc, path)? != etag {
         return Err(io::Error::from(ErrorKind::ResourceBusy));
     }
-    let is_named = is_named(&request.named, &etag);
-    let revision = etag.map(OwnedRevision::Etag);
     Ok(WireAnswer {
         status: if is_named { 304 } else { 200 },
-        revision,
-        body: if is_named {
-            Items::new(alloc)
-        } else {
-            Items::of(bytes)
-        },
+        revision: etag.map(OwnedRevision::Etag),
+        body,
     })
 }
 
