@@ -32,7 +32,7 @@ pub fn whole_text(
         Ok(None) => said(alloc, "absent"),
         Ok(Some(bytes)) => {
             let mut text = said(alloc, "whole ")?;
-            push_bytes(&mut text, bytes.as_slice())?;
+            push_bytes(alloc, &mut text, bytes.as_slice())?;
             Ok(text)
         }
         Err(DiskReadFault::Failed) => said(alloc, "fault"),

@@ -31,7 +31,7 @@ fn read_text(alloc: Global, answer: Result<ReadAnswer, FileFault>) -> io::Result
         Ok(ReadAnswer::Absent) => said(alloc, "absent"),
         Ok(ReadAnswer::Whole(bytes)) => {
             let mut text = said(alloc, "whole ")?;
-            push_bytes(&mut text, bytes.as_slice())?;
+            push_bytes(alloc, &mut text, bytes.as_slice())?;
             Ok(text)
         }
         Ok(ReadAnswer::Over(len)) => Ok(format!(in alloc; "over, {len}")?),

@@ -14,7 +14,6 @@
 //! `disks`.
 #![tactic(auto)]
 
-mod caches;
 mod chance;
 mod disk_calls;
 mod disks;
@@ -27,13 +26,10 @@ mod places;
 mod play;
 mod playing;
 mod sequences;
-mod sinks;
 mod standing;
 mod steps;
 mod surroundings;
-mod twin_disk;
 mod ways;
-mod wires;
 
 use crate::play::Count;
 use crate::sequences::{Sequence, TWINS, Twins, first_difference, sequence_of, shortened};
@@ -55,7 +51,7 @@ fn tell(rt: &HostRuntime, base: &str, sequence: &Sequence) -> io::Result<()> {
     short.tell(rt, base)
 }
 
-fn count_of(counts: &mut [Count; 5], twins: Twins) -> Option<&mut Count> {
+fn count_of(counts: &mut [Count; 2], twins: Twins) -> Option<&mut Count> {
     for ((other, _), count) in TWINS.iter().zip(counts.iter_mut()) {
         if *other == twins {
             return Some(count);
@@ -64,7 +60,7 @@ fn count_of(counts: &mut [Count; 5], twins: Twins) -> Option<&mut Count> {
     None
 }
 
-fn tell_counts(rt: &HostRuntime, counts: &[Count; 5]) -> io::Result<()> {
+fn tell_counts(rt: &HostRuntime, counts: &[Count; 2]) -> io::Result<()> {
     for ((_, word), count) in TWINS.iter().zip(counts.iter()) {
         println!(rt;
             "{word}: {} sequences, {} steps, {} of them known to differ",
@@ -80,7 +76,7 @@ fn compare(rt: &HostRuntime, base: &str) -> io::Result<bool> {
     let seed = number(words.next(), 1);
     let sequences = number(words.next(), 3000);
     let first = number(words.next(), 0);
-    let mut counts = [Count::none(); 5];
+    let mut counts = [Count::none(); 2];
     println!(rt; "{sequences} sequences by the seed {seed}")?;
     for number in first..first.saturating_add(sequences) {
         let sequence = sequence_of(rt.alloc(), seed, number)?;

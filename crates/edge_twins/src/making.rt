@@ -29,8 +29,9 @@ const AMOUNTS: [u64; 20] = [
 ];
 
 /// Numbers of bytes.
-const SIZES: [u64; 24] = [
-    0, 0, 0, 1, 1, 1, 2, 2, 3, 3, 5, 5, 5, 5, 1, 2, 3, 5, 4095, 4096, 4097, 8191, 8192, 8193,
+const SIZES: [u64; 40] = [
+    0, 0, 0, 0, 0, 1, 1, 1, 1, 1, 1, 2, 2, 2, 2, 2, 3, 3, 3, 3, 3, 5, 5, 5, 5, 5, 5, 6, 6, 6, 1, 2,
+    3, 5, 4095, 4096, 4097, 8191, 8192, 8193,
 ];
 
 /// Which slashes stand at the end of a path, which link there is, or which tag.
@@ -122,7 +123,7 @@ fn steps_among(
 ) -> Result<Vec<Step>, AllocError> {
     let mut steps = Vec::new(alloc);
     for _ in 0..1 + chance.below(14) {
-        let act = act_among(chance, acts, Act::Put);
+        let act = act_among(chance, acts, Act::Peek);
         steps.push(step_of(chance, act, places))?;
     }
     Ok(steps)
@@ -167,44 +168,4 @@ pub fn disk_steps(alloc: Global, chance: &mut Chance) -> Result<Vec<Step>, Alloc
         }
     }
     Ok(steps)
-}
-
-const WIRE_CALLS: [Act; 10] = [
-    Act::LayFile,
-    Act::LayFile,
-    Act::LayFolder,
-    Act::Tag,
-    Act::Tag,
-    Act::Remove,
-    Act::Ask,
-    Act::Ask,
-    Act::Ask,
-    Act::Ask,
-];
-
-/// The steps of a mirror. What is laid has one of the places in front.
-pub fn wire_steps(alloc: Global, chance: &mut Chance) -> Result<Vec<Step>, AllocError> {
-    let mut steps = steps_among(alloc, chance, &WIRE_CALLS, 13)?;
-    for step in steps.iter_mut() {
-        match step.act {
-            Act::Ask if step.fill % 2 == 0 => {}
-            _ => step.place %= 6,
-        }
-    }
-    Ok(steps)
-}
-
-/// The steps of an output.
-pub fn sink_steps(alloc: Global, chance: &mut Chance) -> Result<Vec<Step>, AllocError> {
-    steps_among(alloc, chance, &[Act::Put], 1)
-}
-
-/// The steps of a cache.
-pub fn cache_steps(alloc: Global, chance: &mut Chance) -> Result<Vec<Step>, AllocError> {
-    steps_among(
-        alloc,
-        chance,
-        &[Act::Store, Act::Store, Act::Entry, Act::Again],
-        5,
-    )
 }

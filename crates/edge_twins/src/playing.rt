@@ -1,5 +1,4 @@
 //! What sequences are played on.
-use crate::caches::made_caches;
 use crate::chance::{Chance, contents};
 use crate::disks::{Disks, disk_failing, disk_paths};
 use crate::host::{Failing, Host, Plan};
@@ -7,11 +6,9 @@ use crate::hosts::{Hosts, failing, lay, lay_aside, stated, variables};
 use crate::places::{Spelling, paths_of, spelled};
 use crate::play::{Count, Difference, play};
 use crate::sequences::{Sequence, Twins};
-use crate::sinks::{Sinks, memory_sink, real_sink};
 use crate::standing::made;
 use crate::steps::{Step, is_laying};
-use crate::wires::{MIRROR, Wires, wire_paths};
-use audit_edges::{FileCacheDisk, MirrorWire, StdFiles};
+use audit_edges::{FileCacheDisk, StdFiles};
 use std::alloc::{AllocError, Global};
 use std::cell::Cell;
 use std::{env, fs, io};
@@ -138,37 +135,6 @@ fn play_disks(
     play(&mut disks, steps, count)
 }
 
-fn play_wires(
-    host: &Host,
-    sequence: &Sequence,
-    count: &mut Count,
-) -> io::Result<Option<Difference>> {
-    let paths = wire_paths(host.rt.alloc())?;
-    if sequence.variant % 8 != 0 {
-        fs::create_dir(host.rt, host.place(MIRROR)?.as_str())?;
-    }
-    let mut wires = Wires {
-        host,
-        paths: paths.as_slice(),
-        real: MirrorWire::new(host, MIRROR),
-        tags: [4; 8],
-    };
-    play(&mut wires, sequence.steps.as_slice(), count)
-}
-
-fn play_sinks(
-    host: &Host,
-    sequence: &Sequence,
-    count: &mut Count,
-) -> io::Result<Option<Difference>> {
-    let mut sinks = Sinks {
-        host,
-        memory: memory_sink(host.rt.alloc(), sequence.steps.as_slice())?,
-        real: real_sink(host)?,
-    };
-    play(&mut sinks, sequence.steps.as_slice(), count)
-}
-
 /// Plays a sequence up to its first difference.
 pub fn played(
     host: &Host,
@@ -178,8 +144,5 @@ pub fn played(
     match sequence.twins {
         Twins::Hosts => play_hosts(host, sequence, count),
         Twins::Disks => play_disks(host, sequence, count),
-        Twins::Caches => play(&mut made_caches(host)?, sequence.steps.as_slice(), count),
-        Twins::Wires => play_wires(host, sequence, count),
-        Twins::Sinks => play_sinks(host, sequence, count),
     }
 }

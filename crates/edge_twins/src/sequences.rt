@@ -1,7 +1,7 @@
 //! Sequences by number, the first difference of one, and the shortest part of it that differs.
 use crate::chance::Chance;
 use crate::host::Host;
-use crate::making::{cache_steps, disk_steps, host_steps, sink_steps, wire_steps};
+use crate::making::{disk_steps, host_steps};
 use crate::play::{Count, Difference, without};
 use crate::playing::{plan_of, played};
 use crate::steps::{Step, step_line};
@@ -13,18 +13,12 @@ use std::{fs, io};
 pub enum Twins {
     Hosts,
     Disks,
-    Caches,
-    Wires,
-    Sinks,
 }
 
 /// All of them, with what is told of them, in the order of their counts.
-pub const TWINS: [(Twins, &str); 5] = [
+pub const TWINS: [(Twins, &str); 2] = [
     (Twins::Hosts, "hosts: MemFiles and StdFiles"),
     (Twins::Disks, "disks: MemCacheDisk and FileCacheDisk"),
-    (Twins::Caches, "caches over both disks"),
-    (Twins::Wires, "wires: ServeWire and MirrorWire"),
-    (Twins::Sinks, "outputs: MemSink and StdSink"),
 ];
 
 /// A sequence: what it compares, its steps, and the number that its surroundings come from.
@@ -38,11 +32,8 @@ pub struct Sequence {
 /// What the sequence of a number compares.
 fn twins_of(number: u64) -> Twins {
     match number % 10 {
-        0..=3 => Twins::Hosts,
-        4..=6 => Twins::Disks,
-        7 => Twins::Caches,
-        8 => Twins::Wires,
-        _ => Twins::Sinks,
+        0..=4 => Twins::Hosts,
+        _ => Twins::Disks,
     }
 }
 
@@ -54,9 +45,6 @@ pub fn sequence_of(alloc: Global, seed: u64, number: u64) -> Result<Sequence, Al
     let steps = match twins {
         Twins::Hosts => host_steps(alloc, &mut chance)?,
         Twins::Disks => disk_steps(alloc, &mut chance)?,
-        Twins::Caches => cache_steps(alloc, &mut chance)?,
-        Twins::Wires => wire_steps(alloc, &mut chance)?,
-        Twins::Sinks => sink_steps(alloc, &mut chance)?,
     };
     Ok(Sequence {
         twins,

@@ -2,6 +2,7 @@
 use crate::host::Host;
 use std::alloc::{AllocError, Global};
 use std::fs::{self, DirEntry};
+use std::hash::{DefaultHasher, Hasher};
 use std::io::{self, ErrorKind};
 use tame_names::{Items, Listed, MemNode, NoMemory, Text};
 
@@ -18,8 +19,15 @@ pub fn said(alloc: Global, word: &str) -> io::Result<String> {
     Ok(String::from_str(alloc, word)?)
 }
 
-/// Adds bytes to a text, each as a character.
-pub fn push_bytes(text: &mut String, bytes: &[u8]) -> Result<(), AllocError> {
+/// Adds bytes to a text, each as a character; more than a hundred by their number and a hash.
+pub fn push_bytes(alloc: Global, text: &mut String, bytes: &[u8]) -> Result<(), AllocError> {
+    if bytes.len() > 100 {
+        let mut hasher = DefaultHasher::new();
+        hasher.write(bytes);
+        let hash = hasher.finish();
+        let len = bytes.len();
+        return text.push_str(format!(in alloc; "{len} bytes, hash {hash}")?.as_str());
+    }
     for byte in bytes {
         text.push(char::from(*byte))?;
     }
@@ -97,22 +105,25 @@ pub fn push_entries(alloc: Global, text: &mut String, listed: &[Listed]) -> Resu
     Ok(())
 }
 
-/// Adds what stands at a path to a text.
+/// Adds what stands at a path to a text, if anything does.
 pub fn push_node(
     alloc: Global,
     text: &mut String,
     path: &str,
     node: &Option<MemNode>,
 ) -> Result<(), AllocError> {
+    if node.is_none() {
+        return Ok(());
+    }
     text.push_str(path)?;
     text.push_str(" = ")?;
     match node {
-        None => text.push_str("nothing")?,
+        None => {}
         Some(MemNode::Other) => text.push_str("another thing")?,
         Some(MemNode::Folder(entries)) => push_entries(alloc, text, entries.as_slice())?,
         Some(MemNode::File(bytes)) => {
             text.push_str("a file ")?;
-            push_bytes(text, bytes.as_slice())?;
+            push_bytes(alloc, text, bytes.as_slice())?;
         }
     }
     text.push_str("; ")

@@ -25,15 +25,6 @@ pub enum Act {
     Cut,
     Sync,
     Again,
-    // a mirror that is filled, and exchanges
-    Tag,
-    Remove,
-    Ask,
-    // calls on an output
-    Put,
-    // what a cache does
-    Store,
-    Entry,
 }
 
 /// A step: what it does, and by which place, number, bytes and failure. Each act takes what it
@@ -43,7 +34,7 @@ pub struct Step {
     pub act: Act,
     /// The number of its place.
     pub place: usize,
-    /// The number of a variable, a link, a tag or slashes.
+    /// The number of a variable, a link or slashes.
     pub other: u64,
     /// A limit, a place in a file or a length.
     pub amount: u64,
@@ -75,12 +66,6 @@ fn act_word(act: Act) -> &'static str {
         Act::Cut => "cut",
         Act::Sync => "sync",
         Act::Again => "open anew",
-        Act::Tag => "lay a tag",
-        Act::Remove => "remove",
-        Act::Ask => "ask",
-        Act::Put => "put",
-        Act::Store => "store",
-        Act::Entry => "entry",
     }
 }
 
