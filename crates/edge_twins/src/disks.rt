@@ -41,6 +41,8 @@ pub struct Disks<'a> {
     pub folders: [bool; 8],
     /// The number of the file whose sync failed.
     pub shut: Option<usize>,
+    /// The folders of files that couldn't be made there. The real disk syncs them all the same.
+    pub noted: Vec<String>,
 }
 
 impl<'a> Disks<'a> {
@@ -55,9 +57,48 @@ impl<'a> Disks<'a> {
             Act::MakeAbove => is_shut || !has_way_above(self.host, self.folder, path)?,
             // a sync has failed, or the file can't be made
             Act::Write => is_shut || matches!(found, Way::Refused | Way::Homeless),
+            // a sync has failed, or there is no file, or a folder that is to be synced isn't there
+            Act::Sync => is_shut || found != Way::File || self.lacks_noted()?,
             // a sync has failed, or there is no file
             _ => is_shut || found != Way::File,
         })
+    }
+
+    /// Whether a folder isn't there in which a file was to be made.
+    fn lacks_noted(&self) -> io::Result<bool> {
+        for folder in self.noted.as_slice() {
+            let place = below(self.host, self.folder, folder.as_str())?;
+            if fs::metadata(self.host.rt, place.as_str()).is_err() {
+                return Ok(true);
+            }
+        }
+        Ok(false)
+    }
+
+    /// Notes the folder of a file that can't be made.
+    fn note_unmade(&mut self, path: &str) -> io::Result<()> {
+        let above = match path.rsplit_once('/') {
+            Some((above, _)) => above,
+            None => "",
+        };
+        self.noted.push(said(self.host.rt.alloc(), above)?)?;
+        Ok(())
+    }
+
+    /// Notes what a call leaves that the disk in memory doesn't tell.
+    fn note(&mut self, step: &Step, path: &str, found: Way, known: bool) -> io::Result<()> {
+        match step.act {
+            Act::MakeAbove if !step.fails => self.note_folders(path, !known)?,
+            Act::Sync if step.fails && found == Way::File && self.shut.is_none() => {
+                self.shut = Some(step.place);
+            }
+            Act::Sync if !known => self.noted = Vec::new(self.host.rt.alloc()),
+            Act::Write if found == Way::Homeless && !step.fails && self.shut.is_none() => {
+                self.note_unmade(path)?;
+            }
+            _ => {}
+        }
+        Ok(())
     }
 
     /// Notes the folders that a call has made above a path: all, or those that std finds.
@@ -120,17 +161,12 @@ impl<'a> Disks<'a> {
         } else {
             self.remember(call)?
         };
-        let was_file = way_to(self.host, self.folder, call.path)? == Way::File;
+        let found = way_to(self.host, self.folder, call.path)?;
         self.host.begin(failing_of(step));
         let real = asked(&mut self.real, self.host.rt.alloc(), call);
         self.host.begin(Failing::None);
         let real = real?;
-        if step.act == Act::MakeAbove && !step.fails {
-            self.note_folders(call.path, !known)?;
-        }
-        if step.act == Act::Sync && step.fails && was_file && self.shut.is_none() {
-            self.shut = Some(step.place);
-        }
+        self.note(step, call.path, found, known)?;
         Ok(Pair {
             memory,
             real,
@@ -142,6 +178,7 @@ impl<'a> Disks<'a> {
     fn open_anew(&mut self) {
         self.real = FileCacheDisk::new(self.host, self.folder);
         self.shut = None;
+        self.noted = Vec::new(self.host.rt.alloc());
     }
 
     /// Lays what a step says on both, where it can be.

@@ -131,6 +131,7 @@ fn play_disks(
         real: FileCacheDisk::new(host, folder),
         folders: [false; 8],
         shut: None,
+        noted: Vec::new(alloc),
     };
     play(&mut disks, steps, count)
 }
