@@ -107,7 +107,7 @@ pub fn host_steps(alloc: Global, chance: &mut Chance) -> Result<Vec<Step>, Alloc
         let act = act_among(chance, &LAYING, Act::LayFile);
         steps.push(fitted(step_of(chance, act, 12)))?;
     }
-    for _ in 0..1 + chance.below(13) {
+    for _ in 0..chance.below(13).saturating_add(1) {
         let act = act_among(chance, &HOST_CALLS, Act::Kind);
         steps.push(fitted(step_of(chance, act, 19)))?;
     }
@@ -122,7 +122,7 @@ fn steps_among(
     places: u64,
 ) -> Result<Vec<Step>, AllocError> {
     let mut steps = Vec::new(alloc);
-    for _ in 0..1 + chance.below(14) {
+    for _ in 0..chance.below(14).saturating_add(1) {
         let act = act_among(chance, acts, Act::Peek);
         steps.push(step_of(chance, act, places))?;
     }
