@@ -3,6 +3,7 @@ use std::alloc::Global;
 use std::cell::Cell;
 use std::fs::{self, File, Metadata, OpenFile, OpenOptions};
 use std::io::{self, ErrorKind, Read, Seek, SeekFrom, Write};
+use std::os::unix::fs::FileExt;
 use std::rt::Files;
 
 /// Which calls on the system fail.
@@ -196,6 +197,20 @@ impl<'a> Seek for HostFile<'a> {
     fn seek(&mut self, to: SeekFrom) -> io::Result<u64> {
         self.plan.call()?;
         self.file.seek(to)
+    }
+}
+
+impl<'a> FileExt for HostFile<'a> {
+    fn read_at(&self, buf: &mut [u8], offset: u64) -> io::Result<usize> {
+        self.plan.call()?;
+        let count = buf.len().min(self.plan.most);
+        self.file.read_at(&mut buf[..count], offset)
+    }
+
+    fn write_at(&self, buf: &[u8], offset: u64) -> io::Result<usize> {
+        self.plan.call()?;
+        let count = buf.len().min(self.plan.most);
+        self.file.write_at(&buf[..count], offset)
     }
 }
 
