@@ -21,7 +21,7 @@ pub fn disk_failing(alloc: Global, steps: &[Step]) -> Result<Vec<u64>, AllocErro
     let mut numbers = Vec::new(alloc);
     let mut next: u64 = 1;
     for step in steps {
-        if step.fails {
+        if may_fail(step) {
             numbers.push(next)?;
         }
         next = next.saturating_add(DISK_CHECKED as u64 + 1);
@@ -93,7 +93,7 @@ impl<'a> Disks<'a> {
                 self.shut = Some(step.place);
             }
             Act::Sync if !known => self.noted = Vec::new(self.host.rt.alloc()),
-            Act::Write if found == Way::Homeless && !step.fails && self.shut.is_none() => {
+            Act::Write if found == Way::Homeless && self.shut.is_none() => {
                 self.note_unmade(path)?;
             }
             _ => {}
@@ -166,6 +166,10 @@ impl<'a> Disks<'a> {
         let real = asked(&mut self.real, self.host.rt.alloc(), call);
         self.host.begin(Failing::None);
         let real = real?;
+        if step.act == Act::Write {
+            // what was written waits until its file is read, and std is to find it
+            let _ = self.real.peek(call.path);
+        }
         self.note(step, call.path, found, known)?;
         Ok(Pair {
             memory,
@@ -259,9 +263,14 @@ impl<'a> Disks<'a> {
     }
 }
 
+/// Whether the calls of a step fail. A write may wait, and then makes none that could.
+fn may_fail(step: &Step) -> bool {
+    step.fails && step.act != Act::Write
+}
+
 fn failing_of(step: &Step) -> Failing {
     match step.act {
-        _ if !step.fails => Failing::None,
+        _ if !may_fail(step) => Failing::None,
         Act::Sync => Failing::Syncs,
         _ => Failing::All,
     }
