@@ -30,7 +30,7 @@ pub fn informational(alloc: Global, row: &mut Row<'_>) -> Result<Items<Informati
 pub fn denied(alloc: Global, row: &mut Row<'_>) -> Result<Items<DenyOption>, RowFault> {
     let mut options = Items::new(alloc);
     for text in listed(alloc, row)?.as_slice() {
-        match DenyOption::from_str(text.as_str()) {
+        match DenyOption::from_word(text.as_str()) {
             Some(option) => options.add(option)?,
             None => return Err(RowFault::Unread),
         }
@@ -87,7 +87,7 @@ pub fn kind(row: &mut Row<'_>) -> Result<WarningKind, RowFault> {
 
 /// The form of a report.
 pub fn format(row: &mut Row<'_>) -> Result<OutputFormat, RowFault> {
-    match OutputFormat::from_str(row.word()) {
+    match OutputFormat::from_word(row.word()) {
         Some(format) => Ok(format),
         None => Err(RowFault::Unread),
     }

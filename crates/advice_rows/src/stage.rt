@@ -51,12 +51,21 @@ pub fn read_advisory(alloc: Global, text: &str) -> Result<Advisory, RowFault> {
     }
 }
 
-fn read_advisories(alloc: Global, texts: &[Text]) -> Result<Items<Advisory>, RowFault> {
+/// Adds the advisory of a text that is one.
+pub fn add_read(
+    alloc: Global,
+    advisories: &mut Items<Advisory>,
+    text: &str,
+) -> Result<(), RowFault> {
+    Ok(advisories.add(read_advisory(alloc, text)?)?)
+}
+
+fn database_of(alloc: Global, texts: &[Text]) -> Result<Database, RowFault> {
     let mut advisories = Items::new(alloc);
     for text in texts {
-        advisories.add(read_advisory(alloc, text.as_str())?)?;
+        add_read(alloc, &mut advisories, text.as_str())?;
     }
-    Ok(advisories)
+    Ok(Database::new(alloc, advisories)?)
 }
 
 /// The lockfile of a text that is one.
@@ -99,6 +108,22 @@ pub fn without_newline(lines: String) -> String {
     lines
 }
 
+/// The report under settings, of which the packages at these places are yanked.
+fn report_under(
+    alloc: Global,
+    database: &Database,
+    lockfile: &Lockfile,
+    settings: &Settings,
+    yanked: &[usize],
+) -> Result<Report, RowFault> {
+    let mut count = Comparisons { made: 0 };
+    let mut report = Report::generate(alloc, database, lockfile, settings, &mut count)?;
+    match report.add_yanked(alloc, yanked) {
+        Ok(()) => Ok(report),
+        Err(_) => Err(RowFault::NoMemory),
+    }
+}
+
 fn report_of(
     alloc: Global,
     database: &Database,
@@ -107,12 +132,36 @@ fn report_of(
 ) -> Result<Report, RowFault> {
     let mut row = row;
     let yanked = listed(alloc, &mut row)?;
-    let settings = settings_of(alloc, row)?;
-    let mut count = Comparisons { made: 0 };
-    let mut report = Report::generate(alloc, database, lockfile, &settings, &mut count)?;
     let places = named(alloc, lockfile.packages(), yanked.as_slice())?;
-    report.add_yanked(alloc, places.as_slice())?;
-    Ok(report)
+    match settings_of(alloc, row) {
+        Ok(settings) => report_under(alloc, database, lockfile, &settings, places.as_slice()),
+        Err(fault) => Err(fault),
+    }
+}
+
+/// The report of a database on a lockfile, with both.
+fn laid_with(
+    alloc: Global,
+    database: Database,
+    lockfile: Lockfile,
+    row: Row<'_>,
+) -> Result<Laid, RowFault> {
+    match report_of(alloc, &database, &lockfile, row) {
+        Ok(report) => Ok(Laid {
+            database,
+            lockfile,
+            report,
+        }),
+        Err(fault) => Err(fault),
+    }
+}
+
+/// The same on the lockfile of a text.
+fn laid_of(alloc: Global, database: Database, lock: &str, row: Row<'_>) -> Result<Laid, RowFault> {
+    match read_lockfile(alloc, lock) {
+        Ok(lockfile) => laid_with(alloc, database, lockfile, row),
+        Err(fault) => Err(fault),
+    }
 }
 
 impl Stage {
@@ -192,15 +241,9 @@ impl Stage {
     /// `report YANKED IGNORE SEVERITY ARCH OS KINDS`
     fn make_report(&mut self, alloc: Global, row: Row<'_>) -> Result<String, RowFault> {
         self.end(alloc)?;
-        let advisories = read_advisories(alloc, self.advisories.as_slice())?;
-        let database = Database::new(alloc, advisories)?;
-        let lockfile = read_lockfile(alloc, self.lock.as_str())?;
-        let report = report_of(alloc, &database, &lockfile, row)?;
-        self.laid = Some(Laid {
-            database,
-            lockfile,
-            report,
-        });
+        let database = database_of(alloc, self.advisories.as_slice())?;
+        let laid = laid_of(alloc, database, self.lock.as_str(), row)?;
+        self.laid = Some(laid);
         Ok(String::new(alloc))
     }
 

@@ -3,7 +3,7 @@
 
 ghost use Rattle.std.specs.Prelude.{◌≡◌, []};
 
-use crate::stage::{read_advisory, read_lockfile, settings_of};
+use crate::stage::{add_read, read_lockfile, settings_of};
 use crate::trees::is_rendered;
 use audit_advisory::{Advisory, Comparisons, Database, Report, Settings};
 use audit_lock::{Lockfile, Tree};
@@ -53,7 +53,7 @@ fn of_fault(fault: RowFault) -> io::Error {
 fn database_of(alloc: Global, text: &str) -> Result<Database, RowFault> {
     let mut advisories: Items<Advisory> = Items::new(alloc);
     for text in text.split("\n==\n") {
-        advisories.add(read_advisory(alloc, text)?)?;
+        add_read(alloc, &mut advisories, text)?;
     }
     Ok(Database::new(alloc, advisories)?)
 }
@@ -97,6 +97,14 @@ fn lockfile_at(rt: &HostRuntime, path: &str) -> io::Result<Lockfile> {
     read_lockfile(rt.alloc(), text.as_str()).map_err(of_fault)
 }
 
+/// As many reports as are wanted, on the lockfile of a file.
+fn print_found(rt: &HostRuntime, database: &Database, path: &str, times: u64) -> io::Result<()> {
+    match lockfile_at(rt, path) {
+        Ok(lockfile) => print_reports(rt, database, &lockfile, times),
+        Err(error) => Err(error),
+    }
+}
+
 /// `reports ADVISORIES LOCKFILE N`: N reports of the advisories of one file, each but the first
 /// behind a line `==`, on a lockfile, and what each finds.
 pub fn count_reports(
@@ -109,9 +117,11 @@ pub fn count_reports(
         return Err(io::Error::from(ErrorKind::InvalidInput));
     };
     let text = fs::read_to_string(rt, database.as_str())?;
-    let database = database_of(rt.alloc(), text.as_str()).map_err(of_fault)?;
-    let lockfile = lockfile_at(rt, lockfile.as_str())?;
-    print_reports(rt, &database, &lockfile, times.parse::<u64>().unwrap_or(1))
+    let times = times.parse::<u64>().unwrap_or(1);
+    match database_of(rt.alloc(), text.as_str()) {
+        Ok(database) => print_found(rt, &database, lockfile.as_str(), times),
+        Err(fault) => Err(of_fault(fault)),
+    }
 }
 
 /// The lines and bytes of the tree of the first package of a name.
@@ -134,16 +144,23 @@ fn packages_line(alloc: Global, lockfile: &Lockfile) -> Result<String, RowFault>
     Ok(format!(in alloc; "{count} packages")?)
 }
 
+/// How many packages there are, or the lines and bytes of the tree of the first one of a name.
+fn print_tree(rt: &HostRuntime, lockfile: &Lockfile, name: Option<String>) -> io::Result<()> {
+    let line = match name {
+        Some(name) => tree_line(rt.alloc(), lockfile, name.as_str()),
+        None => packages_line(rt.alloc(), lockfile),
+    };
+    rt.println(line.map_err(of_fault)?)
+}
+
 /// `trees LOCKFILE [NAME]`: counts the packages of a lockfile, of which it finds the parents, or
 /// the lines and bytes of the tree of the first package of a name.
 pub fn count_trees(rt: &HostRuntime, path: Option<String>, name: Option<String>) -> io::Result<()> {
     let Some(path) = path else {
         return Err(io::Error::from(ErrorKind::InvalidInput));
     };
-    let lockfile = lockfile_at(rt, path.as_str())?;
-    let line = match name {
-        Some(name) => tree_line(rt.alloc(), &lockfile, name.as_str()),
-        None => packages_line(rt.alloc(), &lockfile),
-    };
-    rt.println(line.map_err(of_fault)?)
+    match lockfile_at(rt, path.as_str()) {
+        Ok(lockfile) => print_tree(rt, &lockfile, name),
+        Err(error) => Err(error),
+    }
 }

@@ -26,13 +26,6 @@ pub fn is_rendered<S: Sink>(
     }
 }
 
-/// An output of which the puts with these numbers fail.
-fn sink_of(alloc: Global, failing: &[u64]) -> Result<MemSink, RowFault> {
-    let mut fails = Items::new(alloc);
-    fails.extend(failing)?;
-    Ok(MemSink::new(alloc, fails))
-}
-
 /// Adds what was rendered, or how many bytes of it where a put failed.
 fn push_rendered(out: &mut String, is_whole: bool, bytes: &[u8]) -> Result<(), AllocError> {
     if is_whole {
@@ -43,6 +36,19 @@ fn push_rendered(out: &mut String, is_whole: bool, bytes: &[u8]) -> Result<(), A
     }
 }
 
+/// Adds a tree that is put into an output.
+fn push_put(
+    alloc: Global,
+    out: &mut String,
+    lockfile: &Lockfile,
+    node: usize,
+    sink: &mut MemSink,
+) -> Result<(), RowFault> {
+    let is_whole = is_rendered(alloc, lockfile, node, sink)?;
+    Ok(push_rendered(out, is_whole, sink.bytes())?)
+}
+
+/// Adds a tree, of which the puts with these numbers fail.
 fn push_tree(
     alloc: Global,
     out: &mut String,
@@ -50,9 +56,9 @@ fn push_tree(
     node: usize,
     failing: &[u64],
 ) -> Result<(), RowFault> {
-    let mut sink = sink_of(alloc, failing)?;
-    let is_whole = is_rendered(alloc, lockfile, node, &mut sink)?;
-    Ok(push_rendered(out, is_whole, sink.bytes())?)
+    let fails = Items::of(Vec::from_slice(alloc, failing)?);
+    let mut sink = MemSink::new(alloc, fails);
+    push_put(alloc, out, lockfile, node, &mut sink)
 }
 
 /// The tree of each package.

@@ -19,12 +19,15 @@ use toml_tables::{
 /// An advisory: a package with the versions in which it is vulnerable, and why.
 #[derive(Debug, Drop, PartialEq, Eq)]
 pub struct Advisory {
+    /// What the advisory says of itself.
     pub metadata: Metadata,
+    /// Which versions are patched and unaffected; the others are vulnerable.
     pub versions: Versions,
     /// The architectures that are affected; all, where there is none.
     pub arch: Items<Text>,
     /// The systems that are affected; all, where there is none.
     pub os: Items<Text>,
+    /// The functions that are affected, with the versions of each; none need be named.
     pub functions: Items<Function>,
 }
 

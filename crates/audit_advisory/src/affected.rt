@@ -16,15 +16,20 @@ pub type FunctionPath = Items<Text>;
 /// An affected function, and the versions in which it is.
 #[derive(Debug, Drop, PartialEq, Eq)]
 pub struct Function {
+    /// The function's path.
     pub path: FunctionPath,
+    /// The requirements that its affected versions meet.
     pub versions: Items<Requirement>,
 }
 
 /// What of a package is affected; an empty list of architectures or systems stands for all.
 #[derive(Debug, Drop)]
 pub struct Affected {
+    /// The architectures.
     pub arch: Items<Text>,
+    /// The systems.
     pub os: Items<Text>,
+    /// The functions.
     pub functions: Items<Function>,
 }
 

@@ -16,7 +16,9 @@ use tame_names::NoMemory;
 pub enum Lower {
     /// Each version is high enough.
     Free,
+    /// At this edge, which is inside.
     From(Edge),
+    /// Behind this edge, which is outside.
     Above(Edge),
     /// No version is high enough: its number would pass 64 bits.
     Unreachable,
@@ -27,7 +29,9 @@ pub enum Lower {
 pub enum Upper {
     /// Each version is low enough.
     Free,
+    /// At this edge, which is inside.
     UpTo(Edge),
+    /// In front of this edge, which is outside.
     Below(Edge),
 }
 

@@ -22,8 +22,11 @@ impl Model for Edge {
 /// The three numbers of a version.
 #[derive(Clone, Copy, Debug, PartialEq, Eq)]
 pub struct Release {
+    /// The first number.
     pub major: u64,
+    /// The second number.
     pub minor: u64,
+    /// The third number.
     pub patch: u64,
 }
 

@@ -51,7 +51,7 @@ pub use laws::{
     segments_give_the_path,
 };
 pub use metadata::{Informational, Metadata};
-pub use outputs::{DenyOption, OutputConfig, OutputFormat, VERSION, WarningKind};
+pub use outputs::{DenyOption, OutputConfig, OutputFormat, UnknownWord, VERSION, WarningKind};
 pub use reports::{Report, Vulnerability, Warning};
 pub use requirements::Requirement;
 pub use settings::{Settings, Severity, kinds_copied, texts_copied};

@@ -14,28 +14,40 @@ use toml_tables::{member, optional_number, optional_text};
 /// What an advisory informs of, where it tells of no vulnerability.
 #[derive(Debug, Drop, PartialEq, Eq)]
 pub enum Informational {
+    /// Something to note.
     Notice,
+    /// Nobody maintains the package.
     Unmaintained,
+    /// The package is unsound.
     Unsound,
+    /// Another word, as written.
     Other(Text),
 }
 
 /// What an advisory says of itself.
 #[derive(Debug, Drop, PartialEq, Eq)]
 pub struct Metadata {
+    /// The id, as `RUSTSEC-2024-0001`; it isn't empty.
     pub id: Text,
+    /// The name of the package that it is about; it isn't empty.
     pub package: Text,
     /// The rest of the line behind `# `.
     pub title: Text,
+    /// What follows the title.
     pub description: Text,
     /// Year, month and day, as `2024-01-31`.
     pub date: Text,
+    /// Where more is said, if it is stated.
     pub url: Option<Text>,
+    /// The source of the package, as a lockfile writes it, if it is stated.
     pub source: Option<Text>,
+    /// What is informed of; none where the advisory tells of a vulnerability.
     pub informational: Option<Informational>,
     /// Year, month and day, as `2024-01-31`.
     pub withdrawn: Option<Text>,
+    /// The licence of the advisory's text, if it is stated.
     pub license: Option<Text>,
+    /// The CVSS vector, as written, if it is stated.
     pub cvss: Option<Text>,
     /// The score in tenths, 0 to 100.
     pub score_tenths: Option<u8>,

@@ -1,9 +1,11 @@
 //! What an audit denies, and how its report is shown.
 ghost use Rattle.std.specs.Prelude.{◌≡◌, IfOk, IsTrue, option_map};
+ghost use Rattle.std.specs.Result.{result_ok};
 ghost use Rattle.audit_advisory.specs.Outputs.{all_deny_options, deny_option_of, output_format_of, warning_kinds_of};
 ghost use Rattle.audit_advisory.specs.Outputs as spec;
 
 use std::alloc::Global;
+use std::str::FromStr;
 use tame_names::{Items, NoMemory};
 
 /// The version of `cargo-audit` that is ported, which texts and reports name.
@@ -12,9 +14,13 @@ pub const VERSION: &str = "0.22.2";
 /// What is warned of.
 #[derive(Clone, Copy, Debug, PartialEq, Eq)]
 pub enum WarningKind {
+    /// Something to note.
     Notice,
+    /// Nobody maintains the package.
     Unmaintained,
+    /// The package is unsound.
     Unsound,
+    /// The version is yanked.
     Yanked,
 }
 
@@ -23,16 +29,22 @@ pub enum WarningKind {
 pub enum DenyOption {
     /// Every kind of warning but notices, and advisories on the auditor itself.
     Warnings,
+    /// Warnings of packages that nobody maintains.
     Unmaintained,
+    /// Warnings of unsound packages.
     Unsound,
+    /// Warnings of yanked versions.
     Yanked,
 }
 
 /// How a report is shown.
 #[derive(Clone, Copy, Debug, Default, PartialEq, Eq)]
 pub enum OutputFormat {
+    /// One JSON object.
     Json,
+    /// A SARIF log.
     Sarif,
+    /// Lines to be read at a terminal.
     #[default]
     Terminal,
 }
@@ -40,7 +52,9 @@ pub enum OutputFormat {
 /// What is denied, and how a report is shown.
 #[derive(Debug, Drop, PartialEq, Eq)]
 pub struct OutputConfig {
+    /// What makes an audit fail besides vulnerabilities.
     pub deny: Items<DenyOption>,
+    /// How a report is shown.
     pub format: OutputFormat,
     /// No status lines.
     pub quiet: bool,
@@ -62,16 +76,16 @@ impl DenyOption {
     }
 
     /// The option of a word, which is in lower case; nothing for any other text.
-    pub fn from_str(s: &str) -> Option<DenyOption>
-        ensures { result ≡ deny_option_of s.now }
+    pub fn from_word(word: &str) -> Option<DenyOption>
+        ensures { result ≡ deny_option_of word.now }
     {
-        if s == "warnings" {
+        if word == "warnings" {
             Some(DenyOption::Warnings)
-        } else if s == "unmaintained" {
+        } else if word == "unmaintained" {
             Some(DenyOption::Unmaintained)
-        } else if s == "unsound" {
+        } else if word == "unsound" {
             Some(DenyOption::Unsound)
-        } else if s == "yanked" {
+        } else if word == "yanked" {
             Some(DenyOption::Yanked)
         } else {
             None
@@ -97,18 +111,42 @@ impl DenyOption {
 
 impl OutputFormat {
     /// The format of a word, which is in lower case; nothing for any other text.
-    pub fn from_str(s: &str) -> Option<OutputFormat>
-        ensures { result ≡ output_format_of s.now }
+    pub fn from_word(word: &str) -> Option<OutputFormat>
+        ensures { result ≡ output_format_of word.now }
     {
-        if s == "json" {
+        if word == "json" {
             Some(OutputFormat::Json)
-        } else if s == "sarif" {
+        } else if word == "sarif" {
             Some(OutputFormat::Sarif)
-        } else if s == "terminal" {
+        } else if word == "terminal" {
             Some(OutputFormat::Terminal)
         } else {
             None
         }
+    }
+}
+
+/// A word names no option, or no format.
+#[derive(Clone, Copy, Debug, PartialEq, Eq)]
+pub struct UnknownWord;
+
+impl FromStr for DenyOption {
+    type Err = UnknownWord;
+
+    ghost from_str_gives = { λ text r. result_ok r ≡ deny_option_of text };
+
+    fn from_str(text: &str) -> Result<DenyOption, UnknownWord> {
+        DenyOption::from_word(text).ok_or(UnknownWord)
+    }
+}
+
+impl FromStr for OutputFormat {
+    type Err = UnknownWord;
+
+    ghost from_str_gives = { λ text r. result_ok r ≡ output_format_of text };
+
+    fn from_str(text: &str) -> Result<OutputFormat, UnknownWord> {
+        OutputFormat::from_word(text).ok_or(UnknownWord)
     }
 }
 

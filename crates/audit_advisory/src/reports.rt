@@ -14,14 +14,18 @@ use tame_names::{Items, NoMemory};
 /// A package that an advisory hits, by their places in the lockfile and in the database.
 #[derive(Clone, Copy, Debug, PartialEq, Eq)]
 pub struct Vulnerability {
+    /// The place of the advisory in the database, from 0.
     pub advisory: usize,
+    /// The place of the package in the lockfile, from 0.
     pub package: usize,
 }
 
 /// What is told of a package besides vulnerabilities, by its place in the lockfile.
 #[derive(Clone, Copy, Debug, PartialEq, Eq)]
 pub struct Warning {
+    /// What is told.
     pub kind: WarningKind,
+    /// The place of the package in the lockfile, from 0.
     pub package: usize,
     /// The place in the database of the advisory that tells it; none for a yanked package.
     pub advisory: Option<usize>,

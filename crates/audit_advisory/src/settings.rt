@@ -10,10 +10,15 @@ use tame_names::{Items, NoMemory, Text};
 /// How severe a vulnerability is (CVSS 3.1, section 5).
 #[derive(Clone, Copy, Debug, PartialEq, Eq)]
 pub enum Severity {
+    /// A score of 0.
     None,
+    /// A score of 0.1 to 3.9.
     Low,
+    /// A score of 4.0 to 6.9.
     Medium,
+    /// A score of 7.0 to 8.9.
     High,
+    /// A score of 9.0 to 10.0.
     Critical,
 }
 

@@ -77,12 +77,14 @@ impl Versions {
             && !meets_any(self.unaffected.as_slice(), version)
     }
 
+    /// The requirements that patched versions meet.
     pub fn patched(&self) -> &[Requirement]
         ensures { result.now ≡ self.now.patched }
     {
         self.patched.as_slice()
     }
 
+    /// The requirements that versions meet which never were vulnerable.
     pub fn unaffected(&self) -> &[Requirement]
         ensures { result.now ≡ self.now.unaffected }
     {

@@ -2,7 +2,7 @@
 use Rattle.std.specs.Prelude.{◌≡◌, ◌≤◌, ◌⊎◌, ℕ, codes, List, [], ◌∷◌, ◌++◌, take, false, Option, Some, None, Result, Ok, Err, IfErr}
 use Rattle.std.specs.List.{Contains, slice_get}
 use Rattle.tame_names.specs.Counts.{CountRose}
-use Rattle.tame_names.specs.Paths.{join}
+use Rattle.tame_names.specs.Paths.{join, plain_path}
 use Rattle.tame_names.specs.Standing.{Host, reading_call}
 use Rattle.tame_names.specs.declared.host.FailedCall.{FailedCall}
 use Rattle.tame_names.specs.declared.host.FileCall.{FileCall}
@@ -105,7 +105,7 @@ IsPlaceCall named host told call =
 
 -- a look at the database that was named, or cargo's home was asked for
 abbrev pub IsDatabaseCall : Host → Option (List ℕ) → List ℕ → FailedCall → Type 0
-IsDatabaseCall host (Some path) told call = IsCallOn file_call.Kind path told call
+IsDatabaseCall host (Some path) told call = IsCallOn file_call.Kind (plain_path path) told call
 IsDatabaseCall host None told call = AsksHome host told call
 
 -- a listing of one of the folders of these names in this one

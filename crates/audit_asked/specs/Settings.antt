@@ -1,6 +1,6 @@
 -- The settings of a run (this project, after cargo-audit).
 use Rattle.std.specs.Prelude.{ℕ, codes, List, Option, Some, None, Result, Ok, Err}
-use Rattle.tame_names.specs.Paths.{join}
+use Rattle.tame_names.specs.Paths.{join, plain_path}
 use Rattle.tame_names.specs.Standing.{Host}
 use Rattle.tame_names.specs.declared.errors.Error.{Error}
 use Rattle.tame_location.specs.Homes.{home_of}
@@ -22,9 +22,9 @@ folder_file = codes ".cargo/audit.toml"
 abbrev pub home_file : List ℕ → List ℕ
 home_file home = join home (codes "audit.toml")
 
--- cargo's home, where it can be told
+-- cargo's home, where it can be told; the slashes at its end don't count
 abbrev pub home_told : Result (List ℕ) Error → Option (List ℕ)
-home_told (Ok home) = Some home
+home_told (Ok home) = Some (plain_path home)
 home_told (Err reason) = None
 
 abbrev pub known_home : Host → Option (List ℕ)

@@ -2,14 +2,14 @@
 ghost use Rattle.std.specs.Prelude.{◌≡◌, Ok, Err, Some, None, IfOk, IfErr, IsTrue};
 ghost use Rattle.tame_names.specs.declared.host.FileCall.TheVariants as FileCall;
 ghost use Rattle.audit_asked.specs.Calls.{AddsFailed, AsksHome, HasFileCause, IsCallOn, IsDatabaseCall};
-ghost use Rattle.audit_asked.specs.Databases.{database_asked};
+ghost use Rattle.audit_asked.specs.Databases.{database_asked, database_at};
 ghost use Rattle.audit_asked.specs.Databases as spec;
 ghost use Rattle.audit_asked.specs.Refusals.{IsReadFault, is_told, refused};
 
 use crate::faults::RunFault;
 use crate::homes::known_home;
 use std::alloc::Global;
-use tame_names::{FileFault, Files, NoMemory, PathKind, Text, join};
+use tame_names::{FileFault, Files, NoMemory, PathKind, Text, join, plain_path};
 
 /// The folder of advisories in cargo's home, and the path that is told where there is none.
 const DATABASE_NAME: &str = "advisory-db";
@@ -21,9 +21,9 @@ fn named_database<F: Files>(
     path: &str,
 ) -> Result<Option<Text>, RunFault>
     ensures ok { F.tells → IfOk result (λ database.
-        database_asked (Some path.now) (F.host files.old) ≡ Ok database) }
+        database_at path.now (F.host files.old) ≡ Ok database) }
     ensures refused { F.tells → IfErr result (λ e. IsTrue (is_told e)
-        → database_asked (Some path.now) (F.host files.old) ≡ Err (refused e)) }
+        → database_at path.now (F.host files.old) ≡ Err (refused e)) }
     ensures only { IfErr result IsReadFault }
     ensures cause { HasFileCause (F.faults files.old) (F.faults files.new) result }
     ensures failed { F.tells → AddsFailed (IsCallOn FileCall.Kind path.now)
@@ -75,7 +75,7 @@ pub(crate) fn database<F: Files>(
     ensures same { F.tells → F.host files.new ≡ F.host files.old }
 {
     match named {
-        Some(path) => named_database(alloc, files, path.as_str()),
+        Some(path) => named_database(alloc, files, plain_path(path.as_str())),
         None => home_database(alloc, files),
     }
 }

@@ -36,6 +36,7 @@ pub enum RunFault {
     Generate { status: i32 },
     /// This number of programs couldn't be started.
     Start { failed: u64 },
+    /// Memory ran out.
     NoMemory,
 }
 

@@ -7,9 +7,10 @@ ghost use Rattle.audit_asked.specs.Refusals.{IsCallFault};
 use crate::faults::RunFault;
 use std::alloc::Global;
 use tame_location::cargo_home;
-use tame_names::{Error, Files, IoKind, Text};
+use tame_names::{Error, Files, IoKind, Text, plain_path};
 
-/// The folder of cargo's home; nothing where a variable isn't UTF-8 or none names it.
+/// The folder of cargo's home, without slashes at its end; nothing where a variable isn't UTF-8 or
+/// none names it.
 pub(crate) fn known_home<F: Files>(alloc: Global, files: &mut F) -> Result<Option<Text>, RunFault>
     ensures ok { F.tells → IfOk result (λ home. home ≡ spec.known_home (F.host files.old)) }
     ensures only { IfErr result IsCallFault }
@@ -20,7 +21,7 @@ pub(crate) fn known_home<F: Files>(alloc: Global, files: &mut F) -> Result<Optio
 {
     let path = Text::of(alloc, "cargo home")?;
     match cargo_home(alloc, files) {
-        Ok(home) => Ok(Some(home)),
+        Ok(home) => Ok(Some(Text::of(alloc, plain_path(home.as_str()))?)),
         Err(Error::Io(IoKind::Failed)) => Err(RunFault::File { path }),
         Err(Error::NoMemory) => Err(RunFault::NoMemory),
         Err(_) => Ok(None),

@@ -22,6 +22,7 @@ pub enum LocateError {
     Start,
     /// Cargo ended with this status, which isn't 0.
     Generate { status: i32 },
+    /// Memory ran out.
     NoMemory,
 }
 

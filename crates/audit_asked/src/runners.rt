@@ -13,6 +13,7 @@ use tame_names::{Items, NoMemory, Text};
 pub enum StartFault {
     /// It couldn't be; the call was counted.
     Failed,
+    /// Memory ran out.
     NoMemory,
 }
 
@@ -145,6 +146,7 @@ pub struct NoRunner {
 }
 
 impl NoRunner {
+    /// A runner that has counted no fault.
     pub fn new() -> NoRunner
         ensures { result.faults ≡ 0 }
     {

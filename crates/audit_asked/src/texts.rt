@@ -90,7 +90,7 @@ fn input_text<F: Files>(alloc: Global, files: &mut F, path: &str) -> Result<Text
 {
     let copy = Text::of(alloc, path)?;
     match files.read_stdin(alloc, TEXT_LIMIT) {
-        Ok(ReadAnswer::Absent) => Err(RunFault::NoMemory),
+        Ok(ReadAnswer::Absent) => unreachable!("input is never absent"),
         Ok(ReadAnswer::Whole(bytes)) => whole_text(alloc, copy, bytes.as_slice()),
         Ok(ReadAnswer::Over(len)) => Err(RunFault::TooLarge { path: copy, len }),
         Err(FileFault::Failed) => Err(RunFault::File { path: copy }),

@@ -6,7 +6,9 @@ use tame_names::Items;
 /// How much a binary says of the packages that it was built from.
 #[derive(Clone, Copy, Debug, PartialEq, Eq)]
 pub enum PackagesFound {
+    /// It names all of them.
     Complete,
+    /// It names some of them.
     Incomplete,
 }
 
@@ -52,5 +54,6 @@ pub struct MultiFileReportSummary {
 pub struct BinariesAudit {
     /// One answer for each path, in their order.
     pub answers: Items<BinaryAnswer>,
+    /// The sums over all answers.
     pub summary: MultiFileReportSummary,
 }

@@ -23,6 +23,7 @@ pub enum DecodeFault {
     Failed,
     /// What it says has this number of bytes, which is above the limit.
     Over(u64),
+    /// Memory ran out.
     NoMemory,
 }
 

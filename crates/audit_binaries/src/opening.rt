@@ -12,14 +12,18 @@ use tame_names::{FileFault, Files, NoMemory, ReadAnswer, Text};
 /// The text of a lockfile that a binary says, and whether it is of all packages.
 #[derive(Drop)]
 pub struct FoundText {
+    /// How much the text says of the packages.
     pub found: PackagesFound,
+    /// The text of the lockfile.
     pub text: Text,
 }
 
 /// Why a binary says nothing.
 #[derive(Clone, Copy, Debug, PartialEq, Eq)]
 pub enum Unopened {
+    /// It is refused, for this reason.
     Refused(BinaryFault),
+    /// Memory ran out.
     NoMemory,
 }
 

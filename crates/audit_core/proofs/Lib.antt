@@ -4,6 +4,7 @@ pub mod EachOnce
 pub mod Exchanged
 pub mod Finished
 pub mod HistoryLemmas
+pub mod Left
 pub mod Lists
 pub mod Names
 pub mod PlanLemmas

@@ -5,6 +5,7 @@ pub mod Audits
 pub mod Checks
 pub mod AnsweredTurns
 pub mod Histories
+pub mod Leaves
 pub mod Opened
 pub mod Paths
 pub mod Plans

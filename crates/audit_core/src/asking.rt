@@ -25,18 +25,26 @@ use tame_sparse::{Request, Response, SparseIndex, Wire, WireAnswer, WireFault};
 /// of the disk before the request, before the exchange and after the response.
 #[derive(Debug, Drop, PartialEq, Eq)]
 pub struct Turn {
+    /// The path in the index.
     pub path: Text,
+    /// The wire's count of faults before the exchange.
     pub wire_before: u64,
+    /// The wire's count of faults after the exchange.
     pub wire_after: u64,
+    /// The disk's count of faults before the request was made.
     pub disk_before: u64,
+    /// The disk's count of faults after that, before the exchange.
     pub disk_asked: u64,
+    /// The disk's count of faults after the response was taken.
     pub disk_after: u64,
 }
 
 /// The turn of a path, with what its answer says.
 #[derive(Drop)]
 pub struct AnsweredTurn {
+    /// The turn.
     pub turn: Turn,
+    /// What the answer says.
     pub answer: PathAnswer,
 }
 

@@ -1,11 +1,12 @@
 //! Checks for yanked versions: by the index, by the cache alone, or none.
 ghost use Rattle.std.specs.Prelude.{◌≡◌, ◌≢◌, [], ℕ, List, map, IfOk, OnErr};
 ghost use Rattle.tame_sparse.specs.Exchanges.{crates_io_index};
-ghost use Rattle.audit_core.specs.Audits.{AuditSays, KeepsOthers, MakesAskedFolders};
+ghost use Rattle.audit_core.specs.Audits.{AuditSays};
 ghost use Rattle.audit_core.specs.Checks.{asked_of, judged_of};
 ghost use Rattle.audit_core.specs.Checks as spec;
+ghost use Rattle.audit_core.specs.Leaves.{AsksOnly, CallsBy, holding};
 ghost use Rattle.audit_core.specs.Paths.{asked_paths, defaults};
-ghost use Rattle.audit_core.specs.Turns.{AddsPart, StaysKept};
+ghost use Rattle.audit_core.specs.Turns.{StaysKept};
 
 use crate::asking::{AnsweredTurn, Turn, ask};
 use crate::judging::judge;
@@ -46,7 +47,9 @@ pub fn checks_of(config: &AuditConfig) -> Checks
 /// The verdicts and turns of an audit.
 #[derive(Drop)]
 pub struct Checked {
+    /// One verdict for each package of the default registry, in the lockfile's order.
     pub verdicts: Items<Judged>,
+    /// One turn for each path that was asked for, in their order.
     pub turns: Items<Turn>,
 }
 
@@ -94,15 +97,12 @@ fn check_online<W: Wire, D: CacheDisk>(
         })
         (asked_paths packages.now) (defaults packages.now) c.turns c.verdicts) }
     ensures becomes { W.becomes wire.old wire.new }
-    ensures part { W.tells → AddsPart (asked_paths packages.now) (W.exchanges wire.old)
-        (W.exchanges wire.new) }
     ensures kept { W.tells → D.tells
         → StaysKept (W.exchanges wire.old) (W.exchanges wire.new) (D.past disk.old)
         (D.past disk.new) }
-    ensures others { D.tells → KeepsOthers (asked_paths packages.now) (D.past disk.old)
-        (D.past disk.new) }
-    ensures folders { D.tells → MakesAskedFolders (asked_paths packages.now) (D.folders disk.old)
-        (D.folders disk.new) }
+    ensures asks { AsksOnly W.tells D.tells (asked_paths packages.now)
+        (holding (W.exchanges wire.old) (D.past disk.old) (D.folders disk.old))
+        (holding (W.exchanges wire.new) (D.past disk.new) (D.folders disk.new)) }
 {
     let index = crates_io(alloc)?;
     let plan = plan_turns(alloc, packages)?;
@@ -179,20 +179,15 @@ pub fn check<W: Wire, D: CacheDisk>(
         })
         (asked_of checks packages.now) (judged_of checks packages.now) c.turns c.verdicts) }
     ensures becomes { W.becomes wire.old wire.new }
-    ensures part { W.tells → AddsPart (asked_of checks packages.now) (W.exchanges wire.old)
-        (W.exchanges wire.new) }
     ensures kept { W.tells → D.tells
         → StaysKept (W.exchanges wire.old) (W.exchanges wire.new) (D.past disk.old)
         (D.past disk.new) }
-    ensures others { D.tells → KeepsOthers (asked_of checks packages.now) (D.past disk.old)
-        (D.past disk.new) }
-    ensures folders { D.tells → MakesAskedFolders (asked_of checks packages.now)
-        (D.folders disk.old) (D.folders disk.new) }
-    ensures unasked { checks ≢ Checks.Online → wire.new ≡ wire.old }
-    ensures unchanged { checks ≢ Checks.Online → D.tells → (q : List ℕ)
-        → D.past disk.new q ≡ D.past disk.old q }
-    ensures unmade { checks ≢ Checks.Online → D.tells → D.folders disk.new ≡ D.folders disk.old }
-    ensures uncalled { checks ≡ Checks.Off → disk.new ≡ disk.old }
+    ensures asks { AsksOnly W.tells D.tells (asked_of checks packages.now)
+        (holding (W.exchanges wire.old) (D.past disk.old) (D.folders disk.old))
+        (holding (W.exchanges wire.new) (D.past disk.new) (D.folders disk.new)) }
+    ensures calls { CallsBy checks D.tells (wire.new ≡ wire.old) (disk.new ≡ disk.old)
+        (holding (W.exchanges wire.old) (D.past disk.old) (D.folders disk.old))
+        (holding (W.exchanges wire.new) (D.past disk.new) (D.folders disk.new)) }
 {
     match checks {
         Checks::Online => check_online(alloc, packages, lock, wire, disk),

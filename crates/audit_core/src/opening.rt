@@ -101,11 +101,11 @@ fn read_text<F: Files>(alloc: Global, files: &mut F, path: &str) -> Result<Text,
 }
 
 impl Auditor {
-    ghost use Rattle.audit_core.specs.Audits.{IsAuditOf, KeepsOthers, MakesAskedFolders};
+    ghost use Rattle.audit_core.specs.Audits.{IsAuditOf};
     ghost use Rattle.audit_core.specs.Checks.{asked_of};
+    ghost use Rattle.audit_core.specs.Leaves.{AsksOnly, CallsBy, holding};
     ghost use Rattle.audit_core.specs.Opened.{IsEarly, IsUnopenedFor};
-    ghost use Rattle.audit_core.specs.Turns.{AddsPart, StaysKept};
-    ghost use Rattle.audit_core.specs.declared.checking.Checks.TheVariants as Checks;
+    ghost use Rattle.audit_core.specs.Turns.{StaysKept};
 
     /// Audits the lockfile at a path of the host, where `-` is standard input, as `audit_text`.
     /// `Missing` where nothing is there, `TooLarge` where it has more than 64 MiB, `NotUtf8` where
@@ -152,20 +152,12 @@ impl Auditor {
         // of a text that is a lockfile, whatever the answer: a part of the paths was asked, from
         // the front, no file changes but those of asked paths, and no folders are made but those
         // above these
-        ensures part { F.tells → W.tells → (text : List ℕ) (packages : List Package)
+        ensures asks { F.tells → (text : List ℕ) (packages : List Package)
             → opened_text (standing_at (F.host files.old) path.now) ≡ Ok text
             → locked text ≡ Ok packages
-            → AddsPart (asked_of self.now.checks packages) (W.exchanges wire.old)
-            (W.exchanges wire.new) }
-        ensures others { F.tells → D.tells → (text : List ℕ) (packages : List Package)
-            → opened_text (standing_at (F.host files.old) path.now) ≡ Ok text
-            → locked text ≡ Ok packages
-            → KeepsOthers (asked_of self.now.checks packages) (D.past disk.old) (D.past disk.new) }
-        ensures folders { F.tells → D.tells → (text : List ℕ) (packages : List Package)
-            → opened_text (standing_at (F.host files.old) path.now) ≡ Ok text
-            → locked text ≡ Ok packages
-            → MakesAskedFolders (asked_of self.now.checks packages) (D.folders disk.old)
-            (D.folders disk.new) }
+            → AsksOnly W.tells D.tells (asked_of self.now.checks packages)
+            (holding (W.exchanges wire.old) (D.past disk.old) (D.folders disk.old))
+            (holding (W.exchanges wire.new) (D.past disk.new) (D.folders disk.new)) }
 
         // whatever the answer: what stays, and what is kept
         ensures same { F.tells → StaysButInput (IsInput path.now)
@@ -173,12 +165,10 @@ impl Auditor {
         ensures kept { W.tells → D.tells
             → StaysKept (W.exchanges wire.old) (W.exchanges wire.new) (D.past disk.old)
             (D.past disk.new) }
-        ensures unasked { self.now.checks ≢ Checks.Online → wire.new ≡ wire.old }
-        ensures unchanged { self.now.checks ≢ Checks.Online → D.tells → (q : List ℕ)
-            → D.past disk.new q ≡ D.past disk.old q }
-        ensures unmade { self.now.checks ≢ Checks.Online → D.tells
-            → D.folders disk.new ≡ D.folders disk.old }
-        ensures off { self.now.checks ≡ Checks.Off → disk.new ≡ disk.old }
+        ensures calls { CallsBy self.now.checks D.tells (wire.new ≡ wire.old)
+            (disk.new ≡ disk.old)
+            (holding (W.exchanges wire.old) (D.past disk.old) (D.folders disk.old))
+            (holding (W.exchanges wire.new) (D.past disk.new) (D.folders disk.new)) }
     {
         let text = read_text(alloc, files, path)?;
         match self.audit_text(alloc, text.as_str(), lock, wire, disk) {

@@ -33,8 +33,11 @@ pub struct Plan {
 /// The paths so far in their order, the name of the first package of each, and the place of each.
 #[derive(Drop)]
 pub struct Places {
+    /// The name of the first package of each path.
     pub names: Items<Text>,
+    /// The paths, each once.
     pub paths: Items<Text>,
+    /// The place of each path among these, from 0.
     pub map: BTreeMap<String, usize>,
 }
 

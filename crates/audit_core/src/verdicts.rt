@@ -24,7 +24,9 @@ pub enum Cause {
 /// Whether a locked version is yanked.
 #[derive(Clone, Copy, Debug, PartialEq, Eq)]
 pub enum Verdict {
+    /// The index has it as yanked.
     Yanked,
+    /// The index has it as not yanked.
     NotYanked,
     /// It isn't known, for this cause.
     Unchecked(Cause),
@@ -33,6 +35,8 @@ pub enum Verdict {
 /// The verdict of the package at a place of the lockfile.
 #[derive(Clone, Copy, Debug, PartialEq, Eq)]
 pub struct Judged {
+    /// The place of the package in the lockfile, from 0.
     pub package: usize,
+    /// What was judged of it.
     pub verdict: Verdict,
 }

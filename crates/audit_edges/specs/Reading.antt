@@ -1,5 +1,6 @@
 -- A read within a limit.
-use Rattle.std.specs.Prelude.{ℕ, ◌<◌}
+use Rattle.std.specs.Prelude.{ℕ, ◌<◌, ◌≤◌, length, Option, None, Some, Vec}
+use Rattle.std.specs.declared.alloc.Global.{Global}
 use Rattle.tame_names.specs.declared.host.ReadAnswer.{ReadAnswer}
 use Rattle.tame_names.specs.declared.host.ReadAnswer.TheVariants.{Over}
 
@@ -7,3 +8,8 @@ use Rattle.tame_names.specs.declared.host.ReadAnswer.TheVariants.{Over}
 abbrev pub IsAbove : ℕ → ReadAnswer → Type 0
 IsAbove limit (Over n) = limit < n
 IsAbove limit _ = Unit {0}
+
+-- a part has no more bytes than the limit
+abbrev pub IsNoMore : ℕ → Option (Vec ℕ Global) → Type 0
+IsNoMore limit (Some part) = length part.items ≤ limit
+IsNoMore limit None = Unit {0}

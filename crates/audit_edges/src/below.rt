@@ -14,8 +14,11 @@ use tame_names::{ReadAnswer, Text, join};
 /// What is at a place.
 #[derive(Drop)]
 pub enum Found {
+    /// There is nothing.
     Nothing,
+    /// There is a folder.
     Folder,
+    /// There is a file, of which this is known.
     File(Metadata),
 }
 
@@ -46,14 +49,18 @@ pub fn found_at<R: Files>(rt: &R, place: &str) -> io::Result<Found> {
 /// Where a path below a folder leads, and the file that is there, if there is one.
 #[derive(Drop)]
 pub struct Below {
+    /// The path.
     pub place: Text,
+    /// What is known of the file there; none where there is none.
     pub file: Option<Metadata>,
 }
 
 /// A file that was opened to be read, and what was found there before.
 #[derive(Drop)]
 pub struct OpenedToRead<F: Drop> {
+    /// The file.
     pub file: F,
+    /// What was known of it before it was opened.
     pub found: Metadata,
 }
 
@@ -109,12 +116,14 @@ pub fn open_to_read<R: Files>(
 #[derive(Drop)]
 pub struct Root<'a, R: Files + AllocGlobal> {
     rt: &'a R,
+    /// The path of the folder.
     pub folder: &'a str,
     /// The places below the folder at which folders were found.
     known: BTreeSet<Text>,
 }
 
 impl<'a, R: Files + AllocGlobal> Root<'a, R> {
+    /// A folder, with nothing known of those below it.
     pub fn new(rt: &'a R, folder: &'a str) -> Root<'a, R>
         ensures { result.folder.now ≡ folder.now }
     {

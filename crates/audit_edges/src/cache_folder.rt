@@ -34,6 +34,7 @@ struct OpenedFile<F: Drop> {
 #[derive(Drop)]
 pub struct CacheFolder<'a, R: Files + AllocGlobal> {
     rt: &'a R,
+    /// The folder, with what is known of those below it.
     pub root: Root<'a, R>,
     /// The file that was written or synced last.
     opened: Option<OpenedFile<R::File>>,

@@ -36,10 +36,12 @@ pub fn look_at_opened<F: OpenFile>(file: &F) -> io::Result<Metadata> {
     again!(file.metadata())
 }
 
+/// Makes a folder at a place; an error where something is there.
 pub fn make_folder<R: Files>(rt: &R, place: &str) -> io::Result<()> {
     again!(fs::create_dir(rt, place))
 }
 
+/// Opens the file at a place in this way.
 pub fn open<R: Files>(rt: &R, how: &OpenOptions, place: &str) -> io::Result<R::File> {
     again!(how.open(rt, place))
 }
@@ -92,14 +94,17 @@ pub fn first_byte<F: FileExt>(file: &F) -> io::Result<Option<u8>> {
     Err(io::Error::from(ErrorKind::Interrupted))
 }
 
+/// Makes a file this number of bytes long.
 pub fn set_len<F: OpenFile>(file: &F, len: u64) -> io::Result<()> {
     again!(file.set_len(len))
 }
 
+/// Waits until the system has stored what a file holds.
 pub fn sync<F: OpenFile>(file: &F) -> io::Result<()> {
     again!(file.sync_all())
 }
 
+/// Hands on what a writer has kept back.
 pub fn flush<W: Write>(writer: &mut W) -> io::Result<()> {
     again!(writer.flush())
 }

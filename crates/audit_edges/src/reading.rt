@@ -1,11 +1,11 @@
 //! Files read within a limit.
-ghost use Rattle.std.specs.Prelude.{◌≢◌, IfOk};
-ghost use Rattle.audit_edges.specs.Reading.{IsAbove};
+ghost use Rattle.std.specs.Prelude.{◌≢◌, ◌≤◌, length, IfOk};
+ghost use Rattle.audit_edges.specs.Reading.{IsAbove, IsNoMore};
 
 use crate::calls::{look_through, open, read_once};
 use std::alloc::Global;
-use std::fs::OpenOptions;
-use std::io::{self, ErrorKind, Read};
+use std::fs::{Metadata, OpenOptions};
+use std::io::{self, ErrorKind, Read, Seek, SeekFrom};
 use std::os::unix::fs::FileExt;
 use std::rt::Files;
 use tame_names::{NoMemory, ReadAnswer};
@@ -96,6 +96,7 @@ pub struct FromStart<'a, F> {
 }
 
 impl<'a, F> FromStart<'a, F> {
+    /// A reader of this file that stands at its beginning.
     pub fn new(file: &'a F) -> FromStart<'a, F> {
         FromStart { file, at: 0 }
     }
@@ -115,6 +116,62 @@ pub fn without_last_slashes(path: &str) -> &str {
     if rest.is_empty() { path } else { rest }
 }
 
+/// Looks at a path to be read, where links lead. What is there and is no file can't be read; it
+/// mustn't be opened, since that could wait for ever.
+fn readable<R: Files>(rt: &R, path: &str) -> io::Result<Option<Metadata>> {
+    match look_through(rt, path) {
+        Ok(found) if found.is_file() => Ok(Some(found)),
+        Ok(_) => Err(io::Error::from(ErrorKind::InvalidInput)),
+        Err(error) if is_absent(error.kind()) => Ok(None),
+        Err(error) => Err(error),
+    }
+}
+
+/// Reads until as many bytes have come, or no more come.
+fn read_up_to<F: Read>(alloc: Global, reader: &mut F, limit: u64) -> io::Result<Vec<u8>>
+    ensures { IfOk result (λ part. length part.items ≤ limit) }
+{
+    let room = limit as usize;
+    let mut bytes = Vec::new(alloc);
+    lengthen(&mut bytes, room)?;
+    let mut filled = 0;
+    for _ in 0..u64::MAX {
+        let before = filled;
+        filled = fill(reader, bytes.as_mut_slice(), filled)?;
+        if filled == before || filled >= room {
+            bytes.truncate(filled.min(room));
+            return Ok(bytes);
+        }
+    }
+    Err(io::Error::from(ErrorKind::Other))
+}
+
+/// A part of the file at a path, where links lead: no more bytes than the limit, from a place on;
+/// none where the file ends before, however far that place is.
+/// The path and what can't be read are as those of `read_file`.
+pub fn read_part<R: Files + AllocGlobal>(
+    rt: &R,
+    alloc: Global,
+    path: &str,
+    from: u64,
+    limit: u64,
+) -> io::Result<Option<Vec<u8>>>
+    ensures { IfOk result (IsNoMore limit) }
+{
+    let path = without_last_slashes(path);
+    let Some(found) = readable(rt, path)? else {
+        return Ok(None);
+    };
+    let rest = found.len().saturating_sub(from).min(limit);
+    let mut how = OpenOptions::new();
+    how.read(true);
+    let mut file = open(rt, &how, path)?;
+    if rest > 0 {
+        file.seek(SeekFrom::Start(from))?;
+    }
+    Ok(Some(read_up_to(alloc, &mut file, rest)?))
+}
+
 /// The file at a path, where links lead. What is there and is no file can't be read; it isn't
 /// opened, since that could wait for ever. A path that ends with a slash stands for the path
 /// without it.
@@ -127,19 +184,9 @@ pub fn read_file<R: Files + AllocGlobal>(
     ensures { IfOk result (IsAbove limit) }
 {
     let path = without_last_slashes(path);
-    let found = match look_through(rt, path) {
-        Ok(found) => found,
-        Err(error) => {
-            return if is_absent(error.kind()) {
-                Ok(ReadAnswer::Absent)
-            } else {
-                Err(error)
-            };
-        }
+    let Some(found) = readable(rt, path)? else {
+        return Ok(ReadAnswer::Absent);
     };
-    if !found.is_file() {
-        return Err(io::Error::from(ErrorKind::InvalidInput));
-    }
     let len = found.len();
     if len > limit {
         return Ok(ReadAnswer::Over(len));

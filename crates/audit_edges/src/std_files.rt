@@ -1,19 +1,19 @@
 //! The host, over std.
-ghost use Rattle.std.specs.Prelude.{◌≡◌, ◌≢◌, ◌≤◌, [], false};
+ghost use Rattle.std.specs.Prelude.{◌≡◌, ◌≢◌, ◌≤◌, [], false, Ok};
 ghost use Rattle.audit_edges.specs.Untold.{untold};
 ghost use Rattle.tame_names.specs.Counts.{CountRose};
 
 use crate::listings::{kind_of, list_folder};
 use crate::locking::{LockFiles, open_to_lock, take_opened};
 use crate::making::{make_file, make_folders};
-use crate::reading::{read_file, read_within};
+use crate::reading::{read_file, read_part, read_within};
 use crate::surroundings::{current_folder, variable};
 use std::alloc::Global;
 use std::io::{ErrorKind, Input};
 use std::rt::{self, Env};
 use tame_names::{
-    EnvValue, FileFault, Files, Items, Listed, LockOpenFault, LockTakeFault, OpenedLock, PathKind,
-    ReadAnswer, Text,
+    EnvValue, FileFault, Files, Items, Listed, LockOpenFault, LockTakeFault, NoMemory, OpenedLock,
+    PathKind, ReadAnswer, Text,
 };
 
 /// The host's files and their locks, its standard input, its environment and its current folder.
@@ -53,34 +53,41 @@ impl<'a, R: rt::Files + AllocGlobal> StdFiles<'a, R> {
     }
 
     /// The fault of an opening that gave an error of this kind. It is counted unless it says that
-    /// nothing is there, or that it is denied.
-    fn open_fault(&mut self, kind: ErrorKind) -> LockOpenFault
+    /// nothing is there, that it is denied, or that memory ran out.
+    fn open_fault(&mut self, kind: ErrorKind) -> Result<LockOpenFault, NoMemory>
         ensures later { self.old.faults ≤ self.new.faults }
-        ensures rose { result ≡ LockOpenFault.Failed → CountRose self.old.faults self.new.faults }
+        ensures rose { result ≡ Ok LockOpenFault.Failed
+            → CountRose self.old.faults self.new.faults }
     {
         match kind {
-            ErrorKind::NotFound => LockOpenFault::NotFound,
-            ErrorKind::PermissionDenied | ErrorKind::ReadOnlyFilesystem => LockOpenFault::Denied,
+            ErrorKind::OutOfMemory => Err(NoMemory),
+            ErrorKind::NotFound => Ok(LockOpenFault::NotFound),
+            ErrorKind::PermissionDenied | ErrorKind::ReadOnlyFilesystem => {
+                Ok(LockOpenFault::Denied)
+            }
             _ => {
                 self.count();
-                LockOpenFault::Failed
+                Ok(LockOpenFault::Failed)
             }
         }
     }
 
     /// The fault of a taking that gave an error of this kind. It is counted unless it says that
-    /// another one holds the lock, where it didn't wait, or that there are no locks.
-    fn take_fault(&mut self, kind: ErrorKind, block: bool) -> LockTakeFault
+    /// another one holds the lock, where it didn't wait, that there are no locks, or that memory
+    /// ran out.
+    fn take_fault(&mut self, kind: ErrorKind, block: bool) -> Result<LockTakeFault, NoMemory>
         ensures later { self.old.faults ≤ self.new.faults }
-        ensures rose { result ≡ LockTakeFault.Failed → CountRose self.old.faults self.new.faults }
-        ensures contested { result ≡ LockTakeFault.Contested → block ≡ false }
+        ensures rose { result ≡ Ok LockTakeFault.Failed
+            → CountRose self.old.faults self.new.faults }
+        ensures contested { result ≡ Ok LockTakeFault.Contested → block ≡ false }
     {
         match kind {
-            ErrorKind::WouldBlock if !block => LockTakeFault::Contested,
-            ErrorKind::Unsupported => LockTakeFault::NotSupported,
+            ErrorKind::OutOfMemory => Err(NoMemory),
+            ErrorKind::WouldBlock if !block => Ok(LockTakeFault::Contested),
+            ErrorKind::Unsupported => Ok(LockTakeFault::NotSupported),
             _ => {
                 self.count();
-                LockTakeFault::Failed
+                Ok(LockTakeFault::Failed)
             }
         }
     }
@@ -93,7 +100,7 @@ impl<'a, R: rt::Files + LockFiles + AllocGlobal + Env + Input> Files for StdFile
 
     ghost failed = { λ _. [] };
 
-    ghost steps = { λ _. [] };
+    ghost locks = { λ _. record { steps = []; opened = []; taken = [] } };
 
     ghost faults = { λ s. s.faults };
 
@@ -104,6 +111,19 @@ impl<'a, R: rt::Files + LockFiles + AllocGlobal + Env + Input> Files for StdFile
     fn read(&mut self, alloc: Global, path: &str, limit: u64) -> Result<ReadAnswer, FileFault> {
         match read_file(self.rt, alloc, path, limit) {
             Ok(answer) => Ok(answer),
+            Err(error) => Err(self.fault(error.kind())),
+        }
+    }
+
+    fn read_part(
+        &mut self,
+        alloc: Global,
+        path: &str,
+        from: u64,
+        limit: u64,
+    ) -> Result<Option<Vec<u8>>, FileFault> {
+        match read_part(self.rt, alloc, path, from, limit) {
+            Ok(part) => Ok(part),
             Err(error) => Err(self.fault(error.kind())),
         }
     }
@@ -157,10 +177,14 @@ impl<'a, R: rt::Files + LockFiles + AllocGlobal + Env + Input> Files for StdFile
         }
     }
 
-    fn open_lock(&mut self, path: &str, exclusive: bool) -> Result<OpenedLock, LockOpenFault> {
+    fn open_lock(
+        &mut self,
+        path: &str,
+        exclusive: bool,
+    ) -> Result<Result<OpenedLock, LockOpenFault>, NoMemory> {
         match open_to_lock(self.rt, path, exclusive) {
-            Ok(file) => Ok(OpenedLock { file: Some(file) }),
-            Err(error) => Err(self.open_fault(error.kind())),
+            Ok(file) => Ok(Ok(OpenedLock { file: Some(file) })),
+            Err(error) => Ok(Err(self.open_fault(error.kind())?)),
         }
     }
 
@@ -170,10 +194,10 @@ impl<'a, R: rt::Files + LockFiles + AllocGlobal + Env + Input> Files for StdFile
         opened: &OpenedLock,
         exclusive: bool,
         block: bool,
-    ) -> Result<(), LockTakeFault> {
+    ) -> Result<Result<(), LockTakeFault>, NoMemory> {
         match take_opened(self.rt, path, opened.file.as_ref(), exclusive, block) {
-            Ok(()) => Ok(()),
-            Err(error) => Err(self.take_fault(error.kind(), block)),
+            Ok(()) => Ok(Ok(())),
+            Err(error) => Ok(Err(self.take_fault(error.kind(), block)?)),
         }
     }
 }

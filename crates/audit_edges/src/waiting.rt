@@ -14,6 +14,7 @@ pub struct Waiting {
 }
 
 impl Waiting {
+    /// No bytes.
     pub fn new(alloc: Global) -> Waiting {
         Waiting {
             bytes: Vec::new(alloc),

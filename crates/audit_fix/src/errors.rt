@@ -51,6 +51,7 @@ pub struct Error {
 }
 
 impl Error {
+    /// The kind of the error.
     pub fn kind(&self) -> ErrorKind
         ensures { result ≡ self.now.kind }
     {

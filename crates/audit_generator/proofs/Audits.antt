@@ -29,11 +29,11 @@ use Rattle.audit_core.specs.declared.verdicts.Judged.{Judged}
 use Rattle.audit_core.proofs.Agreeing.{audits_agree}
 use Rattle.audit_generator.specs.Packages.{lockfile_text, packages}
 use Rattle.audit_generator.specs.Hosted.{etag_at, held_for, hosted, path_at}
-use Rattle.audit_generator.specs.Outcomes.{AreStored, SaysOf, confirmed, exchanges_of, sent, verdicts_of}
+use Rattle.audit_generator.specs.Outcomes.{AreStored, SaysOf, confirmed, exchanges_of, sent, turns_of, verdicts_of}
 use Rattle.audit_generator.proofs.Asked.{asked_in_order, defaults_numbered, numbered}
 use Rattle.audit_generator.proofs.Exchanges.{AllBelow, AreQuiet, all_below, all_confirmed, all_sent, held_here, same_bytes}
 use Rattle.audit_generator.proofs.Judged.{all_judged}
-use Rattle.audit_generator.proofs.Quiet.{all_quiet, first_stored, second_stored}
+use Rattle.audit_generator.proofs.Quiet.{all_quiet, counted_turns, first_stored, second_stored}
 use Rattle.audit_generator.proofs.Lines.{AllSmall, numbers_small}
 use Rattle.audit_generator.proofs.Resolved.{lockfile_locked}
 use Rattle.audit_generator.proofs.Stored.{etag_honest}
@@ -71,19 +71,20 @@ pub record IsFirst (n : ℕ) (auditor : Auditor) (ended : Moment) (a : Audited) 
   pub stored : AreStored n ended.files
   pub says : SaysOf n auditor a
 
-says_of : (n : ℕ) (auditor : Auditor) (a : Audited) → a.lockfile ≡ packages n → a.verdicts ≡ verdicts_of n → a.report ≡ audit_report auditor a.lockfile a.verdicts → a.exit ≡ audit_exit auditor a.report → SaysOf n auditor a
-says_of n auditor a lockfile verdicts report exit =
+says_of : (n : ℕ) (auditor : Auditor) (a : Audited) → a.lockfile ≡ packages n → a.verdicts ≡ verdicts_of n → a.turns ≡ turns_of n → a.report ≡ audit_report auditor a.lockfile a.verdicts → a.exit ≡ audit_exit auditor a.report → SaysOf n auditor a
+says_of n auditor a lockfile verdicts turns report exit =
     let made : a.report ≡ audit_report auditor (packages n) (verdicts_of n) = report ∙ ap (λ (ps : List Package). audit_report auditor ps a.verdicts) lockfile ∙ ap (λ (js : List Judged). audit_report auditor (packages n) js) verdicts in
     record {
       lockfile = lockfile;
       verdicts = verdicts;
+      turns = turns;
       report = made;
       exit = exit ∙ ap (audit_exit auditor) made;
     }
 
 pub first_done : (n : ℕ) (auditor : Auditor) (began ended : Moment) (text : List ℕ) (a : Audited) → n < 2 ^ 64 → auditor.checks ≡ Online → text ≡ lockfile_text n → IsAuditOf auditor (Unit {0}) (Unit {0}) began ended text a
-    → began.exchanges ≡ [] → IsBare began.files → began.disk_faults ≡ 0 → ended.disk_faults ≡ 0 → AreServed (hosted n) ended.exchanges → IsFirst n auditor ended a
-first_done n auditor began ended text a small online is audit none bare quiet_before quiet_after served =
+    → began.exchanges ≡ [] → IsBare began.files → began.wire_faults ≡ 0 → ended.wire_faults ≡ 0 → began.disk_faults ≡ 0 → ended.disk_faults ≡ 0 → AreServed (hosted n) ended.exchanges → IsFirst n auditor ended a
+first_done n auditor began ended text a small online is audit none bare whole_before whole_after quiet_before quiet_after served =
     let says = says_online n auditor began ended text a small online is audit in
     let adds = says.audited refl tt in
     let whole : ended.exchanges ≡ adds.0 = adds.1 ∙ ap (λ (xs : List Exchange). xs ++ adds.0) none in
@@ -92,11 +93,12 @@ first_done n auditor began ended text a small online is audit none bare quiet_be
     let es : adds.0 ≡ map sent (range_with_len 0 n) = all_sent n (range_with_len 0 n) began.files ended.files adds.0 a.turns small (all_below n) adds.2.asked adds.2.addressed turned mine (λ q. ap reads (bare q)) in
     let quiet : AreQuiet a.turns = all_quiet began.wire_faults began.disk_faults a.turns ended.wire_faults ended.disk_faults says.counted.counts (quiet_after ∙ sym quiet_before) (omega (arith, quiet_before)) in
     let lockfile = same_packages n text a.lockfile small is audit.lockfile in
+    let turns : a.turns ≡ turns_of n = counted_turns (range_with_len 0 n) began.wire_faults began.disk_faults a.turns ended.wire_faults ended.disk_faults says.counted.paths says.counted.counts whole_before whole_after quiet_before quiet_after in
     let verdicts : a.verdicts ≡ verdicts_of n = all_judged (Unit {0}) (λ q. reads (began.files (index_file q))) n (range_with_len 0 n) a.verdicts tt small (all_below n) (subst (λ (xs : List Exchange). AreVerdicts (IsVerdictByAnswerAt (Unit {0}) (λ q. reads (began.files (index_file q))) xs) (numbered (range_with_len 0 n)) a.verdicts) es adds.2.judged) in
     record {
       exchanges = whole ∙ es;
       stored = first_stored n began.files ended.files a.turns small (subst (λ (xs : List Exchange). TurnsNameAndLeave began.files ended.files xs a.turns) es turned) quiet;
-      says = says_of n auditor a lockfile verdicts audit.report audit.exit;
+      says = says_of n auditor a lockfile verdicts turns audit.report audit.exit;
     }
 
 -- ---- the server is honest, and the cache is kept for it
@@ -146,9 +148,9 @@ pub record IsSecond (n : ℕ) (auditor : Auditor) (ended : Moment) (a : Audited)
 
 pub second_done : (n : ℕ) (auditor : Auditor) (began middle ended : Moment) (text : List ℕ) (a b : Audited) → n < 2 ^ 64 → auditor.checks ≡ Online → text ≡ lockfile_text n
     → IsAuditOf auditor (Unit {0}) (Unit {0}) began middle text a → IsAuditOf auditor (Unit {0}) (Unit {0}) middle ended text b → began.exchanges ≡ [] → IsBare began.files
-    → began.disk_faults ≡ 0 → middle.disk_faults ≡ 0 → ended.disk_faults ≡ 0 → StaysKept began.exchanges middle.exchanges began.files middle.files → AreServed (hosted n) ended.exchanges
+    → middle.wire_faults ≡ 0 → ended.wire_faults ≡ 0 → began.disk_faults ≡ 0 → middle.disk_faults ≡ 0 → ended.disk_faults ≡ 0 → StaysKept began.exchanges middle.exchanges began.files middle.files → AreServed (hosted n) ended.exchanges
     → IsFirst n auditor middle a → IsSecond n auditor ended b
-second_done n auditor began middle ended text a b small online is audit_a audit_b none bare quiet_began quiet_middle quiet_ended keeps served first =
+second_done n auditor began middle ended text a b small online is audit_a audit_b none bare whole_middle whole_ended quiet_began quiet_middle quiet_ended keeps served first =
     let says = says_online n auditor middle ended text b small online is audit_b in
     let adds = says.audited refl tt in
     let mine : AreServed (hosted n) adds.0 = served_back (hosted n) middle.exchanges adds.0 (subst (AreServed (hosted n)) adds.1 served) in
@@ -174,8 +176,9 @@ second_done n auditor began middle ended text a b small online is audit_a audit_
     } in
     let agree = audits_agree auditor text middle ended began middle (map confirmed (range_with_len 0 n)) (map sent (range_with_len 0 n)) b a online sound_b sound_a (alike (range_with_len 0 n)) in
     let lockfile = same_packages n text b.lockfile small is audit_b.lockfile in
+    let turns : b.turns ≡ turns_of n = counted_turns (range_with_len 0 n) middle.wire_faults middle.disk_faults b.turns ended.wire_faults ended.disk_faults says.counted.paths says.counted.counts whole_middle whole_ended quiet_middle quiet_ended in
     record {
       exchanges = adds.1 ∙ ap (λ (xs : List Exchange). xs ++ adds.0) first.exchanges ∙ ap (λ (xs : List Exchange). map sent (range_with_len 0 n) ++ xs) es;
       stored = second_stored n middle.files ended.files b.turns (subst (λ (xs : List Exchange). TurnsNameAndLeave middle.files ended.files xs b.turns) es turned) first.stored;
-      says = says_of n auditor b lockfile (agree.0 ∙ first.says.verdicts) audit_b.report audit_b.exit;
+      says = says_of n auditor b lockfile (agree.0 ∙ first.says.verdicts) turns audit_b.report audit_b.exit;
     }

@@ -1,5 +1,5 @@
 -- Turns in which the disk's count stayed, and what they leave.
-use Rattle.std.proofs.Common.{◌≡◌, ℕ, zero, suc, ◌+◌, ◌-◌, ◌<◌, ◌≤◌, ◌^◌, List, [], ◌∷◌, map, Some, ap, ◌∙◌, subst, inl, inr, arith}
+use Rattle.std.proofs.Common.{◌≡◌, ℕ, zero, suc, ◌+◌, ◌-◌, ◌<◌, ◌≤◌, ◌^◌, List, [], ◌∷◌, map, Some, refl, ap, ◌∙◌, subst, inl, inr, arith}
 use Rattle.std.specs.List.{range_with_len}
 use Rattle.std.proofs.lemmas.Bool.{cases_eq}
 use Rattle.tame_cache.specs.Disk.{reads}
@@ -10,8 +10,9 @@ use Rattle.tame_sparse.specs.Serving.{not_modified}
 use Rattle.audit_core.specs.Audits.{TurnsNameAndLeave}
 use Rattle.audit_core.specs.Turns.{Chains, index_file}
 use Rattle.audit_core.specs.declared.asking.Turn.{Turn}
+use Rattle.audit_core.proofs.Lists.{cons_head, cons_tail}
 use Rattle.audit_generator.specs.Hosted.{held_for, path_at}
-use Rattle.audit_generator.specs.Outcomes.{AreStored, confirmed, entry_at, sent}
+use Rattle.audit_generator.specs.Outcomes.{AreStored, confirmed, entry_at, sent, turn_at}
 use Rattle.audit_generator.proofs.Exchanges.{AllBelow, AreQuiet, all_below}
 use Rattle.audit_generator.proofs.Stored.{sent_stored}
 
@@ -32,6 +33,36 @@ all_quiet wire disk (t ∷ ts) last_wire last_disk h same low =
       ((asked, omega (arith, low, h.2)), (after, omega (arith, low, h.2, asked))),
       all_quiet t.wire_after t.disk_after ts last_wire last_disk h.5 (omega (arith, same, asked, after, h.2)) (omega (arith, low, asked, after, h.2)),
     )
+
+wires_grow : (wire disk : ℕ) (ts : List Turn) (last_wire last_disk : ℕ) → Chains wire disk ts last_wire last_disk → wire ≤ last_wire
+wires_grow wire disk [] last_wire last_disk h = omega (arith, h.0)
+wires_grow wire disk (t ∷ ts) last_wire last_disk h =
+    let more = wires_grow t.wire_after t.disk_after ts last_wire last_disk h.5 in
+    omega (arith, more, h.0, h.1)
+
+same_turn : (t : Turn) (k : ℕ) → t.path ≡ path_at k → t.wire_before ≡ 0 → t.wire_after ≡ 0 → t.disk_before ≡ 0 → t.disk_asked ≡ 0 → t.disk_after ≡ 0 → t ≡ turn_at k
+same_turn t k path wire_before wire_after disk_before disk_asked disk_after =
+    ap (λ (p : List ℕ). record { path = p; wire_before = t.wire_before; wire_after = t.wire_after; disk_before = t.disk_before; disk_asked = t.disk_asked; disk_after = t.disk_after }) path
+    ∙ ap (λ (c : ℕ). record { path = path_at k; wire_before = c; wire_after = t.wire_after; disk_before = t.disk_before; disk_asked = t.disk_asked; disk_after = t.disk_after }) wire_before
+    ∙ ap (λ (c : ℕ). record { path = path_at k; wire_before = 0; wire_after = c; disk_before = t.disk_before; disk_asked = t.disk_asked; disk_after = t.disk_after }) wire_after
+    ∙ ap (λ (c : ℕ). record { path = path_at k; wire_before = 0; wire_after = 0; disk_before = c; disk_asked = t.disk_asked; disk_after = t.disk_after }) disk_before
+    ∙ ap (λ (c : ℕ). record { path = path_at k; wire_before = 0; wire_after = 0; disk_before = 0; disk_asked = c; disk_after = t.disk_after }) disk_asked
+    ∙ ap (λ (c : ℕ). record { path = path_at k; wire_before = 0; wire_after = 0; disk_before = 0; disk_asked = 0; disk_after = c }) disk_after
+
+-- turns for these paths in which no count rose
+pub counted_turns : (ks : List ℕ) (wire disk : ℕ) (ts : List Turn) (last_wire last_disk : ℕ) → map (λ (t : Turn). t.path) ts ≡ map path_at ks → Chains wire disk ts last_wire last_disk → wire ≡ 0 → last_wire ≡ 0 → disk ≡ 0 → last_disk ≡ 0 → ts ≡ map turn_at ks
+counted_turns [] wire disk [] last_wire last_disk paths h w lw d ld = refl
+counted_turns [] wire disk (t ∷ ts) last_wire last_disk paths h w lw d ld = cc
+counted_turns (k ∷ ks) wire disk [] last_wire last_disk paths h w lw d ld = cc
+counted_turns (k ∷ ks) wire disk (t ∷ ts) last_wire last_disk paths h w lw d ld =
+    let wires = wires_grow t.wire_after t.disk_after ts last_wire last_disk h.5 in
+    let disks = counts_grow t.wire_after t.disk_after ts last_wire last_disk h.5 in
+    let wire_after : t.wire_after ≡ 0 = omega (arith, wires, lw) in
+    let disk_after : t.disk_after ≡ 0 = omega (arith, disks, ld) in
+    let at : t.path ≡ path_at k = cons_head t.path (path_at k) (map (λ (x : Turn). x.path) ts) (map path_at ks) paths in
+    let more = cons_tail t.path (path_at k) (map (λ (x : Turn). x.path) ts) (map path_at ks) paths in
+    let here = same_turn t k at (h.0 ∙ w) wire_after (h.2 ∙ d) (omega (arith, h.4, disk_after)) disk_after in
+    ap (λ (x : Turn). x ∷ ts) here ∙ ap (λ (xs : List Turn). turn_at k ∷ xs) (counted_turns ks t.wire_after t.disk_after ts last_wire last_disk more h.5 wire_after lw disk_after ld)
 
 -- ---- files
 

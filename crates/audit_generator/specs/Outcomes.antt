@@ -13,6 +13,7 @@ use Rattle.audit_core.specs.Answers.{body_answer}
 use Rattle.audit_core.specs.Auditors.{audit_exit, audit_report}
 use Rattle.audit_core.specs.Turns.{index_file}
 use Rattle.audit_core.specs.Verdicts.{verdict_by}
+use Rattle.audit_core.specs.declared.asking.Turn.{Turn}
 use Rattle.audit_core.specs.declared.auditing.Audited.{Audited}
 use Rattle.audit_core.specs.declared.auditors.Auditor.{Auditor}
 use Rattle.audit_core.specs.declared.verdicts.Judged.{Judged}
@@ -61,10 +62,25 @@ judged_at k = record {
 abbrev pub verdicts_of : ℕ → List Judged
 verdicts_of n = map judged_at (range_with_len 0 n)
 
--- an audit of n packages says this: the packages, the verdicts, and the report and the exit of the
--- auditor over both
+-- the turn of package k: its path, with no fault at any time
+abbrev pub turn_at : ℕ → Turn
+turn_at k = record {
+  path = path_at k;
+  wire_before = 0;
+  wire_after = 0;
+  disk_before = 0;
+  disk_asked = 0;
+  disk_after = 0;
+}
+
+abbrev pub turns_of : ℕ → List Turn
+turns_of n = map turn_at (range_with_len 0 n)
+
+-- an audit of n packages says this: the packages, the verdicts, the turns, and the report and the
+-- exit of the auditor over the packages and the verdicts
 pub record SaysOf (n : ℕ) (auditor : Auditor) (audited : Audited) : Type 0 where
   pub lockfile : audited.lockfile ≡ packages n
   pub verdicts : audited.verdicts ≡ verdicts_of n
+  pub turns : audited.turns ≡ turns_of n
   pub report : audited.report ≡ audit_report auditor (packages n) (verdicts_of n)
   pub exit : audited.exit ≡ audit_exit auditor (audit_report auditor (packages n) (verdicts_of n))

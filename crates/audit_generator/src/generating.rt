@@ -23,9 +23,13 @@ use tame_sparse::ServeWire;
 /// Two audits of generated packages, with the wire and the disk as the second left them.
 #[derive(Drop)]
 pub struct Generated {
+    /// The first audit, over a disk without files.
     pub first: Audited,
+    /// The second audit, over what the first one left.
     pub second: Audited,
+    /// The wire, with the exchanges of both audits.
     pub wire: ServeWire,
+    /// The disk, with what both audits kept.
     pub disk: MemCacheDisk,
 }
 

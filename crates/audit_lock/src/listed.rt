@@ -41,17 +41,24 @@ pub enum LockRule {
 /// A package as it is listed: its dependencies are texts.
 #[derive(Drop)]
 pub struct ListedPackage {
+    /// The package's name.
     pub name: Text,
+    /// The version's text.
     pub version: Text,
+    /// Where it comes from, as written; none for a package of a folder.
     pub source: Option<Text>,
+    /// The checksum of its crate file, as written, where it has one.
     pub checksum: Option<Text>,
+    /// The texts that name the packages that it depends on.
     pub dependencies: Items<Text>,
 }
 
 /// Why a table is no package.
 #[derive(Clone, Copy, Debug, PartialEq, Eq)]
 pub enum ListingFault {
+    /// The rule that is broken.
     Rule(LockRule),
+    /// Memory ran out.
     NoMemory,
 }
 

@@ -30,6 +30,7 @@ pub enum LockfileFault {
         package: Option<usize>,
         rule: LockRule,
     },
+    /// Memory ran out.
     NoMemory,
 }
 

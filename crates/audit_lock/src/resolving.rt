@@ -12,9 +12,13 @@ use tame_names::{Items, Text};
 /// A package of a lockfile.
 #[derive(Debug, Drop)]
 pub struct Package {
+    /// The package's name.
     pub name: Text,
+    /// The version's text, a SemVer version.
     pub version: Text,
+    /// Where it comes from, as written; none for a package of a folder.
     pub source: Option<Text>,
+    /// The checksum of its crate file, as written, where it has one.
     pub checksum: Option<Text>,
     /// The places of the packages that it depends on.
     pub dependencies: Items<usize>,

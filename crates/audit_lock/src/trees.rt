@@ -18,6 +18,7 @@ use tame_names::{Items, NoMemory, Sink};
 pub enum RenderFault {
     /// The put failed.
     Io,
+    /// Memory ran out.
     NoMemory,
 }
 

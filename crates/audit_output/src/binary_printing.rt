@@ -21,9 +21,11 @@ use tame_names::{Sink, Text};
 /// What is printed of the audits of binaries, and how.
 #[derive(Clone, Copy)]
 pub struct BinarySheet<'a> {
+    /// What is denied, and how reports are shown.
     pub config: &'a OutputConfig,
     /// The path of the database.
     pub database: &'a str,
+    /// What audited the binaries.
     pub auditor: &'a Auditor,
     /// The paths of the binaries.
     pub paths: &'a [Text],

@@ -16,6 +16,7 @@ fn push_quoted(alloc: Global, out: &mut String, text: &str) -> Result<(), AllocE
     out.push_str(quoted.as_str())
 }
 
+/// Adds the word for a cause at the end of a text; an error only where memory runs out.
 pub fn push_cause(alloc: Global, out: &mut String, cause: Cause) -> Result<(), AllocError>
     ensures { OnOk result (string_bytes out.new ≡ string_bytes out.old ++ cause_word cause) }
 {

@@ -21,12 +21,15 @@ use tame_names::Sink;
 /// What is printed of the audit of a lockfile, and how.
 #[derive(Clone, Copy)]
 pub struct Sheet<'a> {
+    /// What is denied, and how the report is shown.
     pub config: &'a OutputConfig,
     /// The lockfile's path.
     pub place: &'a str,
     /// The path of the database.
     pub database: &'a str,
+    /// What audited the lockfile.
     pub auditor: &'a Auditor,
+    /// The audit that was made.
     pub audited: &'a Audited,
 }
 

@@ -1,5 +1,5 @@
 //! Putting texts.
-ghost use Rattle.std.specs.Prelude.{◌≡◌, ◌≤◌, ◌++◌, codes, Err, IfOk, IfErr, string_bytes};
+ghost use Rattle.std.specs.Prelude.{◌≡◌, ◌≤◌, ◌++◌, codes, [], Err, IfOk, IfErr, IsOk, string_bytes};
 ghost use Rattle.tame_names.specs.Counts.{CountRose};
 ghost use Rattle.audit_report.specs.Outputs.{IsPut};
 ghost use Rattle.audit_output.specs.Outputs.{IsPrintFault};
@@ -14,6 +14,7 @@ pub fn put_text<S: Sink>(sink: &mut S, text: &[u8]) -> Result<(), RunFault>
     ensures later { S.faults sink.old ≤ S.faults sink.new }
     ensures failed { IfErr result (λ _. CountRose (S.faults sink.old) (S.faults sink.new)) }
     ensures only { IfErr result IsPrintFault }
+    ensures nothing { text.now ≡ [] → IsOk result × (sink.new ≡ sink.old) }
 {
     if text.is_empty() {
         return Ok(());

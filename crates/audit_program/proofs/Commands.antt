@@ -34,6 +34,15 @@ pub if_none_then : {T : Type 0} (o : Option T) (P Q : Type 0) → (P → Q) → 
 if_none_then None P Q f h = f h
 if_none_then (Some x) P Q f h = tt
 
+-- where it is none, what is so of none
+pub if_none_by : {T : Type 0} (o : Option T) (P : Type 0) → (o ≡ None → P) → IfNone o P
+if_none_by None P f = f refl
+if_none_by (Some x) P f = tt
+
+pub of_none : {T : Type 0} (o : Option T) (P : Type 0) → o ≡ None → IfNone o P → P
+of_none None P none h = h
+of_none (Some x) P none h = cc
+
 pub plain_put : (r s : Result Command WordsFault) (before now : List ℕ) (o : Option RunFault) → r ≡ s → IsPutBy before (plain_text s) o now → IsPutBy before (plain_text r) o now
 plain_put r s before now o is h =
     let P : Result Command WordsFault → Type 0 = λ x. IsPutBy before (plain_text x) o now in subst P (sym is) h
@@ -176,10 +185,3 @@ task_plain (Ok command.Help) task is = no_task task is
 task_plain (Ok command.Version) task is = no_task task is
 task_plain (Ok (command.Generate n)) task is = no_task task is
 task_plain (Err reason) task is = refl
-
-pub task_unaudited : {A B : Type 0} (a : Option A) (b : Option B) (r : Result Command WordsFault) (task : Task) (before now : List ℕ) (o : Option RunFault) → task_of r ≡ Some task
-    → IfNone a (IsPutBy before [] o now) → IfNone a (IfNone b (IsPutBy before (plain_text r) o now))
-task_unaudited (Some x) b r task before now o is h = tt
-task_unaudited None (Some y) r task before now o is h = tt
-task_unaudited None None r task before now o is h =
-    let P : List ℕ → Type 0 = λ x. IsPutBy before x o now in subst P (sym (task_plain r task is)) h

@@ -5,6 +5,7 @@ pub mod Ended
 pub mod Faults
 pub mod Finishing
 pub mod HeldItems
+pub mod Leaving
 pub mod Made
 pub mod Putting
 pub mod ReadSince

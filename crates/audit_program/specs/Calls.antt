@@ -15,7 +15,7 @@ use Rattle.audit_asked.specs.Starts.{AddsStart, StartsAtMost}
 use Rattle.audit_asked.specs.declared.faults.RunFault.{RunFault}
 use Rattle.audit_asked.specs.declared.faults.RunFault.TheVariants as fault
 use Rattle.audit_asked.specs.declared.runners.Started.{Started}
-use Rattle.tame_local.specs.Refusals.{IsCallFor}
+use Rattle.tame_local.specs.Calls.{IsCallFor}
 use Rattle.vendor_faults.specs.declared.faults.VendorFault.TheVariants as vendor_fault
 use Rattle.audit_program.specs.Tasks.{IsTaskCall, task_of}
 use Rattle.audit_program.specs.declared.tasks.Remedy.{Remedy}

@@ -1,5 +1,6 @@
 -- Why a run may answer a fault (this project).
-use Rattle.std.specs.Prelude.{◌≡◌, ◌≢◌, ◌⊎◌, ◌<◌, ℕ, pos, List, IsTrue, Some, Ok, Err}
+use Rattle.std.specs.Prelude.{◌≡◌, ◌≢◌, ◌⊎◌, ◌<◌, ℕ, pos, List, IsTrue, Option, Some, Ok, Err, IfSome}
+use Rattle.tame_names.specs.Counts.{CountRose, CountRoseBy}
 use Rattle.tame_names.specs.Standing.{Host}
 use Rattle.audit_lock.specs.Locked.{locked}
 use Rattle.audit_lock.specs.declared.lockfiles.LockfileFault.{LockfileFault}
@@ -18,6 +19,8 @@ use Rattle.audit_asked.specs.Settings.{settled}
 use Rattle.audit_asked.specs.declared.asking.Asked.{Asked}
 use Rattle.audit_asked.specs.declared.faults.RunFault.{RunFault}
 use Rattle.audit_asked.specs.declared.faults.RunFault.TheVariants as fault
+use Rattle.vendor_faults.specs.declared.faults.VendorFault.TheVariants as vendor_fault
+use Rattle.audit_program.specs.Completes.{FaultCounts}
 use Rattle.audit_program.specs.Makings.{IsMakingFault}
 use Rattle.audit_program.specs.Tasks.{baseline_path, options_of, task_asked, task_of}
 use Rattle.audit_program.specs.declared.tasks.Task.{Task}
@@ -115,3 +118,20 @@ IsAskedFault task given (fault.Lockfile reason) =
 IsAskedFault task given (fault.Start failed) = 0 < failed
 IsAskedFault task given fault.Print = Unit {0}
 IsAskedFault task given reason = IsMakingFault task.remedy reason
+
+-- ---- the cause, and the counts that rose
+
+-- the fault has this cause; and the counts rose that it tells
+pub record HasCauses (Cause : RunFault → Type 0) (before now : FaultCounts)
+    (reason : Option RunFault) : Type 0 where
+  pub cause : IfSome reason Cause
+  pub print_rose : reason ≡ Some fault.Print
+      → CountRose before.out now.out ⊎ CountRose before.err now.err
+  pub file_rose : (path : List ℕ) → reason ≡ Some (fault.File path)
+      → CountRose before.files now.files
+  pub crate_rose : (path : List ℕ) → reason ≡ Some (fault.Vendor (vendor_fault.File path))
+      → CountRose before.files now.files
+  pub store_rose : (at : ℕ) → reason ≡ Some (fault.Vendor (vendor_fault.Store at))
+      → CountRose before.disk now.disk
+  pub start_rose : (failed : ℕ) → reason ≡ Some (fault.Start failed)
+      → CountRoseBy failed before.starts now.starts

@@ -1,5 +1,5 @@
 -- When a run has no fault but want of memory, or that a registry couldn't be made (this project).
-use Rattle.std.specs.Prelude.{◌≡◌, ◌⊎◌, ℕ, ℤ, List, Option, Some, None, Ok}
+use Rattle.std.specs.Prelude.{◌≡◌, ◌≤◌, ◌⊎◌, ℕ, ℤ, List, Option, Some, None, Ok}
 use Rattle.tame_names.specs.Counts.{CountStayed}
 use Rattle.tame_names.specs.Standing.{Host}
 use Rattle.audit_lock.specs.Locked.{locked}
@@ -42,19 +42,27 @@ abbrev pub IsReady : List (List ℕ) → Host → Type 0
 IsReady words host =
     IsTaskReady words host ⊎ (AreBinariesReady words host ⊎ IsMadeReady words)
 
--- how often the host's files, its starts of programs, and the two outputs have failed
+-- how often the host's files, its starts of programs, the disk, and the two outputs have failed
 pub record FaultCounts : Type 0 where
   pub files : ℕ
   pub starts : ℕ
+  pub disk : ℕ
   pub out : ℕ
   pub err : ℕ
 
--- none of them failed from one moment to another
+-- none of them but the disk failed from one moment to another
 pub record AllStayed (before now : FaultCounts) : Type 0 where
   pub files : CountStayed before.files now.files
   pub starts : CountStayed before.starts now.starts
   pub out : CountStayed before.out now.out
   pub err : CountStayed before.err now.err
+
+-- none of them but the disk's fell
+pub record CountsGrow (before now : FaultCounts) : Type 0 where
+  pub files : before.files ≤ now.files
+  pub starts : before.starts ≤ now.starts
+  pub out : before.out ≤ now.out
+  pub err : before.err ≤ now.err
 
 -- a run ended without a fault, for want of memory, or without the registry that it was to make
 abbrev pub IsComplete : Option RunFault → Type 0

@@ -6,10 +6,13 @@ pub mod Finishes
 pub mod GeneratedRuns
 pub mod HonestRuns
 pub mod Jobs
+pub mod Leaves
 pub mod Makings
 pub mod Moments
+pub mod Outcomes
 pub mod Outputs
 pub mod Runs
 pub mod Statuses
 pub mod Steps
 pub mod Tasks
+pub mod Unaudited

@@ -60,10 +60,10 @@ outside held folders failed file_faults decode_faults = record {
   decode_faults = decode_faults;
 }
 
--- how often the host's files, its starts of programs, and the two outputs have failed
-abbrev pub fault_counts : ℕ → ℕ → ℕ → ℕ → FaultCounts
-fault_counts files starts out err =
-    record { files = files; starts = starts; out = out; err = err }
+-- how often the host's files, its starts of programs, the disk, and the two outputs have failed
+abbrev pub fault_counts : ℕ → ℕ → ℕ → ℕ → ℕ → FaultCounts
+fault_counts files starts disk out err =
+    record { files = files; starts = starts; disk = disk; out = out; err = err }
 
 -- ---- between two moments
 

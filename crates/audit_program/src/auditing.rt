@@ -1,14 +1,14 @@
 //! The audit of what was asked for.
-ghost use Rattle.std.specs.Prelude.{◌≡◌, ◌≢◌, ◌≤◌, ℕ, List, Ok, Err, IfOk, IfErr};
+ghost use Rattle.std.specs.Prelude.{◌≡◌, ◌≤◌, List, Ok, Err, IfOk, IfErr};
 ghost use Rattle.audit_lock.specs.Locked.{locked};
 ghost use Rattle.audit_lock.specs.declared.lockfiles.LockfileFault.{LockfileFault};
 ghost use Rattle.audit_lock.specs.declared.resolving.Package.{Package};
 ghost use Rattle.audit_core.specs.Auditors.{IsReportOf};
-ghost use Rattle.audit_core.specs.Audits.{IsAuditOf, KeepsOthers, MakesAskedFolders};
+ghost use Rattle.audit_core.specs.Audits.{IsAuditOf};
 ghost use Rattle.audit_core.specs.Checks.{asked_of};
-ghost use Rattle.audit_core.specs.Turns.{AddsPart, StaysKept};
-ghost use Rattle.audit_core.specs.declared.checking.Checks.TheVariants as Checks;
+ghost use Rattle.audit_core.specs.Turns.{StaysKept};
 ghost use Rattle.audit_program.specs.Causes.{IsAuditFault};
+ghost use Rattle.audit_core.specs.Leaves.{AsksOnly, CallsBy, holding};
 ghost use Rattle.audit_program.specs.Moments.{moment};
 
 use audit_asked::RunFault;
@@ -40,20 +40,14 @@ pub fn audit<W: Wire, D: CacheDisk>(
         × (disk.new ≡ disk.old) }
     ensures kept { W.tells → D.tells → StaysKept (W.exchanges wire.old) (W.exchanges wire.new)
         (D.past disk.old) (D.past disk.new) }
-    ensures part { W.tells → (packages : List Package) → locked text.now ≡ Ok packages
-        → AddsPart (asked_of auditor.now.checks packages) (W.exchanges wire.old)
-        (W.exchanges wire.new) }
-    ensures others { D.tells → (packages : List Package) → locked text.now ≡ Ok packages
-        → KeepsOthers (asked_of auditor.now.checks packages) (D.past disk.old) (D.past disk.new) }
-    ensures folders { D.tells → (packages : List Package) → locked text.now ≡ Ok packages
-        → MakesAskedFolders (asked_of auditor.now.checks packages) (D.folders disk.old)
-        (D.folders disk.new) }
-    ensures unasked { auditor.now.checks ≢ Checks.Online → wire.new ≡ wire.old }
-    ensures unchanged { auditor.now.checks ≢ Checks.Online → D.tells → (q : List ℕ)
-        → D.past disk.new q ≡ D.past disk.old q }
-    ensures unmade { auditor.now.checks ≢ Checks.Online → D.tells
-        → D.folders disk.new ≡ D.folders disk.old }
-    ensures off { auditor.now.checks ≡ Checks.Off → disk.new ≡ disk.old }
+    ensures asks { (packages : List Package) → locked text.now ≡ Ok packages
+        → AsksOnly W.tells D.tells (asked_of auditor.now.checks packages)
+        (holding (W.exchanges wire.old) (D.past disk.old) (D.folders disk.old))
+        (holding (W.exchanges wire.new) (D.past disk.new) (D.folders disk.new)) }
+    ensures calls { CallsBy auditor.now.checks D.tells (wire.new ≡ wire.old)
+        (disk.new ≡ disk.old)
+        (holding (W.exchanges wire.old) (D.past disk.old) (D.folders disk.old))
+        (holding (W.exchanges wire.new) (D.past disk.new) (D.folders disk.new)) }
 {
     match auditor.audit_text(alloc, text, lock, wire, disk) {
         Ok(audited) => Ok(audited),

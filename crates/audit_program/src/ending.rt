@@ -28,6 +28,7 @@ pub struct Outcome {
     pub generated: Option<Generated>,
     /// The plan that was made of the audit, where one was asked for.
     pub plan: Option<Items<PlanItem>>,
+    /// Why the run failed; none where it didn't.
     pub fault: Option<RunFault>,
 }
 

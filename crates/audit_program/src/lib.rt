@@ -30,7 +30,7 @@ mod telling;
 
 pub use audit_asked::RunFault;
 pub use audit_words::{
-    BinCommand, Command, FixCommand, VERSION, VendorCommand, WordsFault, read_words,
+    BinCommand, CONFIG_FILE, Command, FixCommand, VERSION, VendorCommand, WordsFault, read_words,
 };
 pub use ending::Outcome;
 pub use laws::plans_of_runs_tell_what_the_server_held;

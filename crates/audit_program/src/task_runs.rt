@@ -8,20 +8,21 @@ ghost use Rattle.audit_lock.specs.declared.resolving.Package.{Package};
 ghost use Rattle.audit_settings.specs.declared.configs.AuditConfig.{AuditConfig};
 ghost use Rattle.audit_asked.specs.Places.{place_of};
 ghost use Rattle.audit_asked.specs.Settings.{settled};
-ghost use Rattle.audit_asked.specs.Starts.{StartsAtMost};
 ghost use Rattle.audit_asked.specs.declared.asking.Asked.{Asked};
-ghost use Rattle.audit_core.specs.Audits.{KeepsOthers, MakesAskedFolders};
 ghost use Rattle.audit_core.specs.Auditors.{auditor_of};
 ghost use Rattle.audit_core.specs.Checks.{asked_of, checks_of};
-ghost use Rattle.audit_core.specs.Turns.{AddsPart, StaysKept};
-ghost use Rattle.audit_core.specs.declared.checking.Checks.TheVariants as Checks;
-ghost use Rattle.audit_program.specs.Calls.{AddsMakingCalls, AddsRunCall, AddsTaskCalls, StartsWhere, task_generates};
-ghost use Rattle.audit_program.specs.Causes.{IsAskedFault, TaskCause};
-ghost use Rattle.audit_program.specs.Moments.{ending, hosts, moment, sinks, starts, telling};
-ghost use Rattle.audit_program.specs.Outputs.{IsEnded, IsPutBy};
+ghost use Rattle.audit_core.specs.Turns.{StaysKept};
+ghost use Rattle.audit_program.specs.Calls.{AddsMakingCalls, AddsRunCall, AddsTaskCalls, task_generates};
+ghost use Rattle.audit_program.specs.Causes.{HasCauses, IsAskedFault, TaskCause};
+ghost use Rattle.audit_program.specs.Completes.{CountsGrow};
+ghost use Rattle.audit_core.specs.Leaves.{AsksOnly, CallsBy, holding};
+ghost use Rattle.audit_program.specs.Moments.{ending, fault_counts, hosts, moment, sinks, starts, telling};
+ghost use Rattle.audit_program.specs.Outcomes.{HasAudit};
+ghost use Rattle.audit_program.specs.Outputs.{IsEnded};
 ghost use Rattle.audit_program.specs.Runs.{IsGivenRun, IsRunOf};
 ghost use Rattle.audit_program.specs.Statuses.{IsEarly, fault_status};
 ghost use Rattle.audit_program.specs.Tasks.{IsTaskCall, ReadsCache, WritesFiles, task_asked};
+ghost use Rattle.audit_program.specs.Unaudited.{IsUnaudited, IsUnmade};
 ghost use Rattle.vendor_faults.specs.declared.faults.VendorFault.{VendorFault};
 ghost use Rattle.vendor_faults.specs.declared.faults.VendorFault.TheVariants as VendorFault;
 
@@ -62,29 +63,23 @@ fn run_given<F: Files, R: Runner, W: Wire, D: CacheDisk, O: Sink, E: Sink>(
         (sinks (O.holds out.old) (O.holds out.new) (E.holds err.old) (E.holds err.new)
         (E.faults err.old) (E.faults err.new))
         (ending result.fault result.status) result.plan) }
-    ensures fault { IfSome result.fault (IsAskedFault task.now given) }
-    ensures rose { result.fault ≡ Some RunFault.Print
-        → CountRose (O.faults out.old) (O.faults out.new)
-        ⊎ CountRose (E.faults err.old) (E.faults err.new) }
-    ensures start_rose { (failed : ℕ) → result.fault ≡ Some (RunFault.Start failed)
-        → CountRoseBy failed (R.faults runner.old) (R.faults runner.new) }
-    ensures file_rose { (path : List ℕ) → result.fault ≡ Some (RunFault.File path)
-        → CountRose (F.faults files.old) (F.faults files.new) }
-    ensures crate_rose { (path : List ℕ)
-        → result.fault ≡ Some (RunFault.Vendor (VendorFault.File path))
-        → CountRose (F.faults files.old) (F.faults files.new) }
-    ensures store_rose { (at : ℕ) → result.fault ≡ Some (RunFault.Vendor (VendorFault.Store at))
-        → CountRose (D.faults disk.old) (D.faults disk.new) }
-    ensures has_audit { result.fault ≡ None → IsSome result.audited }
-    ensures print_audit { result.fault ≡ Some RunFault.Print → IsSome result.audited }
+    ensures has { HasAudit task.now.remedy result }
     ensures start_audit { (failed : ℕ) → result.fault ≡ Some (RunFault.Start failed)
-        → IsSome result.audited }
-    ensures vendor_audit { (reason : VendorFault) → result.fault ≡ Some (RunFault.Vendor reason)
         → IsSome result.audited }
     ensures file_audit { (path : List ℕ) → result.fault ≡ Some (RunFault.File path)
         → IsSome result.audited }
-    ensures no_audit { IfSome result.fault (λ f. IsEarly task.now.remedy f
-        → result.audited ≡ None) }
+    ensures status { (f : RunFault) → result.fault ≡ Some f → result.status ≡ fault_status f }
+    ensures causes { HasCauses (IsAskedFault task.now given)
+        (fault_counts (F.faults files.old) (R.faults runner.old) (D.faults disk.old)
+        (O.faults out.old) (E.faults err.old))
+        (fault_counts (F.faults files.new) (R.faults runner.new) (D.faults disk.new)
+        (O.faults out.new) (E.faults err.new))
+        result.fault }
+    ensures later { CountsGrow
+        (fault_counts (F.faults files.old) (R.faults runner.old) (D.faults disk.old)
+        (O.faults out.old) (E.faults err.old))
+        (fault_counts (F.faults files.new) (R.faults runner.new) (D.faults disk.new)
+        (O.faults out.new) (E.faults err.new)) }
     ensures failed { F.tells → AddsMakingCalls task.now.remedy (F.failed files.old)
         (F.failed files.new) result.fault }
     ensures unwritten { F.tells → (WritesFiles task.now.remedy → ⊥)
@@ -93,41 +88,25 @@ fn run_given<F: Files, R: Runner, W: Wire, D: CacheDisk, O: Sink, E: Sink>(
         (F.host files.new ≡ F.host files.old) }
     ensures unaudited_calls { F.tells → IfNone result.audited
         (F.failed files.new ≡ F.failed files.old) }
-    ensures files_later { F.faults files.old ≤ F.faults files.new }
     ensures unstarted { IfNone result.audited (runner.new ≡ runner.old) }
-    ensures binaries { result.binaries ≡ None }
-    ensures generated { result.generated ≡ None }
-    ensures no_plan { IfNone result.audited (result.plan ≡ None) }
-    ensures status { (f : RunFault) → result.fault ≡ Some f → result.status ≡ fault_status f }
     ensures unaudited_out { IfNone result.audited (out.new ≡ out.old) }
     ensures unaudited_err { E.tells → IfNone result.audited
         (IsEnded (place_of task.now.command.file)
         (E.holds err.old) [] result.fault (E.holds err.new) (E.faults err.old) (E.faults err.new)) }
-    ensures out_later { O.faults out.old ≤ O.faults out.new }
-    ensures err_later { E.faults err.old ≤ E.faults err.new }
-    ensures starts_later { R.faults runner.old ≤ R.faults runner.new }
     ensures early { IfNone result.audited (result.fault ≢ Some RunFault.NoMemory
         → (wire.new ≡ wire.old) × (disk.new ≡ disk.old)) }
     ensures refused { (f : LockfileFault) → locked given.text ≡ Err f
         → (wire.new ≡ wire.old) × (disk.new ≡ disk.old) }
     ensures kept { W.tells → D.tells → StaysKept (W.exchanges wire.old) (W.exchanges wire.new)
         (D.past disk.old) (D.past disk.new) }
-    ensures part { W.tells → (packages : List Package) → locked given.text ≡ Ok packages
-        → AddsPart (asked_of (checks_of given.config) packages)
-        (W.exchanges wire.old) (W.exchanges wire.new) }
-    ensures others { D.tells → (packages : List Package) → locked given.text ≡ Ok packages
-        → KeepsOthers (asked_of (checks_of given.config) packages)
-        (D.past disk.old) (D.past disk.new) }
-    ensures folders { D.tells → (packages : List Package) → locked given.text ≡ Ok packages
-        → MakesAskedFolders (asked_of (checks_of given.config) packages)
-        (D.folders disk.old) (D.folders disk.new) }
-    ensures unasked { checks_of given.config ≢ Checks.Online → wire.new ≡ wire.old }
-    ensures unchanged { checks_of given.config ≢ Checks.Online → D.tells
-        → (q : List ℕ) → D.past disk.new q ≡ D.past disk.old q }
-    ensures unmade { checks_of given.config ≢ Checks.Online → D.tells
-        → D.folders disk.new ≡ D.folders disk.old }
-    ensures off { (ReadsCache task.now.remedy → ⊥) → checks_of given.config ≡ Checks.Off
-        → disk.new ≡ disk.old }
+    ensures asks { (packages : List Package) → locked given.text ≡ Ok packages
+        → AsksOnly W.tells D.tells (asked_of (checks_of given.config) packages)
+        (holding (W.exchanges wire.old) (D.past disk.old) (D.folders disk.old))
+        (holding (W.exchanges wire.new) (D.past disk.new) (D.folders disk.new)) }
+    ensures calls { CallsBy (checks_of given.config) D.tells (wire.new ≡ wire.old)
+        ((ReadsCache task.now.remedy → ⊥) → disk.new ≡ disk.old)
+        (holding (W.exchanges wire.old) (D.past disk.old) (D.folders disk.old))
+        (holding (W.exchanges wire.new) (D.past disk.new) (D.folders disk.new)) }
 {
     let Asked {
         config,
@@ -193,54 +172,33 @@ pub fn run_task<F: Files, R: Runner, W: Wire, D: CacheDisk, O: Sink, E: Sink>(
         (sinks (O.holds out.old) (O.holds out.new) (E.holds err.old) (E.holds err.new)
         (E.faults err.old) (E.faults err.new))
         (ending result.fault result.status) result.plan) }
-    ensures has_audit { (result.fault ≡ None) ⊎ (result.fault ≡ Some RunFault.Print)
-        → IsSome result.audited }
-    ensures vendor_audit { (reason : VendorFault) → result.fault ≡ Some (RunFault.Vendor reason)
-        → IsSome result.audited }
-    ensures no_audit { IfSome result.fault (λ f. IsEarly task.now.remedy f
-        → result.audited ≡ None) }
-    ensures binaries { result.binaries ≡ None }
-    ensures generated { result.generated ≡ None }
-    ensures no_plan { IfNone result.audited (result.plan ≡ None) }
+    ensures has { HasAudit task.now.remedy result }
     ensures status { (f : RunFault) → result.fault ≡ Some f → result.status ≡ fault_status f }
-    ensures unaudited_out { O.tells → IfNone result.audited
-        (IsPutBy (O.holds out.old) [] result.fault (O.holds out.new)) }
-    ensures unaudited_err { E.tells → IfNone result.audited
-        (IsEnded (place_of task.now.command.file)
-        (E.holds err.old) [] result.fault (E.holds err.new) (E.faults err.old) (E.faults err.new)) }
-    ensures cause { IfSome result.fault (TaskCause F.tells task.now (F.host files.old)) }
-    ensures rose { result.fault ≡ Some RunFault.Print
-        → CountRose (O.faults out.old) (O.faults out.new)
-        ⊎ CountRose (E.faults err.old) (E.faults err.new) }
-    ensures file_rose { (path : List ℕ) → result.fault ≡ Some (RunFault.File path)
-        → CountRose (F.faults files.old) (F.faults files.new) }
-    ensures crate_rose { (path : List ℕ)
-        → result.fault ≡ Some (RunFault.Vendor (VendorFault.File path))
-        → CountRose (F.faults files.old) (F.faults files.new) }
-    ensures store_rose { (at : ℕ) → result.fault ≡ Some (RunFault.Vendor (VendorFault.Store at))
-        → CountRose (D.faults disk.old) (D.faults disk.new) }
-    ensures start_rose { (failed : ℕ) → result.fault ≡ Some (RunFault.Start failed)
-        → CountRoseBy failed (R.faults runner.old) (R.faults runner.new) }
-    ensures one_start { (failed : ℕ) → result.fault ≡ Some (RunFault.Start failed)
-        → IfNone result.audited (failed ≡ 1) }
+    ensures causes { HasCauses (TaskCause F.tells task.now (F.host files.old))
+        (fault_counts (F.faults files.old) (R.faults runner.old) (D.faults disk.old)
+        (O.faults out.old) (E.faults err.old))
+        (fault_counts (F.faults files.new) (R.faults runner.new) (D.faults disk.new)
+        (O.faults out.new) (E.faults err.new))
+        result.fault }
+    ensures unaudited { IfNone result.audited (IsUnaudited
+        (telling F.tells R.tells W.tells D.tells O.tells E.tells)
+        (place_of task.now.command.file) (task_generates task.now (F.host files.old))
+        (hosts (F.host files.old) (F.host files.new))
+        (starts (R.starts runner.old) (R.starts runner.new)) result.fault) }
+    ensures unmade { IfNone result.audited (IsUnmade
+        (telling F.tells R.tells W.tells D.tells O.tells E.tells)
+        [] (place_of task.now.command.file) ((wire.new ≡ wire.old) × (disk.new ≡ disk.old))
+        (sinks (O.holds out.old) (O.holds out.new) (E.holds err.old) (E.holds err.new)
+        (E.faults err.old) (E.faults err.new))
+        result.fault) }
     ensures failed { F.tells → AddsTaskCalls task.now (F.host files.old)
         (F.failed files.old) (F.failed files.new) result.fault }
     ensures unaudited_failed { F.tells → IfNone result.audited
         (AddsRunCall (IsTaskCall task.now (F.host files.old))
         (F.failed files.old) (F.failed files.new) result.fault) }
-    ensures started { F.tells → R.tells → IfNone result.audited (StartsWhere
-        (task_generates task.now (F.host files.old))
-        (R.starts runner.old) (R.starts runner.new) result.fault) }
-    ensures at_most { R.tells → IfNone result.audited
-        (StartsAtMost (R.starts runner.old) (R.starts runner.new)) }
     ensures files_same { F.tells → (WritesFiles task.now.remedy → ⊥)
         → StaysButInput (IsInput (place_of task.now.command.file))
         (F.host files.old) (F.host files.new) }
-    ensures unaudited_files { F.tells → IfNone result.audited
-        (StaysButInput (IsInput (place_of task.now.command.file))
-        (F.host files.old) (F.host files.new)) }
-    ensures early { IfNone result.audited (result.fault ≢ Some RunFault.NoMemory
-        → (wire.new ≡ wire.old) × (disk.new ≡ disk.old)) }
     // where what the host has gives no lockfile, nothing is asked of the wire and the cache,
     // however the run ends
     ensures unaccepted { F.tells → ((given : Asked) (packages : List Package)
@@ -249,35 +207,18 @@ pub fn run_task<F: Files, R: Runner, W: Wire, D: CacheDisk, O: Sink, E: Sink>(
         → (wire.new ≡ wire.old) × (disk.new ≡ disk.old) }
     ensures kept { W.tells → D.tells → StaysKept (W.exchanges wire.old) (W.exchanges wire.new)
         (D.past disk.old) (D.past disk.new) }
-    ensures part { F.tells → W.tells → (given : Asked) (packages : List Package)
+    ensures asks { F.tells → (given : Asked) (packages : List Package)
         → task_asked task.now (F.host files.old) (pos 0) ≡ Ok given
         → locked given.text ≡ Ok packages
-        → AddsPart (asked_of (checks_of given.config) packages)
-        (W.exchanges wire.old) (W.exchanges wire.new) }
-    ensures others { F.tells → D.tells → (given : Asked) (packages : List Package)
-        → task_asked task.now (F.host files.old) (pos 0) ≡ Ok given
-        → locked given.text ≡ Ok packages
-        → KeepsOthers (asked_of (checks_of given.config) packages)
-        (D.past disk.old) (D.past disk.new) }
-    ensures folders { F.tells → D.tells → (given : Asked) (packages : List Package)
-        → task_asked task.now (F.host files.old) (pos 0) ≡ Ok given
-        → locked given.text ≡ Ok packages
-        → MakesAskedFolders (asked_of (checks_of given.config) packages)
-        (D.folders disk.old) (D.folders disk.new) }
-    ensures unasked { F.tells → (config : AuditConfig)
+        → AsksOnly W.tells D.tells (asked_of (checks_of given.config) packages)
+        (holding (W.exchanges wire.old) (D.past disk.old) (D.folders disk.old))
+        (holding (W.exchanges wire.new) (D.past disk.new) (D.folders disk.new)) }
+    ensures calls { F.tells → (config : AuditConfig)
         → settled task.now.command (F.host files.old) ≡ Ok config
-        → checks_of config ≢ Checks.Online → wire.new ≡ wire.old }
-    ensures unchanged { F.tells → D.tells → (config : AuditConfig)
-        → settled task.now.command (F.host files.old) ≡ Ok config
-        → checks_of config ≢ Checks.Online
-        → (q : List ℕ) → D.past disk.new q ≡ D.past disk.old q }
-    ensures unmade { F.tells → D.tells → (config : AuditConfig)
-        → settled task.now.command (F.host files.old) ≡ Ok config
-        → checks_of config ≢ Checks.Online → D.folders disk.new ≡ D.folders disk.old }
-    ensures off { F.tells → (config : AuditConfig)
-        → settled task.now.command (F.host files.old) ≡ Ok config
-        → (ReadsCache task.now.remedy → ⊥) → checks_of config ≡ Checks.Off
-        → disk.new ≡ disk.old }
+        → CallsBy (checks_of config) D.tells (wire.new ≡ wire.old)
+        ((ReadsCache task.now.remedy → ⊥) → disk.new ≡ disk.old)
+        (holding (W.exchanges wire.old) (D.past disk.old) (D.folders disk.old))
+        (holding (W.exchanges wire.new) (D.past disk.new) (D.folders disk.new)) }
 {
     match ask(alloc, &task.command, task.baseline(), files, runner) {
         Ok(given) => run_given(

@@ -33,7 +33,9 @@ pub enum Remedy {
 /// An audit of a lockfile.
 #[derive(Debug, Drop)]
 pub struct Task {
+    /// The options of `audit`.
     pub command: AuditCommand,
+    /// What is done with the audit.
     pub remedy: Remedy,
 }
 

@@ -7,5 +7,6 @@ pub enum Found {
     Complete,
     /// Some of them.
     Incomplete,
+    /// None of them.
     Nothing,
 }

@@ -17,8 +17,11 @@ use tame_names::NoMemory;
 /// What the blocks of a report are made from.
 #[derive(Clone, Copy)]
 pub struct Findings<'a> {
+    /// The advisories of the database, by the places that a report names.
     pub advisories: &'a [Advisory],
+    /// The lockfile of the packages that a report names.
     pub lockfile: &'a Lockfile,
+    /// The parents of each package of the lockfile.
     pub tree: &'a Tree,
     /// The symbols of a binary, where they are set.
     pub symbols: &'a Option<SymbolSet>,
@@ -31,7 +34,9 @@ pub struct Findings<'a> {
 /// A text with the trees that it shows.
 #[derive(Drop)]
 pub struct Sheet {
+    /// The text.
     pub page: Page,
+    /// The trees that it shows and that were not shown before.
     pub added: Trees,
 }
 

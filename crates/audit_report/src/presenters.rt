@@ -33,7 +33,7 @@ use std::alloc::Global;
 use tame_names::{Items, NoMemory, Sink};
 
 /// Prints reports. Over its life it shows each package's tree once.
-#[derive(Drop)]
+#[derive(Debug, Drop)]
 pub struct Presenter {
     config: OutputConfig,
     /// The trees that it has shown.

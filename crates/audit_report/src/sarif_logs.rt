@@ -36,33 +36,41 @@ pub enum Precision {
 }
 
 /// A text, and the same in Markdown where it has such a form.
-#[derive(Drop)]
+#[derive(Debug, Drop)]
 pub struct MultiformatMessageString {
+    /// The plain text.
     pub text: Text,
+    /// The same in Markdown, where it has such a form.
     pub markdown: Option<Text>,
 }
 
 /// What results are measured against: an advisory, or a kind of warning.
-#[derive(Drop)]
+#[derive(Debug, Drop)]
 pub struct Rule {
     /// The advisory's id, or the word of the kind. It is the rule's name too.
     pub id: Text,
+    /// The advisory's title, or what the kind of warning means.
     pub short_description: MultiformatMessageString,
     /// None for an empty description.
     pub full_description: Option<MultiformatMessageString>,
+    /// The level of its results.
     pub level: Level,
     /// Where more is said, if the advisory states it.
     pub help: Option<MultiformatMessageString>,
+    /// How sure its results are.
     pub precision: Precision,
     /// The score, 0.0 to 10.0, if the advisory states one.
     pub security_severity: Option<Text>,
 }
 
 /// A package that a rule tells something of.
-#[derive(Drop)]
+#[derive(Debug, Drop)]
 pub struct SarifResult {
+    /// The id of the rule.
     pub rule_id: Text,
+    /// What is told of the package.
     pub message: Text,
+    /// The level of this result.
     pub level: Level,
     /// Where the package is named: the lockfile, or a binary's path.
     pub uri: Text,
@@ -71,7 +79,7 @@ pub struct SarifResult {
 }
 
 /// What one audit tells.
-#[derive(Drop)]
+#[derive(Debug, Drop)]
 pub struct Run {
     /// Of each id that a result names one rule, in the order of first use.
     pub rules: Items<Rule>,
@@ -80,8 +88,9 @@ pub struct Run {
 }
 
 /// A report as a log of one run.
-#[derive(Drop)]
+#[derive(Debug, Drop)]
 pub struct SarifLog {
+    /// The run.
     pub run: Run,
 }
 

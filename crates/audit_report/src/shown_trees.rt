@@ -9,7 +9,7 @@ use std::marker::Model;
 use tame_names::{NoMemory, Text};
 
 /// A package whose tree was shown.
-#[derive(Drop)]
+#[derive(Debug, Drop)]
 pub struct ShownTree {
     name: Text,
     version: Text,
@@ -39,7 +39,7 @@ impl ShownTree {
 }
 
 /// The trees that were shown, in their order. Contracts see the list of them.
-#[derive(Drop)]
+#[derive(Debug, Drop)]
 pub struct Trees {
     shown: Vec<ShownTree>,
 }

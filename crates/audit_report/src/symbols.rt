@@ -91,7 +91,7 @@ fn names(wanted: &[Text], symbol: &[Text]) -> bool
 }
 
 /// The symbols of a binary, each by its segments. Contracts see the list of them.
-#[derive(Drop)]
+#[derive(Debug, Drop)]
 pub struct SymbolSet {
     paths: Items<FunctionPath>,
 }

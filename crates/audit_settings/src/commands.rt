@@ -9,9 +9,12 @@ use tame_names::{Items, Text};
 /// When the output would be coloured. Read, and not used.
 #[derive(Clone, Copy, Debug, Default, PartialEq, Eq)]
 pub enum Color {
+    /// At all times.
     Always,
+    /// Where the output is a terminal.
     #[default]
     Auto,
+    /// At no time.
     Never,
 }
 
@@ -19,22 +22,33 @@ pub enum Color {
 /// false. `color`, `stale` and `url` have no effect.
 #[derive(Debug, Drop, PartialEq, Eq)]
 pub struct AuditCommand {
+    /// When the output would be coloured.
     pub color: Option<Color>,
     /// The folder of the advisories.
     pub db: Option<Text>,
+    /// What makes the audit fail besides vulnerabilities.
     pub deny: Items<DenyOption>,
     /// The lockfile; `-` is standard input.
     pub file: Option<Text>,
     /// The ids of advisories that are left out.
     pub ignore: Items<Text>,
+    /// No check for yanked versions.
     pub no_yanked: bool,
+    /// The index isn't asked.
     pub no_fetch: bool,
+    /// Read, and not used.
     pub stale: bool,
+    /// The architectures that count.
     pub target_arch: Items<Text>,
+    /// The systems that count.
     pub target_os: Items<Text>,
+    /// Read, and not used.
     pub url: Option<Text>,
+    /// No status lines, and no trees.
     pub quiet: bool,
+    /// How the report is shown.
     pub output_format: Option<OutputFormat>,
+    /// The report is shown as JSON, whatever `output_format` says.
     pub output_json: bool,
     /// Print only whether each package is yanked.
     pub verdicts: bool,

@@ -1,6 +1,6 @@
 //! The settings, and why a text gives none.
 ghost use Rattle.std.specs.Prelude.{◌≡◌, Ok};
-ghost use Rattle.audit_settings.specs.Defaults.{default_settings};
+ghost use Rattle.audit_settings.specs.Defaults.{default_database, default_settings, default_target, default_yanked};
 
 use audit_advisory::{Informational, OutputConfig, OutputFormat, Severity};
 use std::alloc::Global;
@@ -12,7 +12,9 @@ pub const CONFIG_FILE: &str = "audit.toml";
 /// The architectures or the systems that count.
 #[derive(Debug, Drop, PartialEq, Eq)]
 pub enum FilterList {
+    /// This one.
     Single(Text),
+    /// Each of these.
     Many(Items<Text>),
 }
 
@@ -30,6 +32,7 @@ pub struct AdvisoryConfig {
 /// Where the advisories come from.
 #[derive(Debug, Drop, PartialEq, Eq)]
 pub struct DatabaseConfig {
+    /// The folder of the advisories, where it is stated.
     pub path: Option<Text>,
     /// Read, and not used.
     pub url: Option<Text>,
@@ -42,13 +45,16 @@ pub struct DatabaseConfig {
 /// The targets that count; all, where nothing is stated.
 #[derive(Debug, Drop, PartialEq, Eq)]
 pub struct TargetConfig {
+    /// The architectures.
     pub arch: Option<FilterList>,
+    /// The systems.
     pub os: Option<FilterList>,
 }
 
 /// The check for yanked versions.
 #[derive(Debug, Drop, PartialEq, Eq)]
 pub struct YankedConfig {
+    /// Whether it is made.
     pub enabled: bool,
     /// Whether the index is asked, and not only what the cache has of it.
     pub update_index: bool,
@@ -57,10 +63,15 @@ pub struct YankedConfig {
 /// The settings of an audit.
 #[derive(Debug, Drop, PartialEq, Eq)]
 pub struct AuditConfig {
+    /// What of the advisories counts.
     pub advisories: AdvisoryConfig,
+    /// Where the advisories come from.
     pub database: DatabaseConfig,
+    /// What is denied, and how a report is shown.
     pub output: OutputConfig,
+    /// The targets that count.
     pub target: TargetConfig,
+    /// The check for yanked versions.
     pub yanked: YankedConfig,
 }
 
@@ -78,6 +89,7 @@ pub enum SettingsFault {
     Missing { key: &'static str },
     /// A key with a value of another form, as `table.key`, or a table that is none.
     Value { key: &'static str },
+    /// Memory ran out.
     NoMemory,
 }
 
@@ -88,6 +100,44 @@ impl From<NoMemory> for SettingsFault {
 
     fn from(_: NoMemory) -> SettingsFault {
         SettingsFault::NoMemory
+    }
+}
+
+/// Where nothing is stated.
+impl Default for DatabaseConfig {
+    ghost is_default = { λ config. config ≡ default_database };
+
+    fn default() -> DatabaseConfig {
+        DatabaseConfig {
+            path: None,
+            url: None,
+            fetch: true,
+            stale: false,
+        }
+    }
+}
+
+/// All targets.
+impl Default for TargetConfig {
+    ghost is_default = { λ config. config ≡ default_target };
+
+    fn default() -> TargetConfig {
+        TargetConfig {
+            arch: None,
+            os: None,
+        }
+    }
+}
+
+/// The check is made, and the index asked.
+impl Default for YankedConfig {
+    ghost is_default = { λ config. config ≡ default_yanked };
+
+    fn default() -> YankedConfig {
+        YankedConfig {
+            enabled: true,
+            update_index: true,
+        }
     }
 }
 
@@ -102,26 +152,15 @@ impl AuditConfig {
                 informational_warnings: None,
                 severity_threshold: None,
             },
-            database: DatabaseConfig {
-                path: None,
-                url: None,
-                fetch: true,
-                stale: false,
-            },
+            database: DatabaseConfig::default(),
             output: OutputConfig {
                 deny: Items::new(alloc),
                 format: OutputFormat::Terminal,
                 quiet: false,
                 show_tree: true,
             },
-            target: TargetConfig {
-                arch: None,
-                os: None,
-            },
-            yanked: YankedConfig {
-                enabled: true,
-                update_index: true,
-            },
+            target: TargetConfig::default(),
+            yanked: YankedConfig::default(),
         })
     }
 }

@@ -45,7 +45,7 @@ pub fn optional_format(member: Option<&Value>) -> Option<Option<OutputFormat>>
 {
     match optional_text(member)? {
         None => Some(None),
-        Some(text) => Some(Some(OutputFormat::from_str(text)?)),
+        Some(text) => Some(Some(OutputFormat::from_word(text)?)),
     }
 }
 
@@ -82,7 +82,7 @@ fn deny_options_in(alloc: Global, texts: &[Text]) -> Result<Option<Items<DenyOpt
 {
     let mut options = Items::new(alloc);
     for text in texts {
-        let Some(option) = DenyOption::from_str(text.as_str()) else {
+        let Some(option) = DenyOption::from_word(text.as_str()) else {
             return Ok(None);
         };
         options.add(option)?;

@@ -6,10 +6,15 @@ ghost use Rattle.audit_settings.specs.Keys as spec;
 /// A table of the settings.
 #[derive(Clone, Copy, Debug, PartialEq, Eq)]
 pub enum Section {
+    /// `[advisories]`.
     Advisories,
+    /// `[database]`.
     Database,
+    /// `[output]`.
     Output,
+    /// `[target]`.
     Target,
+    /// `[yanked]`.
     Yanked,
 }
 

@@ -2,6 +2,7 @@
 use Rattle.std.proofs.Common.{◌≡◌, ℕ, ◌||◌, ◌&&◌, List, [], ◌∷◌, ◌++◌, Bool, true, false, not, cond, Option, Some, None, is_some, option_map, Result, Ok, Err, codes, refl, sym, ap, subst, ◌∙◌, bytes_eq}
 use Rattle.audit_advisory.specs.Outputs.{deny_option_of, output_format_of}
 use Rattle.audit_settings.specs.declared.commands.AuditCommand.{AuditCommand}
+use Rattle.tame_names.specs.Paths.{plain_path}
 use Rattle.audit_words.specs.Options.{by_letter, by_long, is_flag, options}
 use Rattle.audit_words.specs.Values.{after, color_of, is_empty, is_makeable, joined_value, name_part, number, packages_of, unless_empty, without_equals}
 use Rattle.audit_words.specs.Reading.{add_listed, allowed, alone, and_then, audit_command, begun, begun_generate, command_of, ended, finish, finish_awaited, finish_phase, has_baseline, has_flag, has_options, is_bare, is_option, long_given, or_wrong, read_awaited, read_dashed, read_fresh, read_letters, read_long, read_option, read_plain, read_word, repeats, replaces_report, set_flag, set_single, set_value, start, unless_ended, vendor_command, with_folder, with_path}
@@ -193,8 +194,8 @@ command_still word d e s h =
     (begun_still (is_bare d.audit) d e s) (refused (Still e) stop.Wrong e)))))) h
 
 folder_still : (crates to : Option (List ℕ)) (word : List ℕ) (d e : Draft) → Still d → with_folder crates to word d ≡ Ok e → Still e
-folder_still None to word d e s h = made (record d { vendor_crates = Some word }) e h s
-folder_still (Some crates) None word d e s h = option_still (unless_empty word) (λ to. record d { vendor_to = Some to }) e (λ to. s) h
+folder_still None to word d e s h = made (record d { vendor_crates = Some (plain_path word) }) e h s
+folder_still (Some crates) None word d e s h = option_still (unless_empty word) (λ to. record d { vendor_to = Some (plain_path to) }) e (λ to. s) h
 folder_still (Some crates) (Some to) word d e s h = cc
 
 plain_still : (p : Phase) (word : List ℕ) (d e : Draft) → Still d → read_plain p word d ≡ Ok e → Still e

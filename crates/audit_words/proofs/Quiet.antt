@@ -1,6 +1,7 @@
 -- A reading that ends without quiet is the same reading from a quiet draft.
 use Rattle.std.proofs.Common.{◌≡◌, ℕ, ◌&&◌, List, [], ◌∷◌, ◌++◌, Bool, true, false, cond, Option, Some, None, option_map, Result, Ok, Err, codes, refl, sym, ap, subst, ◌∙◌, bytes_eq}
 use Rattle.audit_advisory.specs.Outputs.{deny_option_of, output_format_of}
+use Rattle.tame_names.specs.Paths.{plain_path}
 use Rattle.audit_words.specs.Values.{after, color_of, is_empty, is_makeable, number, packages_of, unless_empty}
 use Rattle.audit_words.specs.Reading.{add_listed, and_then, audit_command, begun, begun_generate, command_of, ended, finish, finish_awaited, finish_phase, has_baseline, has_options, is_bare, is_option, or_wrong, read_awaited, read_fresh, read_option, read_plain, read_word, set_single, set_value, start, unless_ended, vendor_command, with_folder, with_path}
 use Rattle.audit_words.specs.Laws.{drafted, quieted, was_quiet}
@@ -117,9 +118,9 @@ well_begun word d none =
 
 -- the folders are those of the quiet draft too
 well_folder : (crates to : Option (List ℕ)) (word : List ℕ) (d : Draft) → generates d.phase ≡ false → KeepsWell (with_folder crates to word) d
-well_folder None to word d none = well_made (λ d. record d { vendor_crates = Some word }) d none refl refl
+well_folder None to word d none = well_made (λ d. record d { vendor_crates = Some (plain_path word) }) d none refl refl
 well_folder (Some crates) None [] d none = well_err stop.Wrong d
-well_folder (Some crates) None (b ∷ bs) d none = well_made (λ d. record d { vendor_to = Some (b ∷ bs) }) d none refl refl
+well_folder (Some crates) None (b ∷ bs) d none = well_made (λ d. record d { vendor_to = Some (plain_path (b ∷ bs)) }) d none refl refl
 well_folder (Some crates) (Some to) word d none = well_err stop.Wrong d
 
 well_plain : (p : Phase) (word : List ℕ) (d : Draft) → generates d.phase ≡ generates p → KeepsWell (read_plain p word) d

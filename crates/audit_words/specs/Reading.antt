@@ -1,5 +1,6 @@
 -- What a list of words means: they are read from the front into a draft of the command.
 use Rattle.std.specs.Prelude.{◌≡◌, ◌≢◌, ℕ, suc, ◌-◌, codes, List, [], ◌∷◌, ◌++◌, Bool, true, false, not, ◌&&◌, ◌||◌, bytes_eq, Option, Some, None, is_none, is_some, option_map, Result, Ok, Err, IfErr, if◌then◌else◌}
+use Rattle.tame_names.specs.Paths.{plain_path}
 use Rattle.audit_advisory.specs.Outputs.{deny_option_of, output_format_of}
 use Rattle.audit_settings.specs.Commands.{no_option}
 use Rattle.audit_settings.specs.declared.commands.AuditCommand.{AuditCommand}
@@ -222,11 +223,11 @@ begun word d =
     else Err stop.Wrong
 
 -- the next folder of `vendor`, where these were met: first that of the crate files, then that of
--- the registry, which isn't the empty text
+-- the registry, which isn't the empty text; the slashes at their ends don't count
 abbrev pub with_folder : Option (List ℕ) → Option (List ℕ) → List ℕ → Draft → Result Draft Stop
-with_folder None to word d = Ok (record d { vendor_crates = Some word })
+with_folder None to word d = Ok (record d { vendor_crates = Some (plain_path word) })
 with_folder (Some crates) None word d =
-    or_wrong (option_map (λ to. record d { vendor_to = Some to }) (unless_empty word))
+    or_wrong (option_map (λ to. record d { vendor_to = Some (plain_path to) }) (unless_empty word))
 with_folder (Some crates) (Some to) word d = Err stop.Wrong
 
 -- a word that is no option

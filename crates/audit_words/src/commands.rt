@@ -39,9 +39,9 @@ pub struct BinCommand {
 /// The folders of `vendor`.
 #[derive(Debug, Drop, PartialEq, Eq)]
 pub struct VendorCommand {
-    /// The folder of the crate files.
+    /// The folder of the crate files, without slashes at its end but for `/` itself.
     pub crates: Text,
-    /// The folder of the registry that is made.
+    /// The folder of the registry that is made, likewise.
     pub to: Text,
 }
 
@@ -76,5 +76,6 @@ pub enum WordsFault {
     /// The place of the first word that breaks a rule, from 0. A missing value has the place of
     /// its option, a missing `audit` or path the number of words.
     Usage { place: usize },
+    /// Memory ran out.
     NoMemory,
 }

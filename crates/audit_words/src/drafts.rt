@@ -15,12 +15,15 @@ use tame_names::{Items, NoMemory, Text};
 /// What ends the reading before the words do.
 #[derive(Clone, Copy, Debug, PartialEq, Eq)]
 pub enum Stop {
+    /// The text for help is asked for.
     Help,
+    /// The version is asked for.
     Version,
     /// The word breaks a rule, or the words end too early.
     Wrong,
     /// The option before has no value.
     Missing,
+    /// Memory ran out.
     NoMemory,
 }
 
@@ -37,18 +40,25 @@ impl From<NoMemory> for Stop {
 /// What the words so far say.
 #[derive(Debug, Drop)]
 pub struct Draft {
+    /// The part of the words that is being read.
     pub phase: Phase,
+    /// The option that the next word is the value of, if there is one.
     pub awaited: Option<Meaning>,
+    /// Whether `--verbose` was given.
     pub verbose: bool,
+    /// The options of `audit` so far.
     pub audit: AuditCommand,
     /// The path of `--baseline`.
     pub baseline: Option<Text>,
     /// The path of `--write-baseline`.
     pub write_baseline: Option<Text>,
+    /// The options of `fix` so far.
     pub fix: FixCommand,
+    /// The options and the paths of `bin` so far.
     pub bin: BinCommand,
     /// The folders of `vendor`, as far as they are read.
     pub vendor_crates: Option<Text>,
+    /// The second of these folders.
     pub vendor_to: Option<Text>,
 }
 
@@ -156,7 +166,7 @@ impl Draft {
             Single::Db => self.audit.db = Some(Text::of(alloc, value)?),
             Single::File => self.audit.file = Some(Text::of(alloc, value)?),
             Single::Url => self.audit.url = Some(Text::of(alloc, value)?),
-            Single::Format => self.audit.output_format = Some(OutputFormat::from_str(value).ok_or(
+            Single::Format => self.audit.output_format = Some(OutputFormat::from_word(value).ok_or(
                 Stop::Wrong,
             )?),
             Single::Baseline => self.baseline = Some(Text::of(alloc, value)?),
@@ -195,7 +205,7 @@ impl Draft {
         if let Listed::Deny = listed {
             self.audit
                 .deny
-                .add(DenyOption::from_str(value).ok_or(Stop::Wrong)?)?;
+                .add(DenyOption::from_word(value).ok_or(Stop::Wrong)?)?;
             return Ok(());
         }
         let text = Text::of(alloc, unless_empty(value).ok_or(Stop::Wrong)?)?;

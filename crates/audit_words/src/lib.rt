@@ -22,6 +22,7 @@ mod values;
 mod words;
 
 pub use audit_advisory::VERSION;
+pub use audit_settings::CONFIG_FILE;
 pub use commands::{BinCommand, Command, FixCommand, VendorCommand, WordsFault};
 pub use laws::{
     baselines_stand_alone, either_order, generated_packages_are_bounded, numbers_are_decimal,

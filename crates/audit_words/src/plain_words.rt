@@ -8,7 +8,7 @@ use crate::options::Phase;
 use crate::values::{packages_of, unless_empty};
 use audit_settings::AuditCommand;
 use std::alloc::Global;
-use tame_names::Text;
+use tame_names::{Text, plain_path};
 
 /// Whether no option of `audit` was given.
 fn is_bare(audit: &AuditCommand) -> bool
@@ -64,7 +64,7 @@ impl Draft {
         Ok(())
     }
 
-    /// The next folder of `vendor`; that of the registry has a name.
+    /// The next folder of `vendor`, without slashes at its end; that of the registry has a name.
     fn add_folder(&mut self, alloc: Global, word: &str) -> Result<(), Stop>
         ensures ok { OnOk result (with_folder self.old.vendor_crates self.old.vendor_to
             word.now self.old ≡ Ok self.new) }
@@ -72,10 +72,10 @@ impl Draft {
             word.now self.old) }
     {
         match (self.vendor_crates.is_some(), self.vendor_to.is_some()) {
-            (false, _) => self.vendor_crates = Some(Text::of(alloc, word)?),
+            (false, _) => self.vendor_crates = Some(Text::of(alloc, plain_path(word))?),
             (true, false) => {
                 let to = unless_empty(word).ok_or(Stop::Wrong)?;
-                self.vendor_to = Some(Text::of(alloc, to)?);
+                self.vendor_to = Some(Text::of(alloc, plain_path(to))?);
             }
             (true, true) => return Err(Stop::Wrong),
         }

@@ -30,6 +30,9 @@ pub fn accepted()
         (codes "audit" ∷ codes "--verdicts" ∷ codes "vendor" ∷ codes "c" ∷ codes "v" ∷ [])
         ≡ Ok (Vendor (record start.audit { verdicts = true })
         (record { crates = codes "c"; to = codes "v" })) }
+    ensures slashes_behind_folders { command_of
+        (codes "audit" ∷ codes "vendor" ∷ codes "c//" ∷ codes "/v/" ∷ [])
+        ≡ Ok (Vendor start.audit (record { crates = codes "c"; to = codes "/v" })) }
     ensures help_behind_folders { command_of
         (codes "audit" ∷ codes "vendor" ∷ codes "c" ∷ codes "v" ∷ codes "-h" ∷ []) ≡ Ok Help }
     ensures made_packages { command_of (codes "audit" ∷ codes "generate" ∷ codes "5000" ∷ [])

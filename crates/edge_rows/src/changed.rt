@@ -7,7 +7,7 @@ use audit_edges::{LockFiles, StdFiles};
 use std::alloc::Global;
 use std::fs::{File, OpenOptions};
 use std::io;
-use tame_names::{FileFault, Files, LockOpenFault, LockTakeFault, OpenedLock};
+use tame_names::{FileFault, Files, LockOpenFault, LockTakeFault, NoMemory, OpenedLock};
 
 impl<'a> LockFiles for Host<'a> {
     fn open_lock(&self, how: &OpenOptions, place: &str) -> io::Result<File> {
@@ -48,12 +48,17 @@ fn opened(alloc: Global, error: LockOpenFault, faults: u64) -> io::Result<String
     }
 }
 
-fn taken(alloc: Global, answer: Result<(), LockTakeFault>, faults: u64) -> io::Result<String> {
+fn taken(
+    alloc: Global,
+    answer: Result<Result<(), LockTakeFault>, NoMemory>,
+    faults: u64,
+) -> io::Result<String> {
     match answer {
-        Ok(()) => said(alloc, "taken"),
-        Err(LockTakeFault::Contested) => said(alloc, "contested"),
-        Err(LockTakeFault::NotSupported) => said(alloc, "not supported"),
-        Err(LockTakeFault::Failed) => fault(alloc, FileFault::Failed, faults),
+        Ok(Ok(())) => said(alloc, "taken"),
+        Ok(Err(LockTakeFault::Contested)) => said(alloc, "contested"),
+        Ok(Err(LockTakeFault::NotSupported)) => said(alloc, "not supported"),
+        Ok(Err(LockTakeFault::Failed)) => fault(alloc, FileFault::Failed, faults),
+        Err(NoMemory) => fault(alloc, FileFault::NoMemory, faults),
     }
 }
 
@@ -76,11 +81,12 @@ fn lock<'a>(
     let (how, path) = first_word(line);
     let exclusive = is_exclusive(how)?;
     match files.open_lock(path, exclusive) {
-        Ok(lock) => {
+        Ok(Ok(lock)) => {
             let answer = files.take_lock(path, &lock, exclusive, block);
             taken(alloc, answer, files.file_faults())
         }
-        Err(error) => opened(alloc, error, files.file_faults()),
+        Ok(Err(error)) => opened(alloc, error, files.file_faults()),
+        Err(NoMemory) => fault(alloc, FileFault::NoMemory, files.file_faults()),
     }
 }
 
@@ -93,13 +99,13 @@ fn lock_beside<'a>(
     let (holder, rest) = first_word(line);
     let exclusive = is_exclusive(holder)?;
     let (_, path) = first_word(rest);
-    let Ok(held) = files.open_lock(path, exclusive) else {
+    let Ok(Ok(held)) = files.open_lock(path, exclusive) else {
         return said(alloc, "not held");
     };
-    if files.take_lock(path, &held, exclusive, true).is_err() {
-        return said(alloc, "not held");
+    match files.take_lock(path, &held, exclusive, true) {
+        Ok(Ok(())) => lock(files, alloc, rest, false),
+        _ => said(alloc, "not held"),
     }
-    lock(files, alloc, rest, false)
 }
 
 /// Takes the lock of a file that isn't one of the system.

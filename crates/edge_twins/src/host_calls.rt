@@ -15,6 +15,7 @@ pub struct HostCall<'a> {
     pub act: Act,
     /// A path, or the name of a variable.
     pub path: &'a str,
+    /// A limit, or where a part begins; a part has no more bytes than `bytes`.
     pub limit: u64,
     pub bytes: &'a [u8],
 }
@@ -35,6 +36,18 @@ fn read_text(alloc: Global, answer: Result<ReadAnswer, FileFault>) -> io::Result
             Ok(text)
         }
         Ok(ReadAnswer::Over(len)) => Ok(format!(in alloc; "over, {len}")?),
+        Err(fault) => said(alloc, fault_word(fault)),
+    }
+}
+
+fn part_text(alloc: Global, answer: Result<Option<Vec<u8>>, FileFault>) -> io::Result<String> {
+    match answer {
+        Ok(None) => said(alloc, "absent"),
+        Ok(Some(bytes)) => {
+            let mut text = said(alloc, "a part ")?;
+            push_bytes(alloc, &mut text, bytes.as_slice())?;
+            Ok(text)
+        }
         Err(fault) => said(alloc, fault_word(fault)),
     }
 }
@@ -103,6 +116,10 @@ macro_rules! answer {
         let before = $files.file_faults();
         let answer = match $call.act {
             Act::Read => read_text($alloc, $files.read($alloc, $call.path, $call.limit)),
+            Act::ReadPart => part_text(
+                $alloc,
+                $files.read_part($alloc, $call.path, $call.limit, $call.bytes.len() as u64),
+            ),
             Act::ReadInput => input_text($alloc, $files.read_stdin($alloc, $call.limit)),
             Act::List => list_text($alloc, $files.list($alloc, $call.path)),
             Act::Kind => said($alloc, kind_word($files.kind($call.path))),

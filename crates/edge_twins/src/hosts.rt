@@ -152,7 +152,7 @@ impl<'a> Hosts<'a> {
     /// Whether the real host alone refuses a call.
     fn is_known(&self, act: Act, path: &str) -> io::Result<bool> {
         match act {
-            Act::Read | Act::List | Act::Kind | Act::MakeFolders | Act::Create => {
+            Act::Read | Act::ReadPart | Act::List | Act::Kind | Act::MakeFolders | Act::Create => {
                 let link = match self.paths.get(LINK) {
                     Some(link) => link.as_str(),
                     None => "",

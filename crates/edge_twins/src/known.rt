@@ -29,14 +29,6 @@ fn where_led(host: &Host, path: &str) -> io::Result<Led> {
     }
 }
 
-fn is_file(host: &Host, path: &str) -> io::Result<bool> {
-    let place = host.place(path)?;
-    match fs::metadata(host.rt, place.as_str()) {
-        Ok(found) => Ok(found.is_file()),
-        Err(_) => Ok(false),
-    }
-}
-
 /// Whether the real host alone refuses a call on a path. The link of its places is `link`.
 pub fn is_refused(host: &Host, act: Act, path: &str, link: &str) -> io::Result<bool> {
     let path = path.trim_end_matches('/');
@@ -55,8 +47,6 @@ pub fn is_refused(host: &Host, act: Act, path: &str, link: &str) -> io::Result<b
         // nothing is where the link leads, and the link is there
         Act::MakeFolders if path.starts_with(link) => Ok(where_led(host, link)? == Led::Nowhere),
         Act::Create if is_link && where_led(host, link)? == Led::Nowhere => Ok(true),
-        // what is there already stays
-        Act::Create => is_file(host, path),
         _ => Ok(false),
     }
 }

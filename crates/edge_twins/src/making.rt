@@ -64,9 +64,11 @@ const LAYING: [Act; 6] = [
     Act::LayLink,
 ];
 
-const HOST_CALLS: [Act; 16] = [
+const HOST_CALLS: [Act; 18] = [
     Act::Read,
     Act::Read,
+    Act::ReadPart,
+    Act::ReadPart,
     Act::List,
     Act::List,
     Act::Kind,

@@ -10,6 +10,7 @@ pub enum Act {
     LayLink,
     // calls on a host
     Read,
+    ReadPart,
     ReadInput,
     List,
     Kind,
@@ -52,6 +53,7 @@ fn act_word(act: Act) -> &'static str {
         Act::LayFolder => "lay a folder",
         Act::LayLink => "lay a link",
         Act::Read => "read",
+        Act::ReadPart => "read a part",
         Act::ReadInput => "read the input",
         Act::List => "list",
         Act::Kind => "kind",

@@ -8,6 +8,7 @@
 #![tactic(auto)]
 
 mod cache;
+mod fakes;
 mod formats;
 mod sparse;
 

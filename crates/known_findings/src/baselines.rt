@@ -25,6 +25,7 @@ use tame_names::{Items, NoMemory, Sink, Text, put_counted};
 pub enum BaselineFault {
     /// The line of this number, from 0, is neither blank nor a finding; those before it are.
     Line { n: u64 },
+    /// Memory ran out.
     NoMemory,
 }
 
@@ -43,6 +44,7 @@ impl From<NoMemory> for BaselineFault {
 pub enum BaselineWriteFault {
     /// A put failed.
     Io,
+    /// Memory ran out.
     NoMemory,
 }
 

@@ -11,16 +11,22 @@ use tame_names::{NoMemory, Text};
 /// What a finding tells of a package.
 #[derive(Clone, Copy, Debug, PartialEq, Eq)]
 pub enum FindingKind {
+    /// An advisory tells that the package is vulnerable.
     Vulnerability,
+    /// An advisory tells something to note.
     Notice,
+    /// An advisory tells that nobody maintains the package.
     Unmaintained,
+    /// An advisory tells that the package is unsound.
     Unsound,
+    /// The version is yanked.
     Yanked,
 }
 
 /// Something that an audit found of a package.
 #[derive(Debug, Drop, PartialEq, Eq)]
 pub struct Finding {
+    /// What is told.
     pub kind: FindingKind,
     /// The advisory's id; empty for a yanked package.
     pub id: Text,

@@ -32,7 +32,9 @@ impl Model for Listing {
 /// Lines with their findings.
 #[derive(Drop)]
 pub struct Parted {
+    /// The lines, each once, in byte order.
     pub lines: Items<Text>,
+    /// The finding of each line, in the order of the lines.
     pub findings: Items<Finding>,
 }
 

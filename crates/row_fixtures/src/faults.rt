@@ -1,28 +1,33 @@
 //! Why a row has no answer, and errors that are the answer.
 use crate::rows::is_remark;
 use std::alloc::{AllocError, AllocFailed, Global};
-use tame_names::{Error, InvalidKrateName, NoMemory};
+use tame_names::{Error, NoMemory};
 
-/// Why a row has no answer, or the error that is its answer.
-#[derive(Debug, Drop)]
+/// Why a row has no answer, or the text of the error that is its answer. The error itself isn't
+/// kept: each call behind which a fault may go up would be proved for each of its variants.
+#[derive(Drop)]
 pub enum RowFault {
     /// Memory ran out.
     NoMemory,
     /// The row isn't written as its command is.
     Unread,
-    /// What was asked for was refused: this error is the answer.
-    Refused(Error),
+    /// What was asked for was refused: this text of the error is the answer.
+    Refused(String),
 }
 
-impl From<Error> for RowFault {
-    fn from(error: Error) -> RowFault {
-        RowFault::Refused(error)
+/// An error as the fault of which it is the answer.
+pub fn refused(alloc: Global, error: &Error) -> RowFault {
+    match format!(in alloc; "{error:?}") {
+        Ok(text) => RowFault::Refused(text),
+        Err(_) => RowFault::NoMemory,
     }
 }
 
-impl From<InvalidKrateName> for RowFault {
-    fn from(error: InvalidKrateName) -> RowFault {
-        RowFault::Refused(Error::from(error))
+/// What a call gave; its error is the answer.
+pub fn asked<T: Drop>(alloc: Global, given: Result<T, Error>) -> Result<T, RowFault> {
+    match given {
+        Ok(value) => Ok(value),
+        Err(error) => Err(refused(alloc, &error)),
     }
 }
 
@@ -44,19 +49,12 @@ impl<T: Drop> From<AllocFailed<T>> for RowFault {
     }
 }
 
-/// The text of a fault: an error that is an answer as it is, any other with a mark.
-fn fault_text(alloc: Global, fault: &RowFault) -> Result<String, AllocError> {
-    match fault {
-        RowFault::Refused(error) => format!(in alloc; "{error:?}"),
-        _ => format!(in alloc; "no answer: {fault:?}"),
-    }
-}
-
-/// An answer as a text, whether it is an error or not.
+/// An answer as a text, whether it is an error or not; any other fault with a mark.
 pub fn told(alloc: Global, answer: Result<String, RowFault>) -> Result<String, AllocError> {
     match answer {
-        Ok(text) => Ok(text),
-        Err(fault) => fault_text(alloc, &fault),
+        Ok(text) | Err(RowFault::Refused(text)) => Ok(text),
+        Err(RowFault::NoMemory) => String::from_str(alloc, "no answer: NoMemory"),
+        Err(RowFault::Unread) => String::from_str(alloc, "no answer: Unread"),
     }
 }
 

@@ -1,8 +1,10 @@
 //! Disks and files in memory.
-use crate::faults::RowFault;
+use crate::faults::{RowFault, asked};
 use std::alloc::{AllocError, Global};
 use tame_cache::MemCacheDisk;
-use tame_names::{EnvValue, Items, Listed, MemFile, MemFiles, MemNode, MemVariable, Text};
+use tame_names::{
+    EnvValue, Items, Listed, MemFile, MemFiles, MemNode, MemVariable, NoMemory, Text,
+};
 use tame_sparse::{CRATES_IO_HTTP_INDEX, SparseIndex};
 
 /// The cache file of the crate `a`.
@@ -56,14 +58,18 @@ pub fn files_with(
 /// What stands at a path.
 #[derive(Drop)]
 pub struct Laid {
+    /// The path.
     pub path: String,
+    /// What is there.
     pub node: LaidNode,
 }
 
 /// A file by its bytes, or a folder by the names in it; a name that ends with `/` is a folder's.
 #[derive(Drop)]
 pub enum LaidNode {
+    /// The bytes of a file.
     File(Vec<u8>),
+    /// The names in a folder.
     Folder(Vec<String>),
 }
 
@@ -80,6 +86,54 @@ fn listed(alloc: Global, names: &[String]) -> Result<Items<Listed>, RowFault> {
     Ok(entries)
 }
 
+/// The node that is laid.
+fn node_of(alloc: Global, laid: &LaidNode) -> Result<MemNode, RowFault> {
+    match laid {
+        LaidNode::File(bytes) => Ok(MemNode::File(Items::copied(alloc, bytes.as_slice())?)),
+        LaidNode::Folder(names) => Ok(MemNode::Folder(listed(alloc, names.as_slice())?)),
+    }
+}
+
+/// Adds what stands at a path.
+fn add_laid(alloc: Global, there: &mut Items<MemFile>, laid: &Laid) -> Result<(), RowFault> {
+    let path = Text::of(alloc, laid.path.as_str())?;
+    let node = node_of(alloc, &laid.node)?;
+    Ok(there.add(MemFile { path, node })?)
+}
+
+/// What stands.
+fn files_of(alloc: Global, laid: &[Laid]) -> Result<Items<MemFile>, RowFault> {
+    let mut there = Items::new(alloc);
+    for one in laid {
+        add_laid(alloc, &mut there, one)?;
+    }
+    Ok(there)
+}
+
+/// Adds a variable of the environment.
+fn add_variable(
+    alloc: Global,
+    environment: &mut Items<MemVariable>,
+    name: &str,
+    value: &str,
+) -> Result<(), NoMemory> {
+    let name = Text::of(alloc, name)?;
+    let value = EnvValue::Value(Text::of(alloc, value)?);
+    environment.add(MemVariable { name, value })
+}
+
+/// Variables of the environment.
+fn environment_of(
+    alloc: Global,
+    variables: &[(String, String)],
+) -> Result<Items<MemVariable>, NoMemory> {
+    let mut environment = Items::new(alloc);
+    for (name, value) in variables {
+        add_variable(alloc, &mut environment, name.as_str(), value.as_str())?;
+    }
+    Ok(environment)
+}
+
 /// A host where all of these stand, and these variables; the calls with these numbers fail, counted
 /// from 1.
 pub fn host_with(
@@ -88,26 +142,13 @@ pub fn host_with(
     variables: &[(String, String)],
     failing: Vec<u64>,
 ) -> Result<MemFiles, RowFault> {
-    let mut there = Items::new(alloc);
-    for one in laid {
-        let node = match &one.node {
-            LaidNode::File(bytes) => MemNode::File(Items::copied(alloc, bytes.as_slice())?),
-            LaidNode::Folder(names) => MemNode::Folder(listed(alloc, names.as_slice())?),
-        };
-        let path = Text::of(alloc, one.path.as_str())?;
-        there.add(MemFile { path, node })?;
-    }
-    let mut environment = Items::new(alloc);
-    for (name, value) in variables {
-        environment.add(MemVariable {
-            name: Text::of(alloc, name.as_str())?,
-            value: EnvValue::Value(Text::of(alloc, value.as_str())?),
-        })?;
-    }
+    let environment = environment_of(alloc, variables)?;
+    let there = files_of(alloc, laid)?;
     Ok(MemFiles::new(alloc, there, Items::of(failing)).with_variables(environment))
 }
 
 /// The sparse index of crates.io, with its cache below a folder.
 pub fn crates_io_index(alloc: Global, folder: &str) -> Result<SparseIndex, RowFault> {
-    Ok(SparseIndex::at(alloc, Text::of(alloc, folder)?, CRATES_IO_HTTP_INDEX)?)
+    let folder = Text::of(alloc, folder)?;
+    asked(alloc, SparseIndex::at(alloc, folder, CRATES_IO_HTTP_INDEX))
 }

@@ -11,7 +11,7 @@ mod rows;
 mod tables;
 
 pub use escapes::{plain_bytes, plain_text, shown, shown_word};
-pub use faults::{RowFault, answered, told};
+pub use faults::{RowFault, answered, asked, refused, told};
 pub use hosts::{
     FLAGGED_FILE, Laid, LaidNode, crashed, crates_io_index, disk_failing, disk_with, files_with,
     host_with, numbers, stop,

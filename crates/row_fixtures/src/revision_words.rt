@@ -9,11 +9,17 @@ use tame_names::Text;
 /// commit of twenty equal bytes, `unknown`, and `-` for none.
 #[derive(Drop)]
 pub enum RevisionWord {
+    /// The text of an entity tag.
     Etag(String),
+    /// The text of a date.
     Date(String),
+    /// The byte of a commit that is given by its bytes.
     Raw(u8),
+    /// The byte of a commit that is given by its hex digits.
     Hex(u8),
+    /// The unknown revision.
     Unknown,
+    /// No revision.
     Absent,
 }
 

@@ -1,9 +1,9 @@
 //! Rows: a command's name and its words, divided by blanks. A word in single quotes may have
 //! blanks, and `''` is the word of no bytes; `-` stands for nothing where a word may be left out.
 use crate::escapes::{plain_bytes, plain_text};
-use crate::faults::RowFault;
+use crate::faults::{RowFault, refused};
 use std::alloc::Global;
-use tame_names::KrateName;
+use tame_names::{Error, KrateName};
 
 /// Whether a line is no row: it is blank, or a remark behind `#`.
 pub fn is_remark(line: &str) -> bool {
@@ -60,8 +60,11 @@ impl<'a> Row<'a> {
     }
 
     /// The next word, as it is written, as the name of a crate.
-    pub fn name(&mut self) -> Result<KrateName<'a>, RowFault> {
-        Ok(KrateName::try_from(self.word())?)
+    pub fn name(&mut self, alloc: Global) -> Result<KrateName<'a>, RowFault> {
+        match KrateName::try_from(self.word()) {
+            Ok(name) => Ok(name),
+            Err(fault) => Err(refused(alloc, &Error::from(fault))),
+        }
     }
 
     /// The next word as a number.

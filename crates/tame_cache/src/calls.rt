@@ -8,16 +8,22 @@ use std::alloc::{AllocError, Global};
 /// A change of a file: a write of this many bytes at a place, a cut to a length, or a sync.
 #[derive(Clone, Copy, Debug, PartialEq, Eq)]
 pub enum Change {
+    /// The place in the file, and the number of bytes that are written from there on.
     Write(u64, u64),
+    /// The length in bytes that is left.
     Cut(u64),
+    /// What was written is made to last.
     Sync,
 }
 
 /// A change of the file of a path, and what a read gives after it.
 #[derive(Drop)]
 pub struct Call {
+    /// The path of the file.
     pub path: String,
+    /// What was done to it.
     pub change: Change,
+    /// The bytes that a read gives afterwards; none where there is no file.
     pub file: Option<Vec<u8>>,
 }
 

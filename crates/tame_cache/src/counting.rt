@@ -11,10 +11,15 @@ use crate::disk::DiskFault;
 /// number 1.
 #[derive(Drop)]
 pub struct Counts {
+    /// How many calls were made, at most 2^64 - 1.
     pub made: u64,
+    /// The numbers of the calls that fail.
     pub failing: Vec<u64>,
+    /// The number of the first call from which on all fail.
     pub stop: u64,
+    /// How many calls have failed, at most 2^64 - 1.
     pub faults: u64,
+    /// How many of these failed for want of memory, at most 2^64 - 1.
     pub starved: u64,
 }
 

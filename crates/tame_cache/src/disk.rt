@@ -14,6 +14,7 @@ pub enum Peek {
     Absent,
     /// The file has no byte.
     Empty,
+    /// The first byte of the file.
     Byte(u8),
 }
 
@@ -26,6 +27,7 @@ pub struct DiskFault;
 pub enum DiskReadFault {
     /// The call failed, and the disk counted it.
     Failed,
+    /// Memory ran out.
     NoMemory,
 }
 

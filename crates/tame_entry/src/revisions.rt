@@ -13,29 +13,38 @@ use tame_names::{NoMemory, Sink, SinkFault, Text};
 /// An HTTP revision of a body: its entity tag or its date (RFC 9110, sections 8.8.2 and 8.8.3).
 #[derive(Debug, Drop, PartialEq, Eq)]
 pub enum OwnedRevision {
+    /// The entity tag, as it was sent.
     Etag(Text),
+    /// The date of the last change, as it was sent.
     LastModified(Text),
 }
 
 /// An HTTP revision, borrowed.
 #[derive(Clone, Copy, Debug)]
 pub enum HttpRevision<'s> {
+    /// The entity tag, as it was sent.
     Etag(&'s str),
+    /// The date of the last change, as it was sent.
     LastModified(&'s str),
 }
 
 /// A commit of a git index: the bytes of its SHA-1, or their hex digits.
 #[derive(Clone, Copy)]
 pub enum GitRevision {
+    /// The twenty bytes of the SHA-1.
     Raw([u8; 20]),
+    /// The forty hex digits of the SHA-1.
     Hex(Sha1Hex),
 }
 
 /// What an entry of the cache was stored under.
 #[derive(Clone, Copy)]
 pub enum Revision<'s> {
+    /// A revision that a server sent.
     Http(HttpRevision<'s>),
+    /// A commit of a git index.
     Git(GitRevision),
+    /// No revision is known.
     Unknown,
 }
 
@@ -92,9 +101,13 @@ impl GitRevision {
 /// A revision with its text in an entry at hand: that of a commit is its digits.
 #[derive(Clone, Copy)]
 pub enum StoredRevision<'s> {
+    /// An entity tag.
     Etag(&'s str),
+    /// A date of the last change.
     LastModified(&'s str),
+    /// The hex digits of a commit.
     Commit(Sha1Hex),
+    /// No revision is known.
     Unknown,
 }
 

@@ -4,6 +4,7 @@ ghost use Rattle.hex.specs.Hex.{encode_lower};
 ghost use Rattle.tame_entry.specs.Commits as spec;
 
 use hex::encode_to_slice;
+use std::convert::{AsSlice, AsStr};
 use std::marker::Model;
 use tame_records::is_hex_text;
 
@@ -30,13 +31,6 @@ impl Model for Sha1Hex {
 }
 
 impl Sha1Hex {
-    /// The digits of a digest, the letters in lower case.
-    pub fn from(raw: [u8; 20]) -> Sha1Hex
-        ensures { result ≡ encode_lower raw }
-    {
-        Sha1Hex::of(&raw)
-    }
-
     fn of(raw: &[u8; 20]) -> Sha1Hex
         ensures { result ≡ encode_lower raw.now }
     {
@@ -84,6 +78,31 @@ fn is_commit(text: &str) -> bool
     ensures { result ≡ spec.is_commit text.now }
 {
     text.len() == 40 && is_hex_text(text)
+}
+
+/// The digits of a digest, the letters in lower case.
+impl From<[u8; 20]> for Sha1Hex {
+    ghost from_gives = { λ raw s. s ≡ encode_lower raw };
+
+    fn from(raw: [u8; 20]) -> Sha1Hex {
+        Sha1Hex::of(&raw)
+    }
+}
+
+impl AsStr for Sha1Hex {
+    ghost text = { λ s. s };
+
+    fn as_str(&self) -> &str {
+        self.as_str()
+    }
+}
+
+impl AsSlice<u8> for Sha1Hex {
+    ghost items = { λ s. s };
+
+    fn as_slice(&self) -> &[u8] {
+        self.as_bytes().as_slice()
+    }
 }
 
 impl AsRef<[u8; 40]> for Sha1Hex {

@@ -1,8 +1,8 @@
 -- A registry that is changed by a builder goes on agreeing with its index.
-use Rattle.std.proofs.Common.{◌≡◌, ◌⊎◌, ℕ, suc, ◌+◌, ◌<◌, ◌≤◌, List, [], ◌∷◌, ◌++◌, length, codes, bytes_eq, IsUtf8, IsTrue, is_ok, Bool, true, false, cond, Option, Some, None, refl, sym, ap, ◌∙◌, arith, inl, inr, subst, lit<}
+use Rattle.std.proofs.Common.{◌≡◌, ◌⊎◌, ℕ, ◌+◌, ◌<◌, List, [], ◌∷◌, ◌++◌, length, codes, IsUtf8, IsTrue, is_ok, Bool, true, false, cond, Some, None, refl, sym, ap, ◌∙◌, arith, inl, inr, lit<}
 use Rattle.std.proofs.lemmas.List.{length-append}
 use Rattle.std.proofs.lemmas.Slice.Eq.{bytes_eq-Decides}
-use Rattle.std.specs.Prelude.{is_some, option_and_then, nat_eq}
+use Rattle.std.specs.Prelude.{is_some}
 use Rattle.semver.specs.Parse.{version_parts}
 use Rattle.tame_names.specs.Changes.{entry_of, is_folder, is_nothing, with_folder_at, with_folders_at, with_standing}
 use Rattle.tame_names.specs.Names.{is_name, prefix}
@@ -12,7 +12,7 @@ use Rattle.tame_names.specs.declared.host.Listed.{Listed}
 use Rattle.tame_local.proofs.Dashes.{gives_back}
 use Rattle.tame_local.proofs.RegistryPaths.{apart, differ, file_lacks, file_long, file_no_index, index_folder, index_parts, lacking, lower, lower_lacks, name_behind, name_lacks, name_long, no_dot, no_slash, plain_behind, same_in, same_paths, undotted_no_file}
 use Rattle.tame_local.proofs.Standings.{Gains, elsewhere, file_stays, folder_grows, folder_stays, new_stands, plain_kept, plain_short}
-use Rattle.tame_local.specs.CrateFiles.{components, crate_file}
+use Rattle.tame_local.specs.CrateFiles.{crate_file}
 use Rattle.tame_local.specs.Inserts.{StandsPlain}
 use Rattle.tame_local.specs.CrateFiles.{Lacks}
 use Rattle.tame_local.specs.Digests.{has_digest}

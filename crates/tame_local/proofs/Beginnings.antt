@@ -1,10 +1,10 @@
 -- A registry that a builder begins is empty.
-use Rattle.std.proofs.Common.{◌≡◌, ◌≢◌, ◌⊎◌, ℕ, suc, ◌+◌, ◌<◌, ◌≤◌, List, [], ◌∷◌, ◌++◌, length, codes, Bool, true, false, cond, Option, Some, None, Result, Ok, refl, sym, ap, ◌∙◌, arith, inl, inr, subst}
+use Rattle.std.proofs.Common.{◌≡◌, ◌≢◌, ◌⊎◌, ℕ, ◌+◌, List, [], ◌∷◌, ◌++◌, length, codes, Bool, true, false, cond, None, Ok, refl, sym, ap, ◌∙◌, arith, inl, inr, subst}
 use Rattle.std.proofs.lemmas.List.{length-append}
 use Rattle.tame_names.proofs.Placed.{folder_there}
-use Rattle.tame_names.specs.Changes.{AreFolders, entry_of, is_folder, is_nothing, with_folder_at, with_folders_at, with_standing}
-use Rattle.tame_names.specs.Paths.{ends_with_slash, is_same, ways_to}
-use Rattle.tame_names.specs.Standing.{Host, Standing, Nothing, File, Folder, Other}
+use Rattle.tame_names.specs.Changes.{entry_of, is_nothing, with_folder_at, with_folders_at, with_standing}
+use Rattle.tame_names.specs.Paths.{is_same, ways_to}
+use Rattle.tame_names.specs.Standing.{Standing, Nothing, File, Folder, Other}
 use Rattle.tame_names.specs.declared.host.Listed.{Listed}
 use Rattle.tame_local.proofs.Agreeing.{here}
 use Rattle.tame_local.proofs.RegistryPaths.{joined}

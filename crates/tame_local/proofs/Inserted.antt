@@ -1,32 +1,24 @@
 -- A registry of valid crates that were inserted is validated.
-use Rattle.std.proofs.Common.{◌≡◌, ◌⊎◌, ℕ, suc, ◌+◌, ◌<◌, ◌≤◌, ◌==◌, List, [], ◌∷◌, ◌++◌, length, codes, IsUtf8, IsTrue, is_ok, is_none, Bool, true, false, cond, All, Option, Some, None, Result, Ok, Err, refl, sym, ap, ◌∙◌, arith, inl, inr, subst, lit<}
+use Rattle.std.proofs.Common.{◌≡◌, ℕ, ◌+◌, ◌<◌, List, [], ◌∷◌, ◌++◌, length, codes, IsUtf8, IsTrue, is_none, true, Option, Some, None, Result, Ok, refl, sym, ap, ◌∙◌, arith, subst}
 use Rattle.std.specs.Prelude.{unwrap_or}
-use Rattle.std.specs.Cmp.Lexicographic.{slice_cmp}
-use Rattle.std.specs.Ordering.{nat_cmp}
 use Rattle.std.proofs.lemmas.List.{length-append}
-use Rattle.std.proofs.lemmas.List.Elements.{All-head, All-nil, All-tail}
-use Rattle.std.proofs.lemmas.Map.Views.{All-insert_key}
-use Rattle.semver.specs.Parse.{version_parts}
-use Rattle.tame_names.specs.Changes.{is_folder, is_nothing, with_file, with_folders, with_folders_at, with_standing}
-use Rattle.tame_names.specs.Names.{NameRefusal, is_name, prefix, refusal_of, relative_path, separator}
-use Rattle.tame_names.specs.Paths.{begins_with_slash, ends_with_slash, join, parent, ways_to}
+use Rattle.tame_names.specs.Changes.{is_nothing, with_file, with_folders}
+use Rattle.tame_names.specs.Names.{NameRefusal, is_name, prefix, refusal_of}
+use Rattle.tame_names.specs.Paths.{join, parent, ways_to}
 use Rattle.tame_names.specs.Standing.{Host, Standing, Nothing, File, Folder, Other}
-use Rattle.tame_names.specs.declared.host.Listed.{Listed}
 use Rattle.tame_records.specs.Written.{json_lines}
 use Rattle.tame_records.specs.declared.versions.IndexVersion.{IndexVersion}
 use Rattle.tame_sparse.specs.Git.{first_name}
 use Rattle.tame_local.proofs.Agreed.{IsPlace, crate_is, file_is, registry_agrees, start_sound}
-use Rattle.tame_local.proofs.Agreeing.{Agrees, AllSound, HasFile, IsSound, Sound, crate_no_index, crate_sound, file_of, file_plain, file_unnamed, folders_sound, here, lower_long, lower_slashless, new_sound}
-use Rattle.tame_local.proofs.Dashes.{gives_back}
+use Rattle.tame_local.proofs.Agreeing.{Agrees, Sound, crate_no_index, crate_sound, file_of, file_plain, file_unnamed, folders_sound, here, lower_long, lower_slashless, new_sound}
 use Rattle.tame_local.proofs.ReadBack.{records_back}
-use Rattle.tame_local.proofs.RegistryPaths.{file_lacks, index_folder, index_parts, index_path, joined, lower, name_lacks, name_long, no_slash, parent_behind}
+use Rattle.tame_local.proofs.RegistryPaths.{index_folder, lower, name_long, parent_behind}
 use Rattle.tame_local.proofs.Standings.{file_stays, folders_nothing, ways_elsewhere}
-use Rattle.tame_local.specs.Builders.{absent_at, after, crate_made, crates_made, insertable, inserted, written}
-use Rattle.tame_local.specs.CrateFiles.{Lacks, components, crate_file}
-use Rattle.tame_local.specs.Inserts.{AreInserts, AreOfCrate, HasNoCrate, Insert, IsEmptyRegistry, IsInsert, StandsPlain, StayValid, after_insert, after_inserts}
-use Rattle.tame_local.specs.Refusals.{NoVersion, OtherDigest, Refusal, and_then, or_refusal}
-use Rattle.tame_local.specs.Digests.{has_digest}
-use Rattle.tame_local.specs.Registries.{bytes_at, crate_file_name, crate_file_names, crates_folder, digest_checked, file_checked, file_if_parts, files_checked, folder_at, index_file, index_of, located_checked, name_checked, named_unless, records_at, records_in, registry_at, sum_at, sum_in, validated, with_name}
+use Rattle.tame_local.specs.Builders.{absent_at, after, crates_made, insertable, written}
+use Rattle.tame_local.specs.CrateFiles.{Lacks, crate_file}
+use Rattle.tame_local.specs.Inserts.{AreInserts, AreOfCrate, Insert, IsInsert, StayValid, after_insert, after_inserts}
+use Rattle.tame_local.specs.Refusals.{Refusal, and_then}
+use Rattle.tame_local.specs.Registries.{index_file, index_of, named_unless, records_in}
 use Rattle.tame_local.specs.declared.digests.ValidKrate.{ValidKrate}
 
 -- ---- what an insert asks for

@@ -2,6 +2,9 @@ mod Begun
 mod Kept
 pub mod Dashes
 mod Pieces
+mod FileDigests
+pub mod Widened
+pub mod CallsFor
 pub mod RegistryPaths
 pub mod Standings
 pub mod Agreeing

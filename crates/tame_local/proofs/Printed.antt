@@ -1,19 +1,18 @@
 -- A written line has no newline: strings escape them, and nothing else has one.
-use Rattle.std.proofs.Common.{◌≡◌, ℕ, suc, ◌+◌, ◌<◌, ◌≤◌, ◌/◌, ◌%◌, ◌^◌, ◌==◌, List, [], ◌∷◌, ◌++◌, length, codes, decimal, Bool, true, false, cond, Option, Some, None, refl, sym, ap, ◌∙◌, arith, inl, inr, subst, lit<}
-use Rattle.std.specs.Prelude.{◌&&◌, ◌||◌, nat_lt, nat_eq, IfSome}
+use Rattle.std.proofs.Common.{◌≡◌, ℕ, ◌+◌, ◌<◌, ◌/◌, ◌%◌, ◌^◌, ◌==◌, List, [], ◌∷◌, ◌++◌, codes, decimal, Bool, true, false, cond, Option, Some, None, refl, arith, inl, inr, subst, lit<}
+use Rattle.std.specs.Prelude.{◌&&◌, ◌||◌, nat_lt, IfSome}
 use Rattle.std.specs.Char.{digit_char, digit_value}
 use Rattle.std.specs.Str.Parse.{AllDigits}
 use Rattle.std.proofs.lemmas.Bool.{cases_Bool}
 use Rattle.std.proofs.lemmas.Bool.Decides.{nat_tests}
 use Rattle.std.proofs.lemmas.Fmt.{decimal_is_IsNumeral}
-use Rattle.hex.specs.Hex.{encode_lower}
 use Rattle.json.specs.Json.{Json, null, boolean, number, string, array, object, Items, no_items, item, Members, no_members, member}
-use Rattle.json.specs.Print.{begins, ends, escape, escape_byte, escape_letter, print, print_from, quoted, separator, token_text}
+use Rattle.json.specs.Print.{begins, ends, escape, escape_byte, escape_letter, print_from, quoted, separator, token_text}
 use Rattle.json.specs.Token.{Token}
 use Rattle.json.specs.Token as token
 use Rattle.json.specs.Tree.{json_tokens, items_tokens, members_tokens}
 use Rattle.tame_records.specs.Members.{Lists}
-use Rattle.tame_records.specs.Written.{dependencies_tree, dependency_tree, kind_text, later_members, line, lists_if, lists_tree, number_if, text_if, text_or_null_tree, texts_tree, version_tree}
+use Rattle.tame_records.specs.Written.{dependencies_tree, dependency_tree, later_members, line, lists_if, lists_tree, number_if, text_if, text_or_null_tree, texts_tree, version_tree}
 use Rattle.tame_records.specs.declared.dependencies.IndexDependency.{IndexDependency}
 use Rattle.tame_records.specs.declared.versions.IndexVersion.{IndexVersion}
 use Rattle.tame_local.proofs.RegistryPaths.{lacks_both}

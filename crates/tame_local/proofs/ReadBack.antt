@@ -1,6 +1,6 @@
 -- The lines of written versions are read back to them.
-use Rattle.std.proofs.Common.{◌≡◌, ℕ, suc, ◌+◌, ◌<◌, ◌≤◌, ◌==◌, List, [], ◌∷◌, ◌++◌, length, map, Bool, true, false, cond, Option, Some, None, Ok, refl, sym, ap, ◌∙◌, arith, codes, is_none, option_map, option_and_then, position}
-use Rattle.std.specs.Prelude.{◌&&◌, unwrap_or}
+use Rattle.std.proofs.Common.{◌≡◌, ℕ, suc, ◌+◌, ◌<◌, ◌==◌, List, [], ◌∷◌, ◌++◌, length, map, false, Some, None, Ok, refl, ap, ◌∙◌, arith, codes, option_map}
+use Rattle.std.specs.Prelude.{unwrap_or}
 use Rattle.std.specs.List.{position_from}
 use Rattle.std.proofs.Math.Dec.{eqb-suc-zero}
 use Rattle.std.proofs.lemmas.List.{append_assoc, append-nil, length-append}
@@ -9,11 +9,9 @@ use Rattle.json.specs.Json.{Members, array, member, object, string}
 use Rattle.json.specs.Print.{print_from}
 use Rattle.json.specs.Tree.{json_tokens, members_tokens}
 use Rattle.tame_names.specs.Pieces.{onto_first, pieces, without_end}
-use Rattle.tame_names.specs.declared.errors.Error.{Error}
 use Rattle.tame_names.specs.declared.errors.Error.TheVariants as error
 use Rattle.tame_records.specs.Krates.{first_unread, has_no_record, records_of, unread}
 use Rattle.tame_records.specs.Lines.{lines, trimmed}
-use Rattle.tame_records.specs.Record.{record_of}
 use Rattle.tame_records.specs.Written.{dependencies_tree, json_lines, later_members, line, lists_tree}
 use Rattle.tame_records.specs.declared.versions.IndexVersion.{IndexVersion}
 use Rattle.tame_local.proofs.Printed.{line_lacks}

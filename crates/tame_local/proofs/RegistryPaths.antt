@@ -1,6 +1,6 @@
 -- Paths of a registry: what stands behind the last slash, and paths that are apart.
-use Rattle.std.proofs.Common.{◌≡◌, ℕ, zero, suc, ◌+◌, ◌-◌, ◌<◌, ◌≤◌, ◌==◌, List, [], ◌∷◌, ◌++◌, length, map, take, drop, find, not, is_none, option_map, option_and_then, IsTrue, chars, IsUtf8, IsAscii, nat_eq, codes, bytes_eq, get_or, Bool, true, false, cond, Option, Some, None, refl, sym, ap, ◌∙◌, arith, inl, inr, subst, lit<}
-use Rattle.std.specs.Prelude.{◌&&◌, ◌||◌, unwrap_or, slice_index, nat_lt}
+use Rattle.std.proofs.Common.{◌≡◌, ℕ, zero, suc, ◌+◌, ◌-◌, ◌<◌, ◌≤◌, ◌==◌, List, [], ◌∷◌, ◌++◌, length, map, take, drop, find, not, is_none, option_map, option_and_then, IsTrue, chars, IsUtf8, IsAscii, nat_eq, codes, bytes_eq, get_or, Bool, true, false, cond, Option, Some, None, refl, sym, ap, ◌∙◌, arith, subst, lit<}
+use Rattle.std.specs.Prelude.{◌&&◌, nat_lt}
 use Rattle.std.specs.Char.{to_ascii_lowercase}
 use Rattle.std.specs.List.{enumerate_from, ends_with}
 use Rattle.std.proofs.lemmas.Bool.{false≢true}
@@ -9,12 +9,12 @@ use Rattle.tame_names.proofs.Ascii.{name-IsAscii, none_found}
 use Rattle.tame_names.proofs.Relative.{path_relative}
 use Rattle.tame_local.specs.CrateFiles.{components, crate_file, dash_from, ending, parted, stem_components}
 use Rattle.std.proofs.Math.Dec.{eqb-suc-zero}
-use Rattle.std.proofs.lemmas.Bool.{cases_Bool, false_from_ne_true}
+use Rattle.std.proofs.lemmas.Bool.{false_from_ne_true}
 use Rattle.std.proofs.lemmas.Bool.Decides.{nat_tests}
 use Rattle.std.proofs.lemmas.List.{append_assoc, append-nil, map-append, length-append, get_or-append_right}
 use Rattle.std.proofs.lemmas.Slice.Eq.{bytes_eq-Decides}
 use Rattle.tame_names.specs.Names.{HasCharacter, HasLength, first_invalid, is_name, is_name_char, prefix, relative_path, separator}
-use Rattle.tame_names.specs.Paths.{begins_with_slash, cut_at_last, cut_onto, ends_with_slash, file_name, in_front, is_same, join, parent, parent_of_plain, plain_path}
+use Rattle.tame_names.specs.Paths.{begins_with_slash, cut_at_last, ends_with_slash, file_name, is_same, join, parent, parent_of_plain, plain_path}
 use Rattle.tame_names.specs.Pieces.{without_end}
 use Rattle.tame_local.specs.CrateFiles.{Lacks}
 

@@ -1,12 +1,12 @@
 -- What a change leaves at the other paths.
-use Rattle.std.proofs.Common.{◌≡◌, ◌⊎◌, ℕ, suc, ◌+◌, ◌<◌, ◌≤◌, ◌==◌, List, [], ◌∷◌, ◌++◌, length, take, codes, bytes_eq, Bool, true, false, cond, Option, Some, None, refl, sym, ap, ◌∙◌, arith, inl, inr, subst}
+use Rattle.std.proofs.Common.{◌≡◌, ◌⊎◌, ℕ, suc, ◌+◌, ◌<◌, ◌≤◌, ◌==◌, List, [], ◌∷◌, ◌++◌, length, take, codes, bytes_eq, Bool, true, false, cond, Option, Some, None, refl, ap, ◌∙◌, arith, inl, inr}
 use Rattle.std.proofs.Math.Seq.{take-append_seam}
 use Rattle.std.proofs.Math.Dec.{eqb-suc-zero}
-use Rattle.std.proofs.lemmas.Bool.{cases_Bool, false_from_ne_true}
-use Rattle.std.proofs.lemmas.List.{append_assoc, length-append, length-take}
+use Rattle.std.proofs.lemmas.Bool.{false_from_ne_true}
+use Rattle.std.proofs.lemmas.List.{length-take}
 use Rattle.std.proofs.lemmas.Slice.Eq.{bytes_eq-Decides}
 use Rattle.tame_names.proofs.LastCuts.{without_end-within}
-use Rattle.tame_names.specs.Changes.{entry_of, is_folder, is_nothing, is_path_of, with_entry, with_folder_at, with_folders_at, with_gain_if, with_standing}
+use Rattle.tame_names.specs.Changes.{entry_of, is_folder, is_nothing, is_path_of, with_entry, with_folder_at, with_folders_at, with_standing}
 use Rattle.tame_names.specs.Paths.{is_same, parent, plain_path, way_to, ways_from, ways_to}
 use Rattle.tame_names.specs.Standing.{Standing, Nothing, File, Folder, Other}
 use Rattle.tame_names.specs.declared.host.Listed.{Listed}

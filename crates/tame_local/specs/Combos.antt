@@ -5,6 +5,7 @@ use Rattle.tame_names.specs.declared.errors.Error.{Error}
 use Rattle.tame_names.specs.declared.errors.Error.TheVariants as error
 use Rattle.tame_names.specs.declared.errors.IoKind.TheVariants as io_kind
 use Rattle.tame_names.specs.declared.host.FailedCall.{FailedCall}
+use Rattle.tame_names.specs.declared.host.FileCall.TheVariants as file_call
 use Rattle.tame_location.specs.Homes.{AddsHomeCall, IsHomeCall, IsTold}
 use Rattle.tame_location.specs.IndexUrls.{is_sparse}
 use Rattle.tame_location.specs.declared.index_urls.IndexUrl.{IndexUrl}
@@ -15,7 +16,8 @@ use Rattle.tame_cache.specs.CacheFiles.{HandsOut}
 use Rattle.tame_cache.specs.Disk.{File}
 use Rattle.tame_cache.specs.Kept.{cache_file_of}
 use Rattle.tame_sparse.specs.Located.{IsPlaceError, git_place, missing_sparse, sparse_for_git, sparse_place}
-use Rattle.tame_local.specs.Refusals.{AddsFailed, IsFailedAt, IsNoFolderAt, is_told, refused}
+use Rattle.tame_local.specs.Calls.{AddsFailed, IsCallOn}
+use Rattle.tame_local.specs.Refusals.{IsFailedAt, IsNoFolderAt, is_told, refused}
 use Rattle.tame_local.specs.Registries.{HandsOutFile, index_at, index_file, index_of}
 use Rattle.tame_local.specs.declared.combos.ComboIndexCache.{ComboIndexCache}
 use Rattle.tame_local.specs.declared.combos.ComboIndexCache.TheVariants as combo
@@ -56,6 +58,12 @@ abbrev pub IsCombinedError : Kept → List ℕ → Error → Type 0
 IsCombinedError (InCache root url) name e =
     (e ≡ error.NoMemory) ⊎ (e ≡ error.Io io_kind.Failed)
 IsCombinedError (InIndex index) name e = IsFailedAt (index_file index name) e
+
+-- the reading of the crate's file of an index; in a cache the files aren't called
+abbrev pub IsEntryCall : Kept → List ℕ → List ℕ → FailedCall → Type 0
+IsEntryCall (InCache root url) name told call = ⊥
+IsEntryCall (InIndex index) name told call =
+    IsCallOn file_call.Read (index_file index name) told call
 
 -- ---- which cache there is at a location
 
@@ -103,8 +111,9 @@ IsOpenError location OfRepository e = IsPlaceError (sparse_for_git location.url)
 IsOpenError location (OfFolder path) e = IsNoFolderAt (index_of path) e
 
 -- a refusal by a call that failed adds that call to the failed ones, any other answer none: a call
--- for cargo's home, or for the folder of the path
+-- for cargo's home, or a look at the folder `index` of the path
 abbrev pub AddsOpenCall : {T : Type 0} → IndexKind → Host → List FailedCall → List FailedCall
     → Result T Error → Type 0
-AddsOpenCall (OfFolder path) host before now result = AddsFailed before now result
+AddsOpenCall (OfFolder path) host before now result =
+    AddsFailed (IsCallOn file_call.Kind (index_of path)) before now result
 AddsOpenCall kind host before now result = AddsHomeCall (IsHomeCall host) before now result

@@ -1,6 +1,6 @@
 -- The names of crate files: `<name>-<version>.crate` (Cargo Book, "Source Replacement", local
 -- registry sources).
-use Rattle.std.specs.Prelude.{◌≡◌, ℕ, suc, ◌-◌, codes, nat_eq, List, [], ◌∷◌, ◌++◌, length, take, drop, Bool, false, Option, Some, None, IsTrue, is_ok, option_and_then, option_map, ◌==◌, if◌then◌else◌}
+use Rattle.std.specs.Prelude.{◌≡◌, ℕ, suc, ◌-◌, codes, nat_eq, List, [], ◌∷◌, ◌++◌, length, take, drop, false, Option, Some, None, IsTrue, is_ok, option_and_then, option_map, ◌==◌, if◌then◌else◌}
 use Rattle.std.specs.List.{ends_with}
 use Rattle.std.specs.Str.{IsUtf8}
 use Rattle.semver.specs.Parse.{version_parts}

@@ -1,7 +1,6 @@
 -- Crates that are inserted into a registry, one after the other (this project).
-use Rattle.std.specs.Prelude.{◌≡◌, ◌<◌, ◌^◌, ℕ, List, [], ◌∷◌, length, Bool, true, false, Option, Some, None, is_ok, IfSome, IsTrue, Result, Ok}
+use Rattle.std.specs.Prelude.{◌≡◌, ◌<◌, ◌^◌, ℕ, List, [], ◌∷◌, length, true, false, Some, None, is_ok, IfSome, IsTrue, Ok}
 use Rattle.std.specs.Str.{IsUtf8}
-use Rattle.std.specs.List.{All}
 use Rattle.semver.specs.Parse.{version_parts}
 use Rattle.tame_names.specs.Changes.{AreFolders, is_folder}
 use Rattle.tame_names.specs.Paths.{ends_with_slash, is_same, ways_to}

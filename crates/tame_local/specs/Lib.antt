@@ -1,4 +1,5 @@
 pub mod Builders
+pub mod Calls
 pub mod Combos
 pub mod CrateFiles
 pub mod Digests

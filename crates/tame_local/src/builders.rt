@@ -1,14 +1,16 @@
 //! Local registries that are built.
-ghost use Rattle.std.specs.Prelude.{◌≡◌, ◌⊎◌, ◌<◌, ◌+◌, ◌-◌, ◌^◌, [], length, unwrap_or, min, Ok, Err, IfOk, IfErr, OnOk, IsTrue};
+ghost use Rattle.std.specs.Prelude.{◌≡◌, ◌⊎◌, ◌<◌, ◌+◌, ◌-◌, ◌^◌, [], ◌∷◌, length, unwrap_or, min, Ok, Err, IfOk, IfErr, OnOk, IsTrue};
 ghost use Rattle.tame_names.specs.Changes.{AreFolders};
 ghost use Rattle.tame_names.specs.KrateNames.{text_of};
 ghost use Rattle.tame_names.specs.Paths as paths_spec;
+ghost use Rattle.tame_names.specs.declared.host.FileCall.TheVariants as FileCall;
 ghost use Rattle.tame_records.specs.Written.{json_lines};
 ghost use Rattle.tame_sparse.specs.Git.{first_name};
 ghost use Rattle.tame_local.specs.Builders.{Changes, ChangesAll, IsCreateError, IsInsertError, absent_at, crates_made, created, free_at, inserted, insertable, size_of};
 ghost use Rattle.tame_local.specs.Builders as spec;
+ghost use Rattle.tame_local.specs.Calls.{AddsFailed, HasFileCause, IsCallOn, IsCreateCall, IsFolderCall, IsFreeCall, IsCreatesCall, IsInsertCall, IsRegistryCall, IsWriteCall};
 ghost use Rattle.tame_local.specs.CrateFiles.{crate_file};
-ghost use Rattle.tame_local.specs.Refusals.{AddsFailed, HasFileCause, IsFailedError, IsRegistryError, is_told, refused};
+ghost use Rattle.tame_local.specs.Refusals.{IsFailedError, IsRegistryError, is_told, refused};
 ghost use Rattle.tame_local.specs.Registries.{index_file, index_of, registry_at};
 
 use crate::digests::ValidKrate;
@@ -35,7 +37,8 @@ fn check_free<F: Files>(alloc: Global, files: &mut F, path: &str) -> Result<(), 
         → free_at path.now ((F.host files.old).stands path.now) ≡ Err (refused e)) }
     ensures only { IfErr result IsCreateError }
     ensures cause { HasFileCause (F.faults files.old) (F.faults files.new) result }
-    ensures failed { F.tells → AddsFailed (F.failed files.old) (F.failed files.new) result }
+    ensures failed { F.tells → AddsFailed (IsFreeCall (F.host files.old) path.now)
+        (F.failed files.old) (F.failed files.new) result }
     ensures same { F.tells → F.host files.new ≡ F.host files.old }
 {
     let copy = Text::of(alloc, path)?;
@@ -76,7 +79,8 @@ fn make_folder<F: Files>(
         (AreFolders (paths_spec.ways_to folder.now) (F.host files.old).stands) }
     ensures only { IfErr result IsFailedError }
     ensures cause { HasFileCause (F.faults files.old) (F.faults files.new) result }
-    ensures failed { F.tells → AddsFailed (F.failed files.old) (F.failed files.new) result }
+    ensures failed { F.tells → AddsFailed (IsFolderCall folder.now wanted.now)
+        (F.failed files.old) (F.failed files.new) result }
 {
     let copy = Text::of(alloc, wanted)?;
     match files.make_dirs(folder) {
@@ -91,7 +95,8 @@ fn make_file<F: Files>(alloc: Global, files: &mut F, path: &str, bytes: &[u8]) -
         (F.host files.new) result }
     ensures only { IfErr result IsFailedError }
     ensures cause { HasFileCause (F.faults files.old) (F.faults files.new) result }
-    ensures failed { F.tells → AddsFailed (F.failed files.old) (F.failed files.new) result }
+    ensures failed { F.tells → AddsFailed (IsCallOn FileCall.Create path.now)
+        (F.failed files.old) (F.failed files.new) result }
 {
     let copy = Text::of(alloc, path)?;
     match files.create(path, bytes) {
@@ -108,7 +113,8 @@ fn check_absent<F: Files>(alloc: Global, files: &mut F, path: &str) -> Result<()
         → absent_at path.now ((F.host files.old).stands path.now) ≡ Err (refused e)) }
     ensures only { IfErr result IsInsertError }
     ensures cause { HasFileCause (F.faults files.old) (F.faults files.new) result }
-    ensures failed { F.tells → AddsFailed (F.failed files.old) (F.failed files.new) result }
+    ensures failed { F.tells → AddsFailed (IsCallOn FileCall.Kind path.now)
+        (F.failed files.old) (F.failed files.new) result }
     ensures same { F.tells → F.host files.new ≡ F.host files.old }
 {
     let copy = Text::of(alloc, path)?;
@@ -164,7 +170,9 @@ fn make_crate_file<F: Files>(
     ensures count { IfOk result (λ n. n ≡ length krate.now.buff) }
     ensures only { IfErr result IsFailedError }
     ensures cause { HasFileCause (F.faults files.old) (F.faults files.new) result }
-    ensures failed { F.tells → AddsFailed (F.failed files.old) (F.failed files.new) result }
+    ensures failed { F.tells → AddsFailed
+        (IsCreatesCall (spec.crate_made registry.now krate.now ∷ []))
+        (F.failed files.old) (F.failed files.new) result }
 {
     let bytes = krate.bytes();
     let version = krate.version();
@@ -193,7 +201,9 @@ fn make_crate_files<F: Files>(
         ≡ min (front + size_of (crates_made registry.now krates.now)) (2 ^ 64 - 1)) }
     ensures only { IfErr result IsFailedError }
     ensures cause { HasFileCause (F.faults files.old) (F.faults files.new) result }
-    ensures failed { F.tells → AddsFailed (F.failed files.old) (F.failed files.new) result }
+    ensures failed { F.tells → AddsFailed
+        (IsCreatesCall (crates_made registry.now krates.now))
+        (F.failed files.old) (F.failed files.new) result }
 {
     let mut written = front;
     for krate in krates {
@@ -227,7 +237,8 @@ impl LocalRegistryBuilder {
             → F.host files.new ≡ F.host files.old) }
         ensures only { IfErr result IsCreateError }
         ensures cause { HasFileCause (F.faults files.old) (F.faults files.new) result }
-        ensures failed { F.tells → AddsFailed (F.failed files.old) (F.failed files.new) result }
+        ensures failed { F.tells → AddsFailed (IsCreateCall (F.host files.old) path)
+            (F.failed files.old) (F.failed files.new) result }
     {
         check_free(alloc, files, path.as_str())?;
         let index = join(alloc, path.as_str(), "index")?;
@@ -269,7 +280,9 @@ impl LocalRegistryBuilder {
             (first_name krate.now.versions) krate.now.versions krates.now)) (2 ^ 64 - 1)) }
         ensures only { IfErr result IsInsertError }
         ensures cause { HasFileCause (F.faults files.old) (F.faults files.new) result }
-        ensures failed { F.tells → AddsFailed (F.failed files.old) (F.failed files.new) result }
+        ensures failed { F.tells → AddsFailed
+            (IsInsertCall (F.host files.old) self.now.path krate.now.versions krates.now)
+            (F.failed files.old) (F.failed files.new) result }
     {
         let name = match KrateName::try_from(name_of(krate)) {
             Ok(name) => name,
@@ -307,7 +320,9 @@ impl LocalRegistryBuilder {
             lines.now krates.now)) (2 ^ 64 - 1)) }
         ensures only { IfErr result IsFailedError }
         ensures cause { HasFileCause (F.faults files.old) (F.faults files.new) result }
-        ensures failed { F.tells → AddsFailed (F.failed files.old) (F.failed files.new) result }
+        ensures failed { F.tells → AddsFailed (IsWriteCall file.now
+            (spec.written self.now.path file.now lines.now krates.now))
+            (F.failed files.old) (F.failed files.new) result }
     {
         let folder = parent(file).unwrap_or("");
         make_folder(alloc, files, folder, file)?;
@@ -329,7 +344,8 @@ impl LocalRegistryBuilder {
             → registry_at (F.host files.old) self.path validate ≡ Err (refused e)) }
         ensures only { IfErr result IsRegistryError }
         ensures cause { HasFileCause (F.faults files.old) (F.faults files.new) result }
-        ensures failed { F.tells → AddsFailed (F.failed files.old) (F.failed files.new) result }
+        ensures failed { F.tells → AddsFailed (IsRegistryCall (F.host files.old) self.path validate)
+            (F.failed files.old) (F.failed files.new) result }
         ensures same { F.tells → F.host files.new ≡ F.host files.old }
     {
         LocalRegistry::open(alloc, files, self.path, validate)

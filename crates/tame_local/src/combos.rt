@@ -4,8 +4,8 @@ ghost use Rattle.tame_names.specs.Counts.{CountRose};
 ghost use Rattle.tame_names.specs.KrateNames.{text_of};
 ghost use Rattle.tame_cache.specs.Disk.{reads};
 ghost use Rattle.tame_local.specs.Combos as spec;
-ghost use Rattle.tame_local.specs.Refusals.{AddsFailed};
-ghost use Rattle.tame_local.specs.Combos.{AddsOpenCall, IsCached, IsCombinedError, IsIndexed, IsOpenError, IsOpened, cached_file_of, file_of, kept_in, kind_of};
+ghost use Rattle.tame_local.specs.Calls.{AddsFailed};
+ghost use Rattle.tame_local.specs.Combos.{AddsOpenCall, InCache, InIndex, IsCached, IsCombinedError, IsEntryCall, IsIndexed, IsOpenError, IsOpened, cached_file_of, file_of, kept_in, kind_of};
 
 use crate::indexes::LocalIndex;
 use crate::registries::LocalRegistry;
@@ -19,11 +19,13 @@ use tame_sparse::{GitIndex, SparseIndex};
 /// The cache of an index, whatever the index is.
 #[derive(Drop)]
 pub enum ComboIndexCache {
+    /// The cache of an index in a git repository.
     Git(GitIndex),
+    /// The cache of a sparse index.
     Sparse(SparseIndex),
-    /// An index in a folder.
+    /// An index in a folder, which needs no cache.
     Local(LocalIndex),
-    /// The index of a local registry.
+    /// The index of a local registry, which `new` never makes.
     LocalRegistry(LocalRegistry),
 }
 
@@ -73,8 +75,9 @@ impl ComboIndexCache {
         }
     }
 
-    /// The entry of a crate, as the index of its kind hands it out; nothing where there is none. A
-    /// failed read is `Io(Failed)` of a cache, and `IoPath(Failed)` of a local index.
+    /// The entry of a crate, as the index of its kind hands it out; nothing where there is none. Of
+    /// a cache the disk alone is called, and of a local index the files alone. A failed read is
+    /// `Io(Failed)` of a cache, and `IoPath(Failed)` of a local index.
     pub fn cached_krate<'l, F: Files, D: CacheDisk>(
         &self,
         alloc: Global,
@@ -96,7 +99,13 @@ impl ComboIndexCache {
             → CountRose (F.faults files.old) (F.faults files.new) }
         ensures disk_later { D.faults disk.old ≤ D.faults disk.new }
         ensures files_later { F.faults files.old ≤ F.faults files.new }
-        ensures failed { F.tells → AddsFailed (F.failed files.old) (F.failed files.new) result }
+        ensures failed { F.tells → AddsFailed
+            (IsEntryCall (kept_in self.now) (text_of name.entry))
+            (F.failed files.old) (F.failed files.new) result }
+        ensures disk_uncalled { (index : List ℕ) → kept_in self.now ≡ InIndex index
+            → disk.new ≡ disk.old }
+        ensures files_uncalled { (root url : List ℕ) → kept_in self.now ≡ InCache root url
+            → files.new ≡ files.old }
         ensures disk_same { D.tells → (q : List ℕ) → D.past disk.new q ≡ D.past disk.old q }
         ensures disk_folders { D.tells → D.folders disk.new ≡ D.folders disk.old }
         ensures files_same { F.tells → F.host files.new ≡ F.host files.old }
@@ -111,7 +120,7 @@ impl ComboIndexCache {
         }
     }
 
-    /// The path of the file of a crate.
+    /// The path of the file of a crate, in the cache or in the local index.
     pub fn cache_path(&self, alloc: Global, name: KrateName<'_>) -> Result<Text, NoMemory>
         ensures { IfOk result (λ path. file_of (kept_in self.now) (text_of name.entry)
             ≡ Some path) }

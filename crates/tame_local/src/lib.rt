@@ -17,6 +17,7 @@ mod combos;
 mod crate_files;
 mod digests;
 mod faults;
+mod file_digests;
 mod indexes;
 mod laws;
 mod listings;

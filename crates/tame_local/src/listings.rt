@@ -1,6 +1,7 @@
 //! The crate files of a registry, by the entries of its folder.
 ghost use Rattle.std.specs.Prelude.{◌≡◌, [], Ok, Err, Some, IfOk, IfErr, IsTrue, option_map};
-ghost use Rattle.tame_local.specs.Refusals.{AddsFailed, HasFileCause, IsFolderError, and_then, is_told, refused};
+ghost use Rattle.tame_local.specs.Calls.{AddsFailed, HasFileCause, IsListingCall};
+ghost use Rattle.tame_local.specs.Refusals.{IsFolderError, and_then, is_told, refused};
 ghost use Rattle.tame_local.specs.Registries.{crate_file_names, folder_at};
 ghost use Rattle.tame_local.specs.Registries as spec;
 
@@ -54,7 +55,8 @@ fn entries_at<F: Files>(alloc: Global, files: &mut F, path: &str) -> Result<Item
         → folder_at path.now ((F.host files.old).stands path.now) ≡ Err (refused e)) }
     ensures only { IfErr result IsFolderError }
     ensures cause { HasFileCause (F.faults files.old) (F.faults files.new) result }
-    ensures failed { F.tells → AddsFailed (F.failed files.old) (F.failed files.new) result }
+    ensures failed { F.tells → AddsFailed (IsListingCall (F.host files.old) path.now)
+        (F.failed files.old) (F.failed files.new) result }
     ensures same { F.tells → F.host files.new ≡ F.host files.old }
 {
     let copy = Text::of(alloc, path)?;
@@ -85,7 +87,8 @@ pub(crate) fn names_at<F: Files>(
         → folder_at path.now ((F.host files.old).stands path.now) ≡ Err (refused e)) }
     ensures only { IfErr result IsFolderError }
     ensures cause { HasFileCause (F.faults files.old) (F.faults files.new) result }
-    ensures failed { F.tells → AddsFailed (F.failed files.old) (F.failed files.new) result }
+    ensures failed { F.tells → AddsFailed (IsListingCall (F.host files.old) path.now)
+        (F.failed files.old) (F.failed files.new) result }
     ensures same { F.tells → F.host files.new ≡ F.host files.old }
 {
     let entries = entries_at(alloc, files, path)?;

@@ -2,7 +2,9 @@
 ghost use Rattle.std.specs.Prelude.{◌≡◌, ◌⊎◌, ℕ, List, Ok, Err, Some, None, IfOk, IfErr, OnOk, IsSome, IsTrue, option_map};
 ghost use Rattle.std.specs.BTreeMap.{get_by_text};
 ghost use Rattle.tame_names.specs.Standing.{Host};
-ghost use Rattle.tame_local.specs.Refusals.{AddsFailed, HasFileCause, IsReadError, IsRegistryError, and_then, is_told, refused};
+ghost use Rattle.tame_names.specs.declared.host.FileCall.TheVariants as FileCall;
+ghost use Rattle.tame_local.specs.Calls.{AddsFailed, HasFileCause, IsCallOn};
+ghost use Rattle.tame_local.specs.Refusals.{IsReadError, IsRegistryError, and_then, is_told, refused};
 ghost use Rattle.tame_local.specs.Registries.{AreRead, record_with, records_at, sum_in};
 ghost use Rattle.tame_local.specs.Registries as spec;
 
@@ -14,14 +16,15 @@ use tame_records::{Chksum, IndexKrate, IndexVersion};
 
 /// The bytes of the file at a path. `IoPath`: `NotFound` where nothing is there, `Failed` where it
 /// can't be read.
-pub(crate) fn bytes_at<F: Files>(alloc: Global, files: &mut F, path: &str) -> Result<Vec<u8>, Error>
+fn bytes_at<F: Files>(alloc: Global, files: &mut F, path: &str) -> Result<Vec<u8>, Error>
     ensures ok { F.tells → IfOk result (λ bytes.
         spec.bytes_at path.now ((F.host files.old).stands path.now) ≡ Ok bytes.items) }
     ensures refused { F.tells → IfErr result (λ e. IsTrue (is_told e)
         → spec.bytes_at path.now ((F.host files.old).stands path.now) ≡ Err (refused e)) }
     ensures only { IfErr result IsReadError }
     ensures cause { HasFileCause (F.faults files.old) (F.faults files.new) result }
-    ensures failed { F.tells → AddsFailed (F.failed files.old) (F.failed files.new) result }
+    ensures failed { F.tells → AddsFailed (IsCallOn FileCall.Read path.now)
+        (F.failed files.old) (F.failed files.new) result }
     ensures same { F.tells → F.host files.new ≡ F.host files.old }
 {
     let copy = Text::of(alloc, path)?;
@@ -74,7 +77,8 @@ fn records_at<F: Files>(alloc: Global, files: &mut F, path: &str) -> Result<Inde
         → records_at (F.host files.old) path.now ≡ Err (refused e)) }
     ensures only { IfErr result IsRegistryError }
     ensures cause { HasFileCause (F.faults files.old) (F.faults files.new) result }
-    ensures failed { F.tells → AddsFailed (F.failed files.old) (F.failed files.new) result }
+    ensures failed { F.tells → AddsFailed (IsCallOn FileCall.Read path.now)
+        (F.failed files.old) (F.failed files.new) result }
     ensures same { F.tells → F.host files.new ≡ F.host files.old }
 {
     let body = bytes_at(alloc, files, path)?;
@@ -131,7 +135,8 @@ impl ReadFiles {
         ensures there { OnOk result (IsSome (get_by_text self.new.krates path.now)) }
         ensures only { IfErr result IsRegistryError }
         ensures cause { HasFileCause (F.faults files.old) (F.faults files.new) result }
-        ensures failed { F.tells → AddsFailed (F.failed files.old) (F.failed files.new) result }
+        ensures failed { F.tells → AddsFailed (IsCallOn FileCall.Read path.now)
+            (F.failed files.old) (F.failed files.new) result }
         ensures same { F.tells → F.host files.new ≡ F.host files.old }
     {
         if let Some(krate) = self.krates.get(path) {

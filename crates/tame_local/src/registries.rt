@@ -1,6 +1,7 @@
 //! Local registries.
 ghost use Rattle.std.specs.Prelude.{◌≡◌, Ok, Err, IfOk, IfErr, OnOk, IsTrue};
-ghost use Rattle.tame_local.specs.Refusals.{AddsFailed, HasFileCause, IsRegistryError, is_told, refused};
+ghost use Rattle.tame_local.specs.Calls.{AddsFailed, HasFileCause, IsRegistryCall, IsValidateCall};
+ghost use Rattle.tame_local.specs.Refusals.{IsRegistryError, is_told, refused};
 ghost use Rattle.tame_local.specs.Registries.{registry_at, validated};
 
 use crate::faults::failed;
@@ -18,8 +19,12 @@ pub struct LocalRegistry {
 
 impl LocalRegistry {
     /// The registry at a path, which has its index in the folder `index`; it is validated where
-    /// that is wanted. `IoPath` of that folder: `NotFound` where nothing is there, `NotADirectory`
-    /// where something else is, `Failed` where it can't be looked at; else as `validate`.
+    /// that is wanted, and else nothing in it is looked at.
+    ///
+    /// `IoPath` of that folder: `NotFound` where nothing is there, `NotADirectory` where something
+    /// else is, `Failed` where it can't be looked at. Where it is validated, as `validate` of this
+    /// index: then each `IoPath` may also be of an index file, of a crate file, or of the path
+    /// itself, which is their folder.
     pub fn open<F: Files>(
         alloc: Global,
         files: &mut F,
@@ -32,7 +37,8 @@ impl LocalRegistry {
             → registry_at (F.host files.old) path validate ≡ Err (refused e)) }
         ensures only { IfErr result IsRegistryError }
         ensures cause { HasFileCause (F.faults files.old) (F.faults files.new) result }
-        ensures failed { F.tells → AddsFailed (F.failed files.old) (F.failed files.new) result }
+        ensures failed { F.tells → AddsFailed (IsRegistryCall (F.host files.old) path validate)
+            (F.failed files.old) (F.failed files.new) result }
         ensures same { F.tells → F.host files.new ≡ F.host files.old }
     {
         let below = join(alloc, path.as_str(), "index")?;
@@ -64,15 +70,18 @@ impl LocalRegistry {
     ///
     /// The first reason why not: `InvalidKrateName`, `IoPath` of the index file, `Json` or
     /// `NoCrateVersions` of its lines, `Local(MissingVersion)`, `IoPath` of the crate file,
-    /// `Local(ChecksumMismatch)`; `IoPath` of the folder of the crate files, which is the one above
-    /// the index, where no folder is there or it can't be listed.
+    /// `Local(ChecksumMismatch)`. Of a file, `IoPath` is `NotFound` where nothing is there, and
+    /// `Failed` where it can't be read. Before all of them `IoPath` of the folder of the crate
+    /// files, which is the one above the index: `NotFound` where nothing is there, `NotADirectory`
+    /// where something else is, `Failed` where it can't be listed or looked at.
     pub fn validate<F: Files>(alloc: Global, files: &mut F, index: &LocalIndex) -> Result<(), Error>
         ensures ok { F.tells → OnOk result (validated (F.host files.old) index.now.path ≡ Ok tt) }
         ensures refused { F.tells → IfErr result (λ e. IsTrue (is_told e)
             → validated (F.host files.old) index.now.path ≡ Err (refused e)) }
         ensures only { IfErr result IsRegistryError }
         ensures cause { HasFileCause (F.faults files.old) (F.faults files.new) result }
-        ensures failed { F.tells → AddsFailed (F.failed files.old) (F.failed files.new) result }
+        ensures failed { F.tells → AddsFailed (IsValidateCall (F.host files.old) index.now.path)
+            (F.failed files.old) (F.failed files.new) result }
         ensures same { F.tells → F.host files.new ≡ F.host files.old }
     {
         let folder = crates_folder(index.path());

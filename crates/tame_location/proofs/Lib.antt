@@ -1,4 +1,4 @@
-pub mod ByFiles
+pub mod Asked
 pub mod Cuts
 pub mod Locking
 pub mod Mapped

@@ -1,10 +1,12 @@
 -- Takings of locks.
-use Rattle.std.proofs.Common.{◌≡◌, ◌<◌, ◌+◌, ◌-◌, ℕ, suc, List, Bool, false, Option, Result, Ok, Err, refl, arith, subst}
+use Rattle.std.proofs.Common.{◌≡◌, ◌<◌, ◌+◌, ◌-◌, ℕ, suc, List, Bool, false, Option, Result, Ok, Err, refl, arith, subst, ◌∙◌}
 use Rattle.tame_names.specs.declared.errors.LockError.{LockError}
+use Rattle.tame_names.specs.Locks.{Locks}
 use Rattle.tame_names.specs.declared.host.LockTakeFault.{LockTakeFault}
+use Rattle.tame_names.specs.declared.host.OpenedLock.{OpenedLock}
 use Rattle.tame_names.specs.declared.locks.FileLock.{FileLock}
 use Rattle.tame_names.specs.declared.locks.LockState.{LockState}
-use Rattle.tame_location.specs.Locks.{AreTries, GoesOn, Moment, Takes, TellsHeld, TellsLock, answer_of}
+use Rattle.tame_location.specs.Locks.{AreTries, GoesOn, IsHeld, IsLeft, IsTakenAt, IsTaking, Moment, Takes, TellsHeld, TellsLock, TellsTaken, answer_of, is_exclusive}
 use Rattle.tame_location.specs.declared.locks.Refusal.{Refusal}
 use Rattle.tame_location.specs.declared.locks.Refusal.TheVariants as refusal
 
@@ -27,3 +29,24 @@ pub answered : (path : List ℕ) (holds : Result LockState LockError → Type 0)
 answered path holds (Ok held) h = h
 answered path holds (Err (refusal.Lock e)) h = (refl, h)
 answered path holds (Err refusal.NoMemory) h = tt
+
+-- a taking of the same path, in the same way
+pub taken-as : (p path : List ℕ) (e alone block : Bool) (m n : Moment) (r : Result Unit LockError)
+    → p ≡ path → e ≡ alone → IsTaking p e block m n r → IsTaking path alone block m n r
+taken-as p path e alone block m n r is same t =
+    subst (λ q. IsTaking q alone block m n r) is (subst (λ a. IsTaking p a block m n r) same t)
+
+-- a refused taking of what was opened: the lock is refused likewise
+pub refused-as : (p path : List ℕ) (e : Bool) (s : LockState) (opening : Moment → Moment → Result LockState LockError → Type 0) (m n k : Moment) (why : Refusal)
+    → p ≡ path → e ≡ is_exclusive s → opening m n (Ok s) → TellsTaken (IsTaking p e false n k) (Err why)
+    → TellsHeld (IsHeld opening (λ alone. IsTaking path alone false) m k) (Err why)
+refused-as p path e s opening m n k (refusal.Lock x) is same opened t =
+    (n, Ok s, opened, (Err x, taken-as p path e (is_exclusive s) false n k (Err x) is same t, refl))
+refused-as p path e s opening m n k refusal.NoMemory is same opened t = tt
+
+-- what is left by a contested try is what was left before it
+pub left_on : (file : OpenedLock) (a b c : Locks) (r : Result Unit LockTakeFault) (f : LockTakeFault)
+    → r ≡ Err f → IsTakenAt file (Ok r) b c → IsLeft a b → IsLeft a c
+left_on file a b c r f is t l =
+    let s : IsLeft b c = subst (λ (x : Result Unit LockTakeFault). IsTakenAt file (Ok x) b c) is t in
+    record { opened = s.opened ∙ l.opened; taken = s.taken ∙ l.taken }

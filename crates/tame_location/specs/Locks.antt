@@ -1,17 +1,17 @@
 -- The lock of a file, as cargo takes it on its package cache (this project, by what cargo does).
-use Rattle.std.specs.Prelude.{◌≡◌, ◌≢◌, ℕ, zero, suc, codes, List, [], ◌∷◌, take, Bool, true, false, Option, Some, None, IfSome, Result, Ok, Err}
+use Rattle.std.specs.Prelude.{◌≡◌, ◌≢◌, ℕ, zero, suc, codes, List, [], ◌∷◌, ◌++◌, take, Bool, true, false, Option, Some, None, IfSome, Result, Ok, Err}
 use Rattle.toml_tables.specs.Results.{and_then}
 use Rattle.tame_names.specs.Changes.{with_folders}
-use Rattle.tame_names.specs.Locks.{AddsStep, HasLockCause, MayMake, open_step, take_step}
+use Rattle.tame_names.specs.Locks.{HasLockCause, Locks, MayMake, open_step, take_step}
 use Rattle.tame_names.specs.Paths.{join, parent, ways_to}
 use Rattle.tame_names.specs.Standing.{Host}
 use Rattle.tame_names.specs.declared.errors.Error.{Error}
 use Rattle.tame_names.specs.declared.errors.Error.TheVariants as fault
 use Rattle.tame_names.specs.declared.errors.LockError.{LockError}
 use Rattle.tame_names.specs.declared.errors.LockError.TheVariants as error
+use Rattle.tame_names.specs.declared.errors.NoMemory.{NoMemory}
 use Rattle.tame_names.specs.declared.host.LockOpenFault.{LockOpenFault}
 use Rattle.tame_names.specs.declared.host.LockOpenFault.TheVariants as open_fault
-use Rattle.tame_names.specs.declared.host.LockStep.{LockStep}
 use Rattle.tame_names.specs.declared.host.LockTakeFault.{LockTakeFault}
 use Rattle.tame_names.specs.declared.host.LockTakeFault.TheVariants as take_fault
 use Rattle.tame_names.specs.declared.host.OpenedLock.{OpenedLock}
@@ -24,21 +24,21 @@ use Rattle.tame_location.specs.declared.locks.Refusal.TheVariants as refusal
 
 -- ---- steps
 
--- a host at a moment: the steps on locks up to then, what it has, and how often a call failed
+-- a host at a moment: what it was asked of locks up to then, what it has, and how often a call
+-- failed
 pub record Moment : Type 0 where
-  pub steps : List LockStep
+  pub locks : Locks
   pub host : Host
   pub faults : ℕ
 
-abbrev pub moment : List LockStep → Host → ℕ → Moment
-moment steps host faults = record { steps = steps; host = host; faults = faults }
+abbrev pub moment : Locks → Host → ℕ → Moment
+moment locks host faults = record { locks = locks; host = host; faults = faults }
 
 -- an opening of the file, and why it was refused, if it was: it is a step, a failed one was
 -- counted, and an exclusive one that wasn't refused, or failed, may have made an empty file
 pub record Opens (path : List ℕ) (exclusive : Bool) (why : Option LockOpenFault)
     (before now : Moment) : Type 0 where
-  pub step : AddsStep (why ≡ Some open_fault.Failed) (open_step path exclusive why)
-      before.steps now.steps
+  pub step : now.locks.steps ≡ before.locks.steps ++ open_step path exclusive why ∷ []
   pub cause : HasLockCause (why ≡ Some open_fault.Failed) before.faults now.faults
   pub made : MayMake exclusive path before.host now.host
   pub refused : IfSome why (λ f. f ≢ open_fault.Failed → now.host ≡ before.host)
@@ -46,8 +46,7 @@ pub record Opens (path : List ℕ) (exclusive : Bool) (why : Option LockOpenFaul
 -- a taking of its lock, and why it was refused, if it was
 pub record Takes (path : List ℕ) (exclusive block : Bool) (why : Option LockTakeFault)
     (before now : Moment) : Type 0 where
-  pub step : AddsStep (why ≡ Some take_fault.Failed) (take_step path exclusive block why)
-      before.steps now.steps
+  pub step : now.locks.steps ≡ before.locks.steps ++ take_step path exclusive block why ∷ []
   pub cause : HasLockCause (why ≡ Some take_fault.Failed) before.faults now.faults
   pub same : now.host ≡ before.host
 
@@ -96,7 +95,7 @@ AreMade false ways before now = (n : ℕ) × (now ≡ with_folders (take n ways)
 
 -- the making of a folder, which may fail: it is no step, and a failure was counted
 pub record MakesFolder (made : Bool) (folder : List ℕ) (before now : Moment) : Type 0 where
-  pub steps : now.steps ≡ before.steps
+  pub locks : now.locks ≡ before.locks
   pub cause : HasLockCause (made ≡ false) before.faults now.faults
   pub folders : AreMade made (ways_to folder) before.host now.host
 
@@ -215,7 +214,104 @@ abbrev pub IsLockedWaiting : (Option ℕ → Type 0) → Bool → Bool → List 
 IsLockedWaiting says exclusive fallback path before now held =
     IsHeld (IsOpening exclusive fallback path) (λ alone. IsWaiting says path alone) before now held
 
+-- ---- whose lock is taken
+
+-- no file more was given out, and no lock more was taken
+pub record IsLeft (before now : Locks) : Type 0 where
+  pub opened : now.opened ≡ before.opened
+  pub taken : now.taken ≡ before.taken
+
+-- this file is the last one that was given out; no lock more was taken
+pub record IsGiven (file : OpenedLock) (before now : Locks) : Type 0 where
+  pub opened : now.opened ≡ before.opened ++ file ∷ []
+  pub taken : now.taken ≡ before.taken
+
+-- an opening gives one file, or none
+abbrev pub GivesAt : Result (Result OpenedLock LockOpenFault) NoMemory → Locks → Locks → Type 0
+GivesAt (Ok (Ok file)) before now = IsGiven file before now
+GivesAt _ before now = IsLeft before now
+
+-- so do several of them, up to the first that isn't refused
+abbrev pub Gives : Result (OpenedLock × LockState) Refusal → Locks → Locks → Type 0
+Gives (Ok opened) before now = IsGiven opened.0 before now
+Gives (Err why) before now = IsLeft before now
+
+-- this file's lock is the last one that was taken; no file more was given out
+pub record IsTakenLast (file : OpenedLock) (before now : Locks) : Type 0 where
+  pub opened : now.opened ≡ before.opened
+  pub taken : now.taken ≡ before.taken ++ file ∷ []
+
+-- a taking takes the lock of this file, or none
+abbrev pub IsTakenAt : OpenedLock → Result (Result Unit LockTakeFault) NoMemory → Locks → Locks
+    → Type 0
+IsTakenAt file (Ok (Ok done)) before now = IsTakenLast file before now
+IsTakenAt file _ before now = IsLeft before now
+
+-- so do several of them, up to the first that takes it
+abbrev pub IsTakenBy : OpenedLock → Result Unit Refusal → Locks → Locks → Type 0
+IsTakenBy file (Ok done) before now = IsTakenLast file before now
+IsTakenBy file (Err why) before now = IsLeft before now
+
+-- the file that a lock holds is the only one that was given out, and the only one whose lock was
+-- taken
+pub record IsHeldBy (file : OpenedLock) (before now : Locks) : Type 0 where
+  pub opened : now.opened ≡ before.opened ++ file ∷ []
+  pub taken : now.taken ≡ before.taken ++ file ∷ []
+
+-- an answered lock holds the file whose lock was taken; any other answer leaves none taken
+abbrev pub Holds : {E : Type 0} → Result FileLock E → Locks → Locks → Type 0
+Holds (Ok held) before now = IsHeldBy held.opened before now
+Holds (Err why) before now = now.taken ≡ before.taken
+
+-- ---- why it isn't
+
+-- why a file isn't opened: no taking says so
+abbrev pub IsOpenRefusal : Refusal → Type 0
+IsOpenRefusal (refusal.Lock error.Open) = Unit {0}
+IsOpenRefusal (refusal.Lock error.Readonly) = Unit {0}
+IsOpenRefusal (refusal.Lock error.CreateDir) = Unit {0}
+IsOpenRefusal (refusal.Lock _) = ⊥
+IsOpenRefusal refusal.NoMemory = Unit {0}
+
+-- why one taking takes no lock: another one holds it only where it doesn't wait
+abbrev pub IsTakeRefusal : Bool → Refusal → Type 0
+IsTakeRefusal block (refusal.Lock error.Contested) = block ≡ false
+IsTakeRefusal block (refusal.Lock error.NotSupported) = Unit {0}
+IsTakeRefusal block (refusal.Lock error.Lock) = Unit {0}
+IsTakeRefusal block (refusal.Lock _) = ⊥
+IsTakeRefusal block refusal.NoMemory = Unit {0}
+
+-- why several tries take none
+abbrev pub IsTryRefusal : Refusal → Type 0
+IsTryRefusal (refusal.Lock error.TimedOut) = Unit {0}
+IsTryRefusal (refusal.Lock error.NotSupported) = Unit {0}
+IsTryRefusal (refusal.Lock error.Lock) = Unit {0}
+IsTryRefusal (refusal.Lock _) = ⊥
+IsTryRefusal refusal.NoMemory = Unit {0}
+
+-- why a file isn't locked: each reason but this one
+abbrev pub IsRefusal : LockError → Refusal → Type 0
+IsRefusal never (refusal.Lock e) = e ≢ never
+IsRefusal never refusal.NoMemory = Unit {0}
+
+-- the error of it: with the path, and each reason but this one; or want of memory
+abbrev pub IsLockedError : List ℕ → LockError → Error → Type 0
+IsLockedError path never (fault.Lock e) = (e.path ≡ path) × (e.source ≢ never)
+IsLockedError path never fault.NoMemory = Unit {0}
+IsLockedError path never _ = ⊥
+
+-- a taking failed, which the host has counted
+abbrev pub IsLockFault : Result FileLock Error → Type 0
+IsLockFault (Err (fault.Lock e)) = e.source ≡ error.Lock
+IsLockFault _ = ⊥
+
 -- ---- what is told
+
+-- what holds of a taking or of why there is none; nothing of want of memory
+abbrev pub TellsTaken : (Result Unit LockError → Type 0) → Result Unit Refusal → Type 0
+TellsTaken holds (Ok done) = holds (Ok tt)
+TellsTaken holds (Err (refusal.Lock e)) = holds (Err e)
+TellsTaken holds (Err refusal.NoMemory) = Unit {0}
 
 -- what holds of a state or of why there is none; nothing of want of memory
 abbrev pub Tells : (Result LockState LockError → Type 0) → Result (OpenedLock × LockState) Refusal

@@ -4,7 +4,8 @@ use Rattle.tame_names.specs.Paths.{join, parent}
 use Rattle.tame_names.specs.Standing.{Host}
 use Rattle.tame_names.specs.declared.errors.Error.{Error}
 use Rattle.tame_names.specs.declared.host.FailedCall.{FailedCall}
-use Rattle.tame_location.specs.Homes.{IsHomeCall, current_call, home_of}
+use Rattle.tame_location.specs.Calls.{current_call}
+use Rattle.tame_location.specs.Homes.{IsHomeCall, home_of}
 
 -- ---- the folders from one upwards
 

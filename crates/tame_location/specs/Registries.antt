@@ -1,7 +1,8 @@
 -- Which index a registry has (Cargo Book, "Registries", "Configuration" and "Source Replacement").
-use Rattle.std.specs.Prelude.{◌≡◌, ℕ, codes, List, [], ◌∷◌, ◌++◌, map, Bool, true, false, ◌==◌, Option, Some, None, if◌then◌else◌, Result, Ok, Err}
+use Rattle.std.specs.Prelude.{◌≡◌, ℕ, codes, List, [], ◌∷◌, ◌++◌, ◌⊎◌, map, Bool, true, false, ◌==◌, Option, Some, None, if◌then◌else◌, Result, Ok, Err, IfOk, IfErr}
 use Rattle.std.specs.Char.{to_ascii_uppercase}
 use Rattle.std.specs.Cow.{cow_str_bytes}
+use Rattle.std.specs.List.{Contains}
 use Rattle.std.specs.Str.{trim}
 use Rattle.toml_tables.specs.Results.{and_then}
 use Rattle.tame_names.specs.Standing.{Host}
@@ -11,11 +12,11 @@ use Rattle.tame_names.specs.declared.errors.IoKind.TheVariants as io
 use Rattle.tame_names.specs.declared.host.EnvValue.{EnvValue}
 use Rattle.tame_names.specs.declared.host.EnvValue.TheVariants as value
 use Rattle.tame_names.specs.declared.host.FailedCall.{FailedCall}
-use Rattle.tame_location.specs.Homes.{env_call}
+use Rattle.tame_location.specs.Calls.{AddsFailed, IsTold, env_call}
 use Rattle.tame_location.specs.IndexUrls.{git_index}
 use Rattle.tame_location.specs.Places.{AreSettingsFiles}
-use Rattle.tame_location.specs.Reading.{IsFileError, read_call}
-use Rattle.tame_location.specs.Settings.{first_answer, index_in, protocol, protocol_in, replacement}
+use Rattle.tame_location.specs.Reading.{IsFileError}
+use Rattle.tame_location.specs.Settings.{first_answer, index_in, protocol, protocol_in, reads, replacement, unless_answered}
 use Rattle.tame_location.specs.Versions.{is_at_least, version_of}
 use Rattle.tame_location.specs.declared.index_urls.IndexUrl.{IndexUrl}
 use Rattle.tame_location.specs.declared.index_urls.IndexUrl.TheVariants as url
@@ -72,6 +73,24 @@ abbrev pub crates_io_in : Host → List (List ℕ) → Option (List ℕ) → Res
 crates_io_in host paths version = and_then (or_crates_io host paths version)
     (first_answer (replacement (codes "crates-io") git_index) host paths)
 
+-- the calls behind the asking for the variable: none where it decides
+abbrev pub protocol_calls : Option Bool → Host → List (List ℕ) → List FailedCall
+protocol_calls (Some sparse) host paths = []
+protocol_calls None host paths = reads (λ path. protocol_in) host paths
+
+abbrev pub variable_calls : Host → List (List ℕ) → List FailedCall
+variable_calls host paths = env_call protocol_variable
+    ∷ protocol_calls (protocol_set (host.environment protocol_variable)) host paths
+
+-- the calls that this takes, in their order: the reads of files for what takes its place; where
+-- none says so the variable is asked for, and then the files are read for the protocol. No file
+-- behind one that answers is read
+abbrev pub crates_io_calls : Host → List (List ℕ) → List FailedCall
+crates_io_calls host paths =
+    reads (replacement (codes "crates-io") git_index) host paths
+    ++ unless_answered (first_answer (replacement (codes "crates-io") git_index) host paths)
+    (variable_calls host paths)
+
 -- ---- other registries
 
 -- a letter raised, and `-` as `_`
@@ -97,24 +116,61 @@ abbrev pub registry_in : Host → List (List ℕ) → List ℕ → Result HeldUr
 registry_in host paths name =
     and_then (indexed host paths name) (first_answer (λ path. index_in name) host paths)
 
+-- the calls behind the look for an index: the reads of files for what takes its place
+abbrev pub indexed_calls : Host → List (List ℕ) → List ℕ → Result (Option (List ℕ)) Error
+    → List FailedCall
+indexed_calls host paths name (Ok (Some index)) = reads (replacement name index) host paths
+indexed_calls host paths name _ = []
+
+-- the calls that this takes, in their order; no file behind one that answers is read
+abbrev pub registry_calls : Host → List (List ℕ) → List ℕ → List FailedCall
+registry_calls host paths name =
+    reads (λ path. index_in name) host paths
+    ++ indexed_calls host paths name (first_answer (λ path. index_in name) host paths)
+
 -- ---- what asking answers
 
--- by the files of settings, for the root and the home that are given
-abbrev pub IsByFiles : Option (List ℕ) → Option (List ℕ) → Host → List FailedCall
-    → List FailedCall → (List (List ℕ) → Result HeldUrl Error) → Result HeldUrl Error → Type 0
-IsByFiles root home host before now answer result =
-    (paths : List (List ℕ)) × AreSettingsFiles root home host before now paths
-    × (answer paths ≡ result)
+-- the answer by the files of settings for the root and the home that are given, and the call that
+-- failed, if one did
+pub record IsByFiles (root home : Option (List ℕ)) (host : Host) (before now : List FailedCall)
+    (calls : List (List ℕ) → List FailedCall) (answer : List (List ℕ) → Result HeldUrl Error)
+    (result : Result HeldUrl Error) : Type 0 where
+  -- the files, and the failed calls once they are told
+  pub paths : List (List ℕ)
+  pub middle : List FailedCall
+  pub files : AreSettingsFiles root home host before middle paths
+  -- a failed call behind that is one of those that these files take
+  pub failed : AddsFailed (Contains (calls paths)) middle now result
+  -- the answer is theirs
+  pub ok : IfOk result (λ found. answer paths ≡ Ok found)
+  pub refused : IfErr result (λ e. IsTold e → answer paths ≡ Err e)
 
--- the registry of a name: by its variable, else by the files
-abbrev pub IsRegistry : EnvValue → Option (List ℕ) → Option (List ℕ) → Host → List FailedCall
+-- the index of crates.io for a version of cargo
+abbrev pub IsCratesIo : Option (List ℕ) → Option (List ℕ) → Host → List FailedCall
+    → List FailedCall → Option (List ℕ) → Result HeldUrl Error → Type 0
+IsCratesIo root home host before now version result =
+    IsByFiles root home host before now (λ paths. crates_io_calls host paths)
+    (λ paths. crates_io_in host paths version) result
+
+-- the registry of a name, by the value of its variable: that value, else by the files
+abbrev pub IsRegistryBy : EnvValue → Option (List ℕ) → Option (List ℕ) → Host → List FailedCall
     → List FailedCall → List ℕ → Result HeldUrl Error → Type 0
-IsRegistry (value.Value index) root home host before now name result =
+IsRegistryBy (value.Value index) root home host before now name result =
     (result ≡ Ok (held.NonCratesIo index)) × (now ≡ before)
-IsRegistry value.NotUtf8 root home host before now name result =
+IsRegistryBy value.NotUtf8 root home host before now name result =
     (result ≡ Err (error.NonUtf8EnvVar (index_variable name))) × (now ≡ before)
-IsRegistry value.Unset root home host before now name result =
-    IsByFiles root home host before now (λ paths. registry_in host paths name) result
+IsRegistryBy value.Unset root home host before now name result =
+    IsByFiles root home host before now (λ paths. registry_calls host paths name)
+    (λ paths. registry_in host paths name) result
+
+-- the registry of a name: its variable is asked for first, and either that failed or the registry
+-- is by its value
+abbrev pub IsRegistry : Option (List ℕ) → Option (List ℕ) → Host → List FailedCall
+    → List FailedCall → List ℕ → Result HeldUrl Error → Type 0
+IsRegistry root home host before now name result =
+    ((result ≡ Err (error.Io io.Failed))
+    × (now ≡ before ++ env_call (index_variable name) ∷ []))
+    ⊎ IsRegistryBy (host.environment (index_variable name)) root home host before now name result
 
 -- the reasons why crates.io has no url: no version where one is needed, one that is none, those of
 -- the files, and that the variable can't be asked for
@@ -131,21 +187,3 @@ IsRegistryError (error.UnknownRegistry name) = Unit {0}
 IsRegistryError (error.NonUtf8EnvVar name) = Unit {0}
 IsRegistryError (error.Io io.Failed) = Unit {0}
 IsRegistryError e = IsFileError e
-
--- a call that failed and is told added itself to the failed calls; any other answer added none
-abbrev pub AddsSettings : {T : Type 0} → List ℕ → List FailedCall → List FailedCall
-    → Result T Error → Type 0
-AddsSettings variable before now (Err (error.IoPath io.Failed path)) =
-    now ≡ before ++ read_call path ∷ []
-AddsSettings variable before now (Err (error.Io io.Failed)) =
-    now ≡ before ++ env_call variable ∷ []
-AddsSettings variable before now _ = now ≡ before
-
--- a call that failed and is told is the last of the failed calls: the read of a file, or the
--- asking for the variable
-abbrev pub EndsWithCall : {T : Type 0} → List ℕ → List FailedCall → Result T Error → Type 0
-EndsWithCall variable now (Err (error.IoPath io.Failed path)) =
-    (front : List FailedCall) × (now ≡ front ++ read_call path ∷ [])
-EndsWithCall variable now (Err (error.Io io.Failed)) =
-    (front : List FailedCall) × (now ≡ front ++ env_call variable ∷ [])
-EndsWithCall variable now _ = Unit {0}

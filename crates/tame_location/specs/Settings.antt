@@ -1,5 +1,6 @@
 -- What cargo's settings say of indices (Cargo Book, "Configuration" and "Source Replacement").
 use Rattle.std.specs.Prelude.{ℕ, codes, List, [], ◌∷◌, bytes_eq, Bool, true, false, ◌||◌, Option, Some, None, option_map, option_and_then, if◌then◌else◌, Result, Ok, Err}
+use Rattle.std.specs.Option.{option_or}
 use Rattle.toml.specs.Data.{Data, table, Members, no_members, member, as_str, as_table, get_member}
 use Rattle.toml.specs.Parse.{parse_document}
 use Rattle.toml_tables.specs.Members.{required}
@@ -10,6 +11,8 @@ use Rattle.tame_names.specs.Utf8.{utf8_text}
 use Rattle.tame_names.specs.declared.errors.Error.{Error}
 use Rattle.tame_names.specs.declared.errors.Error.TheVariants as error
 use Rattle.tame_names.specs.declared.errors.IoKind.TheVariants as io
+use Rattle.tame_names.specs.declared.host.FailedCall.{FailedCall}
+use Rattle.tame_location.specs.Calls.{read_call}
 use Rattle.tame_location.specs.declared.settings.HeldUrl.{HeldUrl}
 use Rattle.tame_location.specs.declared.settings.HeldUrl.TheVariants as held
 
@@ -50,6 +53,20 @@ first_answer answer host [] = Ok None
 first_answer answer host (path ∷ more) =
     and_then (λ found. or_next found (first_answer answer host more)) (answer_at answer host path)
 
+-- the calls behind a step that may answer: none where it answers or refuses
+abbrev pub unless_answered : {A : Type 0} → Result (Option A) Error → List FailedCall
+    → List FailedCall
+unless_answered (Ok None) calls = calls
+unless_answered (Ok (Some found)) calls = []
+unless_answered (Err e) calls = []
+
+-- the reads of these files in their order, up to the first that answers or can't be used
+abbrev pub reads : {A : Type 0} → (List ℕ → Members → Option A) → Host → List (List ℕ)
+    → List FailedCall
+reads answer host [] = []
+reads answer host (path ∷ more) =
+    read_call path ∷ unless_answered (answer_at answer host path) (reads answer host more)
+
 -- ---- members of a table
 
 abbrev pub text_at : List ℕ → Members → Option (List ℕ)
@@ -72,15 +89,11 @@ replaced_by name url key (table source) =
     then text_at (codes "replace-with") source else None
 replaced_by name url key _ = None
 
-abbrev pub or_else : {A : Type 0} → Option A → Option A → Option A
-or_else (Some found) next = Some found
-or_else None next = next
-
 -- the first source in the order of the table that is replaced
 abbrev pub replacing : List ℕ → List ℕ → Members → Option (List ℕ)
 replacing name url no_members = None
 replacing name url (member key d more) =
-    or_else (replaced_by name url key d) (replacing name url more)
+    option_or (replaced_by name url key d) (replacing name url more)
 
 -- the folder two above the file of settings
 abbrev pub base_of : List ℕ → Option (List ℕ)

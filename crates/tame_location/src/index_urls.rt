@@ -22,7 +22,7 @@ pub fn is_sparse_url(url: &str) -> bool
 }
 
 /// The url of an index.
-#[derive(Drop)]
+#[derive(Debug, Drop)]
 pub enum IndexUrl<'u> {
     /// The sparse index of crates.io.
     CratesIoSparse,

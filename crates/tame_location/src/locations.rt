@@ -31,7 +31,9 @@ pub enum IndexPath {
 /// An index: its url, and where it stands on the disk.
 #[derive(Drop)]
 pub struct IndexLocation<'l> {
+    /// Its url.
     pub url: IndexUrl<'l>,
+    /// The folder that it stands in or below.
     pub root: IndexPath,
     /// The version of cargo, by which the folder is named; not needed for an exact path.
     pub cargo_version: Option<Version>,

@@ -2,9 +2,10 @@
 ghost use Rattle.std.specs.Prelude.{◌≡◌, ◌≤◌, ℕ, Option, Ok, Err, IfOk, IfErr, IsSome, true, false, option_map};
 ghost use Rattle.std.specs.Cow.{cow_str_bytes};
 ghost use Rattle.std.specs.Fn.{FnReturnsAt};
+ghost use Rattle.tame_names.specs.Locks.{HasLockCause};
 ghost use Rattle.tame_location.specs.Folders.{IsRootError, Told};
 ghost use Rattle.tame_location.specs.Homes.{AddsHomeCall, HasHomeCause, IsHomeCall, IsTold};
-ghost use Rattle.tame_location.specs.Locks.{IsLockedAtOnce, IsLockedWaiting, IsOpening, IsWaiting, Leaves, Tells, TellsHeld, TellsLock, moment, package_lock};
+ghost use Rattle.tame_location.specs.Locks.{Gives, Holds, IsLockFault, IsLockedAtOnce, IsLockedError, IsLockedWaiting, IsOpenRefusal, IsOpening, IsRefusal, IsTakenBy, IsTryRefusal, IsWaiting, Leaves, Tells, TellsHeld, TellsLock, TellsTaken, moment, package_lock};
 ghost use Rattle.tame_location.specs.Locks as spec;
 
 use crate::folders::root_of;
@@ -42,22 +43,26 @@ fn take_waiting<F: Files, G: Fn(&str) -> Option<u32>>(
     opened: &OpenedLock,
     exclusive: bool,
     wait: G,
-) -> Result<(), LockError>
+) -> Result<(), Refusal>
     requires { G.IsAlwaysCallable wait }
-    ensures steps { F.tells → IsWaiting (FnReturnsAt G.Fn wait path.now) path.now exclusive
-        (moment (F.steps files.old) (F.host files.old) (F.faults files.old))
-        (moment (F.steps files.new) (F.host files.new) (F.faults files.new)) result }
+    ensures steps { F.tells → TellsTaken (IsWaiting (FnReturnsAt G.Fn wait path.now) path.now
+        exclusive (moment (F.locks files.old) (F.host files.old) (F.faults files.old))
+        (moment (F.locks files.new) (F.host files.new) (F.faults files.new))) result }
+    ensures taken { F.tells → IsTakenBy opened.now result
+        (F.locks files.old) (F.locks files.new) }
+    ensures cause { HasLockCause (result ≡ Err (Refusal.Lock LockError.Lock))
+        (F.faults files.old) (F.faults files.new) }
+    ensures only { IfErr result IsTryRefusal }
     ensures same { F.tells → F.host files.new ≡ F.host files.old }
-    ensures later { F.faults files.old ≤ F.faults files.new }
 {
-    match taking(files, path, opened, exclusive, false) {
+    match taking(files, path, opened, exclusive, false)? {
         Ok(()) => Ok(()),
         Err(LockTakeFault::Contested) => match wait(path) {
             None => take(files, path, opened, exclusive, true),
             Some(times) => take_tries(files, path, opened, exclusive, times),
         },
-        Err(LockTakeFault::NotSupported) => Err(LockError::NotSupported),
-        Err(LockTakeFault::Failed) => Err(LockError::Lock),
+        Err(LockTakeFault::NotSupported) => Err(Refusal::Lock(LockError::NotSupported)),
+        Err(LockTakeFault::Failed) => Err(Refusal::Lock(LockError::Lock)),
     }
 }
 
@@ -137,10 +142,12 @@ impl<'p> LockOptions<'p> {
     fn open<F: Files>(&self, files: &mut F) -> Result<(OpenedLock, LockState), Refusal>
         ensures steps { F.tells → Tells (IsOpening self.now.exclusive self.now.fallback
             (cow_str_bytes self.now.path)
-            (moment (F.steps files.old) (F.host files.old) (F.faults files.old))
-            (moment (F.steps files.new) (F.host files.new) (F.faults files.new))) result }
+            (moment (F.locks files.old) (F.host files.old) (F.faults files.old))
+            (moment (F.locks files.new) (F.host files.new) (F.faults files.new))) result }
         ensures left { F.tells → Leaves self.now.exclusive (cow_str_bytes self.now.path)
             (F.host files.old) (F.host files.new) }
+        ensures gives { F.tells → Gives result (F.locks files.old) (F.locks files.new) }
+        ensures only { IfErr result IsOpenRefusal }
         ensures later { F.faults files.old ≤ F.faults files.new }
     {
         if self.exclusive {
@@ -154,18 +161,21 @@ impl<'p> LockOptions<'p> {
     fn held_at_once<F: Files>(&self, files: &mut F) -> Result<FileLock, Refusal>
         ensures steps { F.tells → TellsHeld (IsLockedAtOnce self.now.exclusive self.now.fallback
             (cow_str_bytes self.now.path)
-            (moment (F.steps files.old) (F.host files.old) (F.faults files.old))
-            (moment (F.steps files.new) (F.host files.new) (F.faults files.new))) result }
+            (moment (F.locks files.old) (F.host files.old) (F.faults files.old))
+            (moment (F.locks files.new) (F.host files.new) (F.faults files.new))) result }
         ensures left { F.tells → Leaves self.now.exclusive (cow_str_bytes self.now.path)
             (F.host files.old) (F.host files.new) }
-        ensures later { F.faults files.old ≤ F.faults files.new }
+        ensures holds { F.tells → Holds result (F.locks files.old) (F.locks files.new) }
+        ensures only { IfErr result (IsRefusal LockError.TimedOut) }
+        ensures cause { HasLockCause (result ≡ Err (Refusal.Lock LockError.Lock))
+            (F.faults files.old) (F.faults files.new) }
     {
         match self.open(files) {
             Ok((opened, state)) => {
                 let exclusive = is_exclusive(state);
                 match take(files, self.path.as_str(), &opened, exclusive, false) {
                     Ok(()) => Ok(FileLock::holding(opened, state)),
-                    Err(error) => Err(Refusal::Lock(error)),
+                    Err(refusal) => Err(refusal),
                 }
             }
             Err(refusal) => Err(refusal),
@@ -182,18 +192,21 @@ impl<'p> LockOptions<'p> {
         ensures steps { F.tells → TellsHeld (IsLockedWaiting
             (FnReturnsAt G.Fn wait (cow_str_bytes self.now.path)) self.now.exclusive
             self.now.fallback (cow_str_bytes self.now.path)
-            (moment (F.steps files.old) (F.host files.old) (F.faults files.old))
-            (moment (F.steps files.new) (F.host files.new) (F.faults files.new))) result }
+            (moment (F.locks files.old) (F.host files.old) (F.faults files.old))
+            (moment (F.locks files.new) (F.host files.new) (F.faults files.new))) result }
         ensures left { F.tells → Leaves self.now.exclusive (cow_str_bytes self.now.path)
             (F.host files.old) (F.host files.new) }
-        ensures later { F.faults files.old ≤ F.faults files.new }
+        ensures holds { F.tells → Holds result (F.locks files.old) (F.locks files.new) }
+        ensures only { IfErr result (IsRefusal LockError.Contested) }
+        ensures cause { HasLockCause (result ≡ Err (Refusal.Lock LockError.Lock))
+            (F.faults files.old) (F.faults files.new) }
     {
         match self.open(files) {
             Ok((opened, state)) => {
                 let exclusive = is_exclusive(state);
                 match take_waiting(files, self.path.as_str(), &opened, exclusive, wait) {
                     Ok(()) => Ok(FileLock::holding(opened, state)),
-                    Err(error) => Err(Refusal::Lock(error)),
+                    Err(refusal) => Err(refusal),
                 }
             }
             Err(refusal) => Err(refusal),
@@ -209,11 +222,14 @@ impl<'p> LockOptions<'p> {
     pub fn try_lock<F: Files>(&self, alloc: Global, files: &mut F) -> Result<FileLock, Error>
         ensures steps { F.tells → TellsLock (cow_str_bytes self.now.path)
             (IsLockedAtOnce self.now.exclusive self.now.fallback (cow_str_bytes self.now.path)
-            (moment (F.steps files.old) (F.host files.old) (F.faults files.old))
-            (moment (F.steps files.new) (F.host files.new) (F.faults files.new))) result }
+            (moment (F.locks files.old) (F.host files.old) (F.faults files.old))
+            (moment (F.locks files.new) (F.host files.new) (F.faults files.new))) result }
         ensures left { F.tells → Leaves self.now.exclusive (cow_str_bytes self.now.path)
             (F.host files.old) (F.host files.new) }
-        ensures later { F.faults files.old ≤ F.faults files.new }
+        ensures holds { F.tells → Holds result (F.locks files.old) (F.locks files.new) }
+        ensures only { IfErr result (IsLockedError (cow_str_bytes self.now.path) LockError.TimedOut) }
+        ensures cause { HasLockCause (IsLockFault result)
+            (F.faults files.old) (F.faults files.new) }
     {
         let path = Text::of(alloc, self.path.as_str())?;
         told(path, self.held_at_once(files))
@@ -232,11 +248,14 @@ impl<'p> LockOptions<'p> {
         ensures steps { F.tells → TellsLock (cow_str_bytes self.now.path) (IsLockedWaiting
             (FnReturnsAt G.Fn wait (cow_str_bytes self.now.path)) self.now.exclusive
             self.now.fallback (cow_str_bytes self.now.path)
-            (moment (F.steps files.old) (F.host files.old) (F.faults files.old))
-            (moment (F.steps files.new) (F.host files.new) (F.faults files.new))) result }
+            (moment (F.locks files.old) (F.host files.old) (F.faults files.old))
+            (moment (F.locks files.new) (F.host files.new) (F.faults files.new))) result }
         ensures left { F.tells → Leaves self.now.exclusive (cow_str_bytes self.now.path)
             (F.host files.old) (F.host files.new) }
-        ensures later { F.faults files.old ≤ F.faults files.new }
+        ensures holds { F.tells → Holds result (F.locks files.old) (F.locks files.new) }
+        ensures only { IfErr result (IsLockedError (cow_str_bytes self.now.path) LockError.Contested) }
+        ensures cause { HasLockCause (IsLockFault result)
+            (F.faults files.old) (F.faults files.new) }
     {
         let path = Text::of(alloc, self.path.as_str())?;
         told(path, self.held_waiting(files, wait))

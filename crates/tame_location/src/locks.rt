@@ -1,9 +1,9 @@
 //! Locks of files, as cargo takes one on its package cache.
-ghost use Rattle.std.specs.Prelude.{◌≡◌, ◌≤◌, ℕ, Err, Some, true, false, take as first, IfOk};
+ghost use Rattle.std.specs.Prelude.{◌≡◌, ◌≤◌, ℕ, Ok, Err, Some, true, false, take as first, IfOk, IfErr, IsErr};
 ghost use Rattle.tame_names.specs.Changes.{with_folders};
-ghost use Rattle.tame_names.specs.Locks.{MayMake, fault_of};
+ghost use Rattle.tame_names.specs.Locks.{HasLockCause, MayMake, fault_of};
 ghost use Rattle.tame_names.specs.Paths.{parent as parent_of};
-ghost use Rattle.tame_location.specs.Locks.{AreTries, Follows, IsAgain, IsBelow, IsExclusive, IsMade, IsShared, IsTaking, Leaves, Opens, Takes, Tells, folder_ways, moment};
+ghost use Rattle.tame_location.specs.Locks.{AreTries, Follows, Gives, GivesAt, IsAgain, IsBelow, IsExclusive, IsMade, IsOpenRefusal, IsShared, IsTakeRefusal, IsTakenAt, IsTakenBy, IsTaking, IsTryRefusal, Leaves, Opens, Takes, Tells, TellsTaken, folder_ways, moment};
 ghost use Rattle.tame_location.specs.Locks as spec;
 
 use tame_names::{
@@ -14,8 +14,20 @@ use tame_names::{
 /// Why a lock isn't held.
 #[derive(Clone, Copy)]
 pub enum Refusal {
+    /// What the steps on it answered.
     Lock(LockError),
+    /// Memory ran out.
     NoMemory,
+}
+
+impl From<NoMemory> for Refusal {
+    ghost use Rattle.tame_location.specs.declared.locks.Refusal.TheVariants.{NoMemory as no_memory};
+
+    ghost from_gives = { λ _ e. e ≡ no_memory };
+
+    fn from(_: NoMemory) -> Refusal {
+        Refusal::NoMemory
+    }
 }
 
 /// The error of a refused opening.
@@ -33,10 +45,13 @@ fn opening<F: Files>(
     files: &mut F,
     path: &str,
     exclusive: bool,
-) -> Result<OpenedLock, LockOpenFault>
-    ensures opens { F.tells → Opens path.now exclusive (fault_of result)
-        (moment (F.steps files.old) (F.host files.old) (F.faults files.old))
-        (moment (F.steps files.new) (F.host files.new) (F.faults files.new)) }
+) -> Result<Result<OpenedLock, LockOpenFault>, NoMemory>
+    ensures opens { F.tells → IfOk result (λ answer. Opens path.now exclusive (fault_of answer)
+        (moment (F.locks files.old) (F.host files.old) (F.faults files.old))
+        (moment (F.locks files.new) (F.host files.new) (F.faults files.new))) }
+    ensures gives { F.tells → GivesAt result (F.locks files.old) (F.locks files.new) }
+    ensures same { F.tells → IsErr result → F.host files.new ≡ F.host files.old }
+    ensures shared { F.tells → exclusive ≡ false → F.host files.new ≡ F.host files.old }
     ensures later { F.faults files.old ≤ F.faults files.new }
 {
     files.open_lock(path, exclusive)
@@ -45,12 +60,14 @@ fn opening<F: Files>(
 /// A shared opening.
 pub fn open_shared<F: Files>(files: &mut F, path: &str) -> Result<(OpenedLock, LockState), Refusal>
     ensures steps { F.tells → Tells (IsShared path.now
-        (moment (F.steps files.old) (F.host files.old) (F.faults files.old))
-        (moment (F.steps files.new) (F.host files.new) (F.faults files.new))) result }
+        (moment (F.locks files.old) (F.host files.old) (F.faults files.old))
+        (moment (F.locks files.new) (F.host files.new) (F.faults files.new))) result }
     ensures same { F.tells → F.host files.new ≡ F.host files.old }
+    ensures gives { F.tells → Gives result (F.locks files.old) (F.locks files.new) }
+    ensures only { IfErr result IsOpenRefusal }
     ensures later { F.faults files.old ≤ F.faults files.new }
 {
-    match opening(files, path, false) {
+    match opening(files, path, false)? {
         Ok(opened) => Ok((opened, LockState::Shared)),
         Err(fault) => Err(Refusal::Lock(refused_open(fault))),
     }
@@ -65,9 +82,11 @@ fn fall_back<F: Files>(
     fault: LockOpenFault,
 ) -> Result<(OpenedLock, LockState), Refusal>
     ensures steps { F.tells → Tells (Follows fallback path.now (Some fault)
-        (moment (F.steps files.old) (F.host files.old) (F.faults files.old))
-        (moment (F.steps files.new) (F.host files.new) (F.faults files.new))) result }
+        (moment (F.locks files.old) (F.host files.old) (F.faults files.old))
+        (moment (F.locks files.new) (F.host files.new) (F.faults files.new))) result }
     ensures same { F.tells → F.host files.new ≡ F.host files.old }
+    ensures gives { F.tells → Gives result (F.locks files.old) (F.locks files.new) }
+    ensures only { IfErr result IsOpenRefusal }
     ensures later { F.faults files.old ≤ F.faults files.new }
 {
     match fault {
@@ -89,12 +108,14 @@ fn open_again<F: Files>(
     fallback: bool,
 ) -> Result<(OpenedLock, LockState), Refusal>
     ensures steps { F.tells → Tells (IsAgain fallback path.now
-        (moment (F.steps files.old) (F.host files.old) (F.faults files.old))
-        (moment (F.steps files.new) (F.host files.new) (F.faults files.new))) result }
+        (moment (F.locks files.old) (F.host files.old) (F.faults files.old))
+        (moment (F.locks files.new) (F.host files.new) (F.faults files.new))) result }
     ensures left { F.tells → MayMake true path.now (F.host files.old) (F.host files.new) }
+    ensures gives { F.tells → Gives result (F.locks files.old) (F.locks files.new) }
+    ensures only { IfErr result IsOpenRefusal }
     ensures later { F.faults files.old ≤ F.faults files.new }
 {
-    match opening(files, path, true) {
+    match opening(files, path, true)? {
         Ok(opened) => Ok((opened, LockState::Exclusive)),
         Err(fault) => fall_back(files, path, fallback, fault),
     }
@@ -103,10 +124,11 @@ fn open_again<F: Files>(
 /// Makes the folder above a path; whether it was made, or needn't be.
 fn make_folder<F: Files>(files: &mut F, path: &str) -> Result<bool, NoMemory>
     ensures made { F.tells → IfOk result (λ made. IsMade made (parent_of path.now)
-        (moment (F.steps files.old) (F.host files.old) (F.faults files.old))
-        (moment (F.steps files.new) (F.host files.new) (F.faults files.new))) }
+        (moment (F.locks files.old) (F.host files.old) (F.faults files.old))
+        (moment (F.locks files.new) (F.host files.new) (F.faults files.new))) }
     ensures left { F.tells → (n : ℕ) × (F.host files.new
         ≡ with_folders (first n (folder_ways (parent_of path.now))) (F.host files.old)) }
+    ensures locks { F.tells → F.locks files.new ≡ F.locks files.old }
     ensures later { F.faults files.old ≤ F.faults files.new }
 {
     let Some(folder) = parent(path) else {
@@ -129,15 +151,17 @@ fn open_below<F: Files>(
     fallback: bool,
 ) -> Result<(OpenedLock, LockState), Refusal>
     ensures steps { F.tells → Tells (IsBelow fallback path.now
-        (moment (F.steps files.old) (F.host files.old) (F.faults files.old))
-        (moment (F.steps files.new) (F.host files.new) (F.faults files.new))) result }
+        (moment (F.locks files.old) (F.host files.old) (F.faults files.old))
+        (moment (F.locks files.new) (F.host files.new) (F.faults files.new))) result }
     ensures left { F.tells → Leaves true path.now (F.host files.old) (F.host files.new) }
+    ensures gives { F.tells → Gives result (F.locks files.old) (F.locks files.new) }
+    ensures only { IfErr result IsOpenRefusal }
     ensures later { F.faults files.old ≤ F.faults files.new }
 {
-    match make_folder(files, path) {
-        Ok(true) => open_again(files, path, fallback),
-        Ok(false) => Err(Refusal::Lock(LockError::CreateDir)),
-        Err(NoMemory) => Err(Refusal::NoMemory),
+    if make_folder(files, path)? {
+        open_again(files, path, fallback)
+    } else {
+        Err(Refusal::Lock(LockError::CreateDir))
     }
 }
 
@@ -148,12 +172,14 @@ pub fn open_exclusive<F: Files>(
     fallback: bool,
 ) -> Result<(OpenedLock, LockState), Refusal>
     ensures steps { F.tells → Tells (IsExclusive fallback path.now
-        (moment (F.steps files.old) (F.host files.old) (F.faults files.old))
-        (moment (F.steps files.new) (F.host files.new) (F.faults files.new))) result }
+        (moment (F.locks files.old) (F.host files.old) (F.faults files.old))
+        (moment (F.locks files.new) (F.host files.new) (F.faults files.new))) result }
     ensures left { F.tells → Leaves true path.now (F.host files.old) (F.host files.new) }
+    ensures gives { F.tells → Gives result (F.locks files.old) (F.locks files.new) }
+    ensures only { IfErr result IsOpenRefusal }
     ensures later { F.faults files.old ≤ F.faults files.new }
 {
-    match opening(files, path, true) {
+    match opening(files, path, true)? {
         Ok(opened) => Ok((opened, LockState::Exclusive)),
         Err(LockOpenFault::NotFound) => open_below(files, path, fallback),
         Err(LockOpenFault::Denied) => fall_back(files, path, fallback, LockOpenFault::Denied),
@@ -170,12 +196,15 @@ pub fn taking<F: Files>(
     opened: &OpenedLock,
     exclusive: bool,
     block: bool,
-) -> Result<(), LockTakeFault>
-    ensures takes { F.tells → Takes path.now exclusive block (fault_of result)
-        (moment (F.steps files.old) (F.host files.old) (F.faults files.old))
-        (moment (F.steps files.new) (F.host files.new) (F.faults files.new)) }
-    ensures later { F.faults files.old ≤ F.faults files.new }
-    ensures contested { result ≡ Err LockTakeFault.Contested → block ≡ false }
+) -> Result<Result<(), LockTakeFault>, NoMemory>
+    ensures takes { F.tells → IfOk result (λ answer. Takes path.now exclusive block
+        (fault_of answer) (moment (F.locks files.old) (F.host files.old) (F.faults files.old))
+        (moment (F.locks files.new) (F.host files.new) (F.faults files.new))) }
+    ensures taken { F.tells → IsTakenAt opened.now result
+        (F.locks files.old) (F.locks files.new) }
+    ensures cause { HasLockCause (result ≡ Ok (Err LockTakeFault.Failed))
+        (F.faults files.old) (F.faults files.new) }
+    ensures contested { result ≡ Ok (Err LockTakeFault.Contested) → block ≡ false }
     ensures same { F.tells → F.host files.new ≡ F.host files.old }
 {
     files.take_lock(path, opened, exclusive, block)
@@ -200,15 +229,21 @@ pub fn take<F: Files>(
     opened: &OpenedLock,
     exclusive: bool,
     block: bool,
-) -> Result<(), LockError>
-    ensures steps { F.tells → IsTaking path.now exclusive block
-        (moment (F.steps files.old) (F.host files.old) (F.faults files.old))
-        (moment (F.steps files.new) (F.host files.new) (F.faults files.new)) result }
-    ensures later { F.faults files.old ≤ F.faults files.new }
-    ensures contested { result ≡ Err LockError.Contested → block ≡ false }
+) -> Result<(), Refusal>
+    ensures steps { F.tells → TellsTaken (IsTaking path.now exclusive block
+        (moment (F.locks files.old) (F.host files.old) (F.faults files.old))
+        (moment (F.locks files.new) (F.host files.new) (F.faults files.new))) result }
+    ensures taken { F.tells → IsTakenBy opened.now result
+        (F.locks files.old) (F.locks files.new) }
+    ensures cause { HasLockCause (result ≡ Err (Refusal.Lock LockError.Lock))
+        (F.faults files.old) (F.faults files.new) }
+    ensures only { IfErr result (IsTakeRefusal block) }
     ensures same { F.tells → F.host files.new ≡ F.host files.old }
 {
-    taken(taking(files, path, opened, exclusive, block))
+    match taken(taking(files, path, opened, exclusive, block)?) {
+        Ok(()) => Ok(()),
+        Err(error) => Err(Refusal::Lock(error)),
+    }
 }
 
 /// This many tries, until one isn't contested.
@@ -218,20 +253,24 @@ pub fn take_tries<F: Files>(
     opened: &OpenedLock,
     exclusive: bool,
     times: u32,
-) -> Result<(), LockError>
-    ensures steps { F.tells → AreTries times path.now exclusive
-        (moment (F.steps files.old) (F.host files.old) (F.faults files.old))
-        (moment (F.steps files.new) (F.host files.new) (F.faults files.new)) result }
-    ensures later { F.faults files.old ≤ F.faults files.new }
+) -> Result<(), Refusal>
+    ensures steps { F.tells → TellsTaken (AreTries times path.now exclusive
+        (moment (F.locks files.old) (F.host files.old) (F.faults files.old))
+        (moment (F.locks files.new) (F.host files.new) (F.faults files.new))) result }
+    ensures taken { F.tells → IsTakenBy opened.now result
+        (F.locks files.old) (F.locks files.new) }
+    ensures cause { HasLockCause (result ≡ Err (Refusal.Lock LockError.Lock))
+        (F.faults files.old) (F.faults files.new) }
+    ensures only { IfErr result IsTryRefusal }
     ensures same { F.tells → F.host files.new ≡ F.host files.old }
 {
     for _number in 0..times {
-        match taking(files, path, opened, exclusive, false) {
+        match taking(files, path, opened, exclusive, false)? {
             Ok(()) => return Ok(()),
             Err(LockTakeFault::Contested) => {}
-            Err(LockTakeFault::NotSupported) => return Err(LockError::NotSupported),
-            Err(LockTakeFault::Failed) => return Err(LockError::Lock),
+            Err(LockTakeFault::NotSupported) => return Err(Refusal::Lock(LockError::NotSupported)),
+            Err(LockTakeFault::Failed) => return Err(Refusal::Lock(LockError::Lock)),
         }
     }
-    Err(LockError::TimedOut)
+    Err(Refusal::Lock(LockError::TimedOut))
 }

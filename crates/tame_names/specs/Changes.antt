@@ -68,21 +68,8 @@ with_folders paths host = record host { stands = with_folders_at paths host.stan
 
 -- ---- calls
 
--- a call that makes a file: all of it, or after a fault nothing or a part from its front
-abbrev pub Creates : {E : Type 0} → List ℕ → List ℕ → Host → Host → Result Unit E → Type 0
-Creates path bytes before now (Ok done) = now ≡ with_file path bytes before
-Creates path bytes before now (Err fault) =
-    (now ≡ before) ⊎ ((n : ℕ) × (now ≡ with_file path (take n bytes) before))
-
--- a call that makes the folder at a path and those on the way to it that are missing, or after a
--- fault some of them from the front
-abbrev pub MakesFolders : {E : Type 0} → List ℕ → Host → Host → Result Unit E → Type 0
-MakesFolders path before now (Ok done) = now ≡ with_folders (ways_to path) before
-MakesFolders path before now (Err fault) =
-    (n : ℕ) × (now ≡ with_folders (take n (ways_to path)) before)
-
--- a file can be made at a path: nothing or a file is there, and the folder that it is in is there,
--- or is the current one
+-- a file can be made at a path: nothing is there, and the folder that it is in is there, or is the
+-- current one
 abbrev pub can_hold : Option (List ℕ) → (List ℕ → Standing) → Bool
 can_hold None stands = false
 can_hold (Some []) stands = true
@@ -90,7 +77,23 @@ can_hold (Some (b ∷ bs)) stands = is_folder (stands (b ∷ bs))
 
 abbrev pub can_create : List ℕ → (List ℕ → Standing) → Bool
 can_create path stands =
-    if is_nothing (stands path) then can_hold (parent path) stands else is_file (stands path)
+    if is_nothing (stands path) then can_hold (parent path) stands else false
+
+-- a call that makes a file where one can be made: all of it, or after a fault nothing or a part from
+-- its front; where none can be made it fails, and nothing changes
+abbrev pub Creates : {E : Type 0} → List ℕ → List ℕ → Host → Host → Result Unit E → Type 0
+Creates path bytes before now (Ok done) =
+    (can_create path before.stands ≡ true) × (now ≡ with_file path bytes before)
+Creates path bytes before now (Err fault) =
+    (now ≡ before) ⊎ ((can_create path before.stands ≡ true)
+    × ((n : ℕ) × (now ≡ with_file path (take n bytes) before)))
+
+-- a call that makes the folder at a path and those on the way to it that are missing, or after a
+-- fault some of them from the front
+abbrev pub MakesFolders : {E : Type 0} → List ℕ → Host → Host → Result Unit E → Type 0
+MakesFolders path before now (Ok done) = now ≡ with_folders (ways_to path) before
+MakesFolders path before now (Err fault) =
+    (n : ℕ) × (now ≡ with_folders (take n (ways_to path)) before)
 
 -- every folder on the way to a path is there or can be made
 abbrev pub AreFolders : List (List ℕ) → (List ℕ → Standing) → Type 0

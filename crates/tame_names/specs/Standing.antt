@@ -1,6 +1,7 @@
 -- What a host has: what stands at its paths, its input, its environment and its current folder; and
 -- what calls on it may answer (this project).
-use Rattle.std.specs.Prelude.{◌≡◌, ◌≤◌, ◌<◌, ℕ, List, [], ◌∷◌, ◌++◌, length, codes, bytes_eq, Option, Some, None, if◌then◌else◌, Result, Ok, Err}
+use Rattle.std.specs.Prelude.{◌≡◌, ◌≤◌, ◌<◌, ℕ, List, [], ◌∷◌, ◌++◌, length, take, drop, codes, bytes_eq, Option, Some, None, Vec, if◌then◌else◌, Result, Ok, Err}
+use Rattle.std.specs.declared.alloc.Global.{Global}
 use Rattle.tame_names.specs.declared.host.EnvValue.{EnvValue}
 use Rattle.tame_names.specs.declared.host.FailedCall.{FailedCall}
 use Rattle.tame_names.specs.declared.host.FileCall.{FileCall}
@@ -54,6 +55,19 @@ Reads s limit (Ok (answer.Whole bytes)) = (s ≡ File bytes.items) × (length by
 Reads s limit (Ok (answer.Over n)) =
     (bytes : List ℕ) × (s ≡ File bytes) × (n ≡ length bytes) × (limit < n)
 Reads s limit (Err fault) = Unit {0}
+
+-- absent exactly where nothing is there; else the bytes of a file from this number on, as many as
+-- there are, and no more than the limit
+abbrev pub ReadsPart : Standing → ℕ → ℕ → Result (Option (Vec ℕ Global)) FileFault → Type 0
+ReadsPart s from limit (Ok None) = s ≡ Nothing
+ReadsPart s from limit (Ok (Some part)) =
+    (bytes : List ℕ) × (s ≡ File bytes) × (part.items ≡ take limit (drop from bytes))
+ReadsPart s from limit (Err fault) = Unit {0}
+
+-- a part has no more bytes than the limit
+abbrev pub IsWithin : ℕ → Result (Option (Vec ℕ Global)) FileFault → Type 0
+IsWithin limit (Ok (Some part)) = length part.items ≤ limit
+IsWithin limit _ = Unit {0}
 
 -- a read of standard input that answers all of it leaves nothing
 abbrev pub IsLeft : Result ReadAnswer FileFault → List ℕ → Type 0

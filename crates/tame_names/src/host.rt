@@ -1,5 +1,5 @@
 //! The host: its files, its input, its environment and its current folder.
-ghost use Rattle.std.specs.Prelude.{◌≡◌, ◌≢◌, ℕ, List, [], Ok, Err, Some, None, true, false, IfOk, IfErr, IsErr, IsErrOf, OnOk, ⊤};
+ghost use Rattle.std.specs.Prelude.{◌≡◌, ◌≢◌, ℕ, List, [], Ok, Err, Some, None, true, false, IfOk, IfErr, OnOk, ⊤};
 ghost use Rattle.tame_names.specs.Counts.{HasCause};
 
 use crate::errors::NoMemory;
@@ -12,6 +12,7 @@ use std::alloc::Global;
 pub enum FileFault {
     /// The host couldn't do it; the call was counted.
     Failed,
+    /// Memory ran out; the call isn't counted.
     NoMemory,
 }
 
@@ -49,18 +50,22 @@ pub struct Listed {
 /// What is at a path, where links lead.
 #[derive(Clone, Copy, Debug, PartialEq, Eq)]
 pub enum PathKind {
+    /// Nothing.
     Absent,
     File,
     Folder,
+    /// What is neither: a device, say.
     Other,
 }
 
 /// The value of a variable of the environment.
 #[derive(Debug, Drop, PartialEq, Eq)]
 pub enum EnvValue {
+    /// It isn't set.
     Unset,
     /// It is set, and isn't UTF-8.
     NotUtf8,
+    /// It is this text.
     Value(Text),
 }
 
@@ -82,6 +87,7 @@ pub enum FileCall {
 /// A call that failed.
 #[derive(Debug, Drop, PartialEq, Eq)]
 pub struct FailedCall {
+    /// Which call it was.
     pub call: FileCall,
     /// Its path, or the name of its variable; none of a call that has neither.
     pub path: Option<Text>,
@@ -91,6 +97,7 @@ pub struct FailedCall {
 /// given back as it is dropped.
 #[derive(Debug, Drop)]
 pub struct OpenedLock {
+    /// The file of the system.
     pub file: Option<std::fs::File>,
 }
 
@@ -119,27 +126,30 @@ pub enum LockTakeFault {
 /// A call on a lock, and why it was refused, if it was.
 #[derive(Clone, Copy, Debug, PartialEq, Eq)]
 pub enum LockCall {
+    /// An opening.
     Open(Option<LockOpenFault>),
     /// A taking, which waits for its turn or doesn't.
     Take(bool, Option<LockTakeFault>),
 }
 
-/// A step on a lock: the path as the call was given it, and whether it was to be exclusive.
+/// A step on a lock.
 #[derive(Debug, Drop, PartialEq, Eq)]
 pub struct LockStep {
+    /// The path, as the call was given it.
     pub path: Text,
+    /// Whether the file was to be locked for oneself alone.
     pub exclusive: bool,
+    /// The call, and why it was refused.
     pub call: LockCall,
 }
 
 /// The host. A path that ends with slashes stands for the path without them, but for `/` itself.
 pub trait Files {
-    ghost use Rattle.tame_names.specs.Changes.{AreFolders, Creates, MakesFolders, can_create, is_folder};
-    ghost use Rattle.tame_names.specs.Locks.{AddsCall, AddsStep, HasLockCause, MayMake, fault_of, open_step, take_step};
-    ghost use Rattle.tame_names.specs.Standing.{Host, IsAboveLimit, IsLeft, Reads, StaysButInput, File, failed_calls, kind_of, listing};
+    ghost use Rattle.tame_names.specs.Changes.{AreFolders, Creates, MakesFolders, is_folder};
+    ghost use Rattle.tame_names.specs.Locks.{HasLockCause, Locks, Makes, after_opening, after_taking, failed_opening, failed_taking};
+    ghost use Rattle.tame_names.specs.Standing.{Host, IsAboveLimit, IsLeft, IsWithin, Reads, ReadsPart, StaysButInput, File, failed_calls, kind_of, listing};
     ghost use Rattle.tame_names.specs.Paths.{ways_to};
     ghost use Rattle.tame_names.specs.declared.host.FailedCall.{FailedCall};
-    ghost use Rattle.tame_names.specs.declared.host.LockStep.{LockStep};
 
     /// That it tells what it has and which calls have failed.
     ghost tells: { Type 0 };
@@ -150,8 +160,8 @@ pub trait Files {
     /// The calls that have failed, the first in front, where they are told.
     ghost failed: { Self → List FailedCall };
 
-    /// The steps on locks, the first in front, where they are told.
-    ghost steps: { Self → List LockStep };
+    /// What it was asked of locks, where it is told.
+    ghost locks: { Self → Locks };
 
     /// How often a call has failed.
     ghost faults: { Self → ℕ };
@@ -168,7 +178,24 @@ pub trait Files {
         ensures answer { tells → Reads ((host self.old).stands path.now) limit result }
         ensures failed { tells → failed self.new
             ≡ failed_calls (failed self.old) FileCall.Read (Some path.now) result }
-        ensures steps { tells → steps self.new ≡ steps self.old };
+        ensures locks { tells → locks self.new ≡ locks self.old };
+
+    /// Reads a part of the file at a path: its bytes from number `from` on, and no more of them than
+    /// `limit`; nothing where nothing is there.
+    fn read_part(
+        &mut self,
+        alloc: Global,
+        path: &str,
+        from: u64,
+        limit: u64,
+    ) -> Result<Option<Vec<u8>>, FileFault>
+        ensures cause { HasCause FileFault.NoMemory (faults self.old) (faults self.new) result }
+        ensures within { IsWithin limit result }
+        ensures same { tells → host self.new ≡ host self.old }
+        ensures answer { tells → ReadsPart ((host self.old).stands path.now) from limit result }
+        ensures failed { tells → failed self.new
+            ≡ failed_calls (failed self.old) FileCall.Read (Some path.now) result }
+        ensures locks { tells → locks self.new ≡ locks self.old };
 
     /// Reads standard input, where it has no more than `limit` bytes. It is never absent. Read
     /// whole, it is empty from then on.
@@ -181,7 +208,7 @@ pub trait Files {
         ensures left { tells → IsLeft result (host self.new).input }
         ensures failed { tells → failed self.new
             ≡ failed_calls (failed self.old) FileCall.ReadStdin None result }
-        ensures steps { tells → steps self.new ≡ steps self.old };
+        ensures locks { tells → locks self.new ≡ locks self.old };
 
     /// The entries of the folder at a path; nothing where no folder is there.
     fn list(&mut self, alloc: Global, path: &str) -> Result<Option<Items<Listed>>, FileFault>
@@ -191,7 +218,7 @@ pub trait Files {
             ≡ listing ((host self.old).stands path.now)) }
         ensures failed { tells → failed self.new
             ≡ failed_calls (failed self.old) FileCall.List (Some path.now) result }
-        ensures steps { tells → steps self.new ≡ steps self.old };
+        ensures locks { tells → locks self.new ≡ locks self.old };
 
     /// What is at a path.
     fn kind(&mut self, path: &str) -> Result<PathKind, FileFault>
@@ -201,7 +228,7 @@ pub trait Files {
             ≡ kind_of ((host self.old).stands path.now)) }
         ensures failed { tells → failed self.new
             ≡ failed_calls (failed self.old) FileCall.Kind (Some path.now) result }
-        ensures steps { tells → steps self.new ≡ steps self.old };
+        ensures locks { tells → locks self.new ≡ locks self.old };
 
     /// The value of a variable of the environment.
     fn env(&mut self, alloc: Global, name: &str) -> Result<EnvValue, FileFault>
@@ -211,7 +238,7 @@ pub trait Files {
             ≡ (host self.old).environment name.now) }
         ensures failed { tells → failed self.new
             ≡ failed_calls (failed self.old) FileCall.Env (Some name.now) result }
-        ensures steps { tells → steps self.new ≡ steps self.old };
+        ensures locks { tells → locks self.new ≡ locks self.old };
 
     /// The path of the current folder.
     fn current_dir(&mut self, alloc: Global) -> Result<Text, FileFault>
@@ -220,7 +247,7 @@ pub trait Files {
         ensures answer { tells → IfOk result (λ path. path ≡ (host self.old).current) }
         ensures failed { tells → failed self.new
             ≡ failed_calls (failed self.old) FileCall.CurrentDir None result }
-        ensures steps { tells → steps self.new ≡ steps self.old };
+        ensures locks { tells → locks self.new ≡ locks self.old };
 
     /// Makes the folder at a path, and those on the way to it that are missing; a folder that was
     /// there gains the entry of one that is made in it, and no other path changes. It fails where
@@ -234,55 +261,51 @@ pub trait Files {
             (path.now ≢ [] → is_folder ((host self.new).stands path.now) ≡ true) }
         ensures failed { tells → failed self.new
             ≡ failed_calls (failed self.old) FileCall.MakeDirs (Some path.now) result }
-        ensures steps { tells → steps self.new ≡ steps self.old };
+        ensures locks { tells → locks self.new ≡ locks self.old };
 
-    /// Makes the file at a path, which then has these bytes; where nothing was there, the folder
-    /// that it is in gains its entry, and no other path changes. It fails where something that is
-    /// no file is there, and where the folder that it is in isn't there; it may where a file is
-    /// there. After a fault the file may have a part of the bytes, from the front.
+    /// Makes the file at a path, which then has these bytes; the folder that it is in gains its
+    /// entry, and no other path changes. It fails, and nothing changes, where something is there,
+    /// and where the folder that it is in isn't there. After a fault the file may have a part of
+    /// the bytes, from the front.
     fn create(&mut self, path: &str, bytes: &[u8]) -> Result<(), FileFault>
         ensures cause { HasCause FileFault.NoMemory (faults self.old) (faults self.new) result }
         ensures created { tells
             → Creates path.now bytes.now (host self.old) (host self.new) result }
-        ensures possible { tells → can_create path.now (host self.old).stands ≡ false
-            → IsErr result × (host self.new ≡ host self.old) }
         ensures failed { tells → failed self.new
             ≡ failed_calls (failed self.old) FileCall.Create (Some path.now) result }
-        ensures steps { tells → steps self.new ≡ steps self.old };
+        ensures locks { tells → locks self.new ≡ locks self.old };
 
     /// Opens the file at a path to be locked: to be read, or exclusively to be written, which may
-    /// make an empty file where nothing is. A call that fails without room for its step may leave
-    /// it out, and so of the list of calls that have failed.
-    fn open_lock(&mut self, path: &str, exclusive: bool) -> Result<OpenedLock, LockOpenFault>
-        ensures cause { HasLockCause (IsErrOf result LockOpenFault.Failed)
+    /// make an empty file where nothing is. An error is want of memory, and nothing was done then.
+    fn open_lock(
+        &mut self,
+        path: &str,
+        exclusive: bool,
+    ) -> Result<Result<OpenedLock, LockOpenFault>, NoMemory>
+        ensures cause { HasLockCause (result ≡ Ok (Err LockOpenFault.Failed))
             (faults self.old) (faults self.new) }
-        ensures made { tells → MayMake exclusive path.now (host self.old) (host self.new) }
-        ensures refused { tells → IfErr result (λ fault. fault ≢ LockOpenFault.Failed
-            → host self.new ≡ host self.old) }
-        ensures failed { tells → AddsCall (IsErrOf result LockOpenFault.Failed)
-            (record { call = FileCall.OpenLock; path = Some path.now })
-            (failed self.old) (failed self.new) }
-        ensures steps { tells → AddsStep (IsErrOf result LockOpenFault.Failed)
-            (open_step path.now exclusive (fault_of result)) (steps self.old) (steps self.new) };
+        ensures made { tells → Makes exclusive path.now result (host self.old) (host self.new) }
+        ensures failed { tells → failed self.new
+            ≡ failed_opening path.now result (failed self.old) }
+        ensures locks { tells → locks self.new
+            ≡ after_opening path.now exclusive result (locks self.old) };
 
     /// Takes the lock of an opened file, for oneself (`exclusive`) or with others; waits for its
-    /// turn where it may (`block`), and else is contested where another one holds it. Steps and
-    /// failed calls are as those of `open_lock`.
+    /// turn where it may (`block`), and else is contested where another one holds it. An error is
+    /// want of memory, and nothing was done then.
     fn take_lock(
         &mut self,
         path: &str,
         opened: &OpenedLock,
         exclusive: bool,
         block: bool,
-    ) -> Result<(), LockTakeFault>
-        ensures cause { HasLockCause (IsErrOf result LockTakeFault.Failed)
+    ) -> Result<Result<(), LockTakeFault>, NoMemory>
+        ensures cause { HasLockCause (result ≡ Ok (Err LockTakeFault.Failed))
             (faults self.old) (faults self.new) }
-        ensures contested { result ≡ Err LockTakeFault.Contested → block ≡ false }
+        ensures contested { result ≡ Ok (Err LockTakeFault.Contested) → block ≡ false }
         ensures same { tells → host self.new ≡ host self.old }
-        ensures failed { tells → AddsCall (IsErrOf result LockTakeFault.Failed)
-            (record { call = FileCall.TakeLock; path = Some path.now })
-            (failed self.old) (failed self.new) }
-        ensures steps { tells → AddsStep (IsErrOf result LockTakeFault.Failed)
-            (take_step path.now exclusive block (fault_of result))
-            (steps self.old) (steps self.new) };
+        ensures failed { tells → failed self.new
+            ≡ failed_taking path.now result (failed self.old) }
+        ensures locks { tells → locks self.new
+            ≡ after_taking path.now opened.now exclusive block result (locks self.old) };
 }

@@ -53,7 +53,7 @@ pub use memory_source::MemSource;
 pub use memory_variables::MemVariable;
 pub use names::KrateName;
 pub use output::{Sink, SinkFault, put_counted};
-pub use paths::{file_name, is_same_path, join, parent};
+pub use paths::{file_name, is_same_path, join, parent, plain_path};
 pub use pieces::{SplitIter, split, without_end};
 pub use sources::{Source, SourceFault};
 pub use texts::{Text, utf8_text};

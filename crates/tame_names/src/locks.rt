@@ -4,8 +4,11 @@ use crate::host::OpenedLock;
 /// How a lock is held.
 #[derive(Clone, Copy, Debug, PartialEq, Eq)]
 pub enum LockState {
+    /// For oneself alone.
     Exclusive,
+    /// Beside others that hold it so.
     Shared,
+    /// Not at all.
     Unlocked,
 }
 

@@ -31,8 +31,7 @@ pub(crate) fn can_create(files: &[MemFile], path: &str) -> bool
 {
     match kind_at(files, path) {
         PathKind::Absent => can_hold(files, parent(path)),
-        PathKind::File => true,
-        PathKind::Folder | PathKind::Other => false,
+        PathKind::File | PathKind::Folder | PathKind::Other => false,
     }
 }
 

@@ -1,12 +1,12 @@
 //! A host in memory.
-ghost use Rattle.std.specs.Prelude.{◌≡◌, ◌≢◌, ◌≤◌, [], ⊤, true, false, Ok, Some, None, Err, IfOk, IfErr, IsErr, IsErrOf, OnOk, option_map};
+ghost use Rattle.std.specs.Prelude.{◌≡◌, ◌≢◌, ◌≤◌, [], ⊤, true, false, Ok, Some, None, Err, IfOk, IfErr, OnOk, option_map};
 ghost use Rattle.tame_names.specs.Changes.{AreFolders, Creates, MakesFolders, can_create, is_folder};
 ghost use Rattle.tame_names.specs.Counts.{HasCause, CountRose, next_call};
-ghost use Rattle.tame_names.specs.Locks.{AddsCall, AddsStep, HasLockCause, MayMake, fault_of, open_step, take_step};
-ghost use Rattle.tame_names.specs.MemoryLocks.{LockCounted};
+ghost use Rattle.tame_names.specs.Locks.{HasLockCause, Makes, after_opening, after_taking, failed_opening, failed_taking};
+ghost use Rattle.tame_names.specs.MemoryLocks.{LockCounted, locks_after};
 ghost use Rattle.tame_names.specs.MemoryFiles.{Counted, IsReadable, host_in, standing_in, value_in};
 ghost use Rattle.tame_names.specs.Paths.{ways_to};
-ghost use Rattle.tame_names.specs.Standing.{IsAboveLimit, IsLeft, Reads, StaysButInput, File, failed_calls, kind_of, listing, with_fault};
+ghost use Rattle.tame_names.specs.Standing.{IsAboveLimit, IsLeft, IsWithin, Reads, ReadsPart, StaysButInput, File, failed_calls, kind_of, listing, with_fault};
 
 use crate::errors::NoMemory;
 use crate::host::{
@@ -15,9 +15,9 @@ use crate::host::{
 };
 use crate::lists::Items;
 use crate::memory_changes::{add_folders, can_create, place, ways_to};
-use crate::memory_locks::{LockAnswer, MemLocks};
+use crate::memory_locks::{LockAnswer, MemLocks, opening_fault, taking_fault};
 use crate::memory_nodes::{
-    MemFile, MemNode, copy_within, entries_at, is_readable, kind_at, read_at,
+    MemFile, MemNode, copy_within, entries_at, is_readable, kind_at, part_at, read_at,
 };
 use crate::memory_variables::{MemVariable, value_of};
 use crate::texts::Text;
@@ -27,7 +27,8 @@ use std::alloc::Global;
 /// so of variables; a folder has the entries that were stated, and gains those of what a call makes
 /// in it. The calls whose numbers are listed, counted from 1, fail. The n-th call on a lock is to
 /// give the n-th answer; one that has none, or one of the other kind, fails, as does one that is to
-/// be contested though it waits for its turn. No opening of a lock makes a file.
+/// be contested though it waits for its turn, and a taking of a file of the system. No opening of a
+/// lock makes a file.
 #[derive(Drop)]
 pub struct MemFiles {
     pub(crate) alloc: Global,
@@ -36,9 +37,9 @@ pub struct MemFiles {
     variables: Items<MemVariable>,
     current: Text,
     pub(crate) locks: MemLocks,
-    fails: Items<u64>,
+    pub(crate) fails: Items<u64>,
     failed: Items<FailedCall>,
-    calls: u64,
+    pub(crate) calls: u64,
     pub(crate) faults: u64,
 }
 
@@ -177,7 +178,7 @@ impl Files for MemFiles {
 
     ghost failed = { λ m. m.failed };
 
-    ghost steps = { λ m. m.locks.steps };
+    ghost locks = { λ m. locks_after m.locks.steps };
 
     ghost faults = { λ m. m.faults };
 
@@ -192,13 +193,38 @@ impl Files for MemFiles {
         ensures answer { Reads (standing_in self.old.files path.now) limit result }
         ensures failed { self.new.failed
             ≡ failed_calls self.old.failed FileCall.Read (Some path.now) result }
-        ensures steps { self.new.locks.steps ≡ self.old.locks.steps }
+        ensures locks { locks_after self.new.locks.steps ≡ locks_after self.old.locks.steps }
         ensures counted { Counted (IsReadable (standing_in self.old.files path.now))
             self.old self.new result }
     {
         self.begin(FileCall::Read, Some(path))?;
         if is_readable(self.files.as_slice(), path) {
             read_at(alloc, self.files.as_slice(), path, limit)
+        } else {
+            Err(self.fail(FileCall::Read, Some(path)))
+        }
+    }
+
+    fn read_part(
+        &mut self,
+        alloc: Global,
+        path: &str,
+        from: u64,
+        limit: u64,
+    ) -> Result<Option<Vec<u8>>, FileFault>
+        ensures cause { HasCause FileFault.NoMemory self.old.faults self.new.faults result }
+        ensures within { IsWithin limit result }
+        ensures same { host_in self.new ≡ host_in self.old }
+        ensures answer { ReadsPart (standing_in self.old.files path.now) from limit result }
+        ensures failed { self.new.failed
+            ≡ failed_calls self.old.failed FileCall.Read (Some path.now) result }
+        ensures locks { locks_after self.new.locks.steps ≡ locks_after self.old.locks.steps }
+        ensures counted { Counted (IsReadable (standing_in self.old.files path.now))
+            self.old self.new result }
+    {
+        self.begin(FileCall::Read, Some(path))?;
+        if is_readable(self.files.as_slice(), path) {
+            part_at(alloc, self.files.as_slice(), path, from, limit)
         } else {
             Err(self.fail(FileCall::Read, Some(path)))
         }
@@ -213,7 +239,7 @@ impl Files for MemFiles {
         ensures left { IsLeft result self.new.input }
         ensures failed { self.new.failed
             ≡ failed_calls self.old.failed FileCall.ReadStdin None result }
-        ensures steps { self.new.locks.steps ≡ self.old.locks.steps }
+        ensures locks { locks_after self.new.locks.steps ≡ locks_after self.old.locks.steps }
         ensures counted { Counted (Unit {0}) self.old self.new result }
     {
         self.begin(FileCall::ReadStdin, None)?;
@@ -229,7 +255,7 @@ impl Files for MemFiles {
             ≡ listing (standing_in self.old.files path.now)) }
         ensures failed { self.new.failed
             ≡ failed_calls self.old.failed FileCall.List (Some path.now) result }
-        ensures steps { self.new.locks.steps ≡ self.old.locks.steps }
+        ensures locks { locks_after self.new.locks.steps ≡ locks_after self.old.locks.steps }
         ensures counted { Counted (Unit {0}) self.old self.new result }
     {
         self.begin(FileCall::List, Some(path))?;
@@ -243,7 +269,7 @@ impl Files for MemFiles {
             ≡ kind_of (standing_in self.old.files path.now)) }
         ensures failed { self.new.failed
             ≡ failed_calls self.old.failed FileCall.Kind (Some path.now) result }
-        ensures steps { self.new.locks.steps ≡ self.old.locks.steps }
+        ensures locks { locks_after self.new.locks.steps ≡ locks_after self.old.locks.steps }
         ensures counted { Counted (Unit {0}) self.old self.new result }
     {
         self.begin(FileCall::Kind, Some(path))?;
@@ -256,7 +282,7 @@ impl Files for MemFiles {
         ensures answer { IfOk result (λ value. value ≡ value_in self.old.variables name.now) }
         ensures failed { self.new.failed
             ≡ failed_calls self.old.failed FileCall.Env (Some name.now) result }
-        ensures steps { self.new.locks.steps ≡ self.old.locks.steps }
+        ensures locks { locks_after self.new.locks.steps ≡ locks_after self.old.locks.steps }
         ensures counted { Counted (Unit {0}) self.old self.new result }
     {
         self.begin(FileCall::Env, Some(name))?;
@@ -269,7 +295,7 @@ impl Files for MemFiles {
         ensures answer { IfOk result (λ path. path ≡ self.old.current) }
         ensures failed { self.new.failed
             ≡ failed_calls self.old.failed FileCall.CurrentDir None result }
-        ensures steps { self.new.locks.steps ≡ self.old.locks.steps }
+        ensures locks { locks_after self.new.locks.steps ≡ locks_after self.old.locks.steps }
         ensures counted { Counted (Unit {0}) self.old self.new result }
     {
         self.begin(FileCall::CurrentDir, None)?;
@@ -285,7 +311,7 @@ impl Files for MemFiles {
             (path.now ≢ [] → is_folder (standing_in self.new.files path.now) ≡ true) }
         ensures failed { self.new.failed
             ≡ failed_calls self.old.failed FileCall.MakeDirs (Some path.now) result }
-        ensures steps { self.new.locks.steps ≡ self.old.locks.steps }
+        ensures locks { locks_after self.new.locks.steps ≡ locks_after self.old.locks.steps }
         ensures counted { Counted (AreFolders (ways_to path.now) (standing_in self.old.files))
             self.old self.new result }
     {
@@ -301,11 +327,9 @@ impl Files for MemFiles {
     fn create(&mut self, path: &str, bytes: &[u8]) -> Result<(), FileFault>
         ensures cause { HasCause FileFault.NoMemory self.old.faults self.new.faults result }
         ensures created { Creates path.now bytes.now (host_in self.old) (host_in self.new) result }
-        ensures possible { can_create path.now (standing_in self.old.files) ≡ false
-            → IsErr result × (host_in self.new ≡ host_in self.old) }
         ensures failed { self.new.failed
             ≡ failed_calls self.old.failed FileCall.Create (Some path.now) result }
-        ensures steps { self.new.locks.steps ≡ self.old.locks.steps }
+        ensures locks { locks_after self.new.locks.steps ≡ locks_after self.old.locks.steps }
         ensures counted { Counted (can_create path.now (standing_in self.old.files) ≡ true)
             self.old self.new result }
     {
@@ -318,59 +342,75 @@ impl Files for MemFiles {
         Ok(())
     }
 
-    fn open_lock(&mut self, path: &str, exclusive: bool) -> Result<OpenedLock, LockOpenFault>
-        ensures cause { HasLockCause (IsErrOf result LockOpenFault.Failed)
+    fn open_lock(
+        &mut self,
+        path: &str,
+        exclusive: bool,
+    ) -> Result<Result<OpenedLock, LockOpenFault>, NoMemory>
+        ensures cause { HasLockCause (result ≡ Ok (Err LockOpenFault.Failed))
             self.old.faults self.new.faults }
-        ensures made { MayMake exclusive path.now (host_in self.old) (host_in self.new) }
-        ensures refused { IfErr result (λ fault. fault ≢ LockOpenFault.Failed
-            → host_in self.new ≡ host_in self.old) }
-        ensures failed { AddsCall (IsErrOf result LockOpenFault.Failed)
-            (record { call = FileCall.OpenLock; path = Some path.now })
-            self.old.failed self.new.failed }
-        ensures steps { AddsStep (IsErrOf result LockOpenFault.Failed)
-            (open_step path.now exclusive (fault_of result))
-            self.old.locks.steps self.new.locks.steps }
-        ensures counted { LockCounted (IsErrOf result LockOpenFault.Failed)
-            (LockAnswer.Open (fault_of result)) self.old self.new }
+        ensures made { Makes exclusive path.now result (host_in self.old) (host_in self.new) }
+        ensures failed { self.new.failed ≡ failed_opening path.now result self.old.failed }
+        ensures locks { locks_after self.new.locks.steps
+            ≡ after_opening path.now exclusive result (locks_after self.old.locks.steps) }
+        ensures counted { LockCounted LockOpenFault.Failed LockAnswer.Open
+            self.old self.new result }
         ensures same { host_in self.new ≡ host_in self.old }
     {
-        let fault = self.opening(path);
-        if !self.add_step(path, exclusive, LockCall::Open(fault)) {
-            return Err(LockOpenFault::Failed);
-        }
+        let fault = opening_fault(self.begin_lock());
+        let step = LockCall::Open(fault);
         match fault {
-            None => Ok(OpenedLock { file: None }),
-            Some(fault) => Err(fault),
+            None => {
+                self.add_step(path, exclusive, step)?;
+                Ok(Ok(OpenedLock { file: None }))
+            }
+            Some(LockOpenFault::Failed) => {
+                self.add_failed_step(path, exclusive, step, FileCall::OpenLock)?;
+                Ok(Err(LockOpenFault::Failed))
+            }
+            Some(fault) => {
+                self.add_step(path, exclusive, step)?;
+                Ok(Err(fault))
+            }
         }
     }
 
     fn take_lock(
         &mut self,
         path: &str,
-        _opened: &OpenedLock,
+        opened: &OpenedLock,
         exclusive: bool,
         block: bool,
-    ) -> Result<(), LockTakeFault>
-        ensures cause { HasLockCause (IsErrOf result LockTakeFault.Failed)
+    ) -> Result<Result<(), LockTakeFault>, NoMemory>
+        ensures cause { HasLockCause (result ≡ Ok (Err LockTakeFault.Failed))
             self.old.faults self.new.faults }
-        ensures contested { result ≡ Err LockTakeFault.Contested → block ≡ false }
+        ensures contested { result ≡ Ok (Err LockTakeFault.Contested) → block ≡ false }
         ensures same { host_in self.new ≡ host_in self.old }
-        ensures failed { AddsCall (IsErrOf result LockTakeFault.Failed)
-            (record { call = FileCall.TakeLock; path = Some path.now })
-            self.old.failed self.new.failed }
-        ensures steps { AddsStep (IsErrOf result LockTakeFault.Failed)
-            (take_step path.now exclusive block (fault_of result))
-            self.old.locks.steps self.new.locks.steps }
-        ensures counted { LockCounted (IsErrOf result LockTakeFault.Failed)
-            (LockAnswer.Take (fault_of result)) self.old self.new }
+        ensures failed { self.new.failed ≡ failed_taking path.now result self.old.failed }
+        ensures locks { locks_after self.new.locks.steps ≡ after_taking path.now opened.now
+            exclusive block result (locks_after self.old.locks.steps) }
+        ensures counted { LockCounted LockTakeFault.Failed LockAnswer.Take
+            self.old self.new result }
     {
-        let fault = self.taking(path, block);
-        if !self.add_step(path, exclusive, LockCall::Take(block, fault)) {
-            return Err(LockTakeFault::Failed);
-        }
+        let answer = self.begin_lock();
+        let fault = match opened.file {
+            None => taking_fault(answer, block),
+            Some(_) => Some(LockTakeFault::Failed),
+        };
+        let step = LockCall::Take(block, fault);
         match fault {
-            None => Ok(()),
-            Some(fault) => Err(fault),
+            None => {
+                self.add_step(path, exclusive, step)?;
+                Ok(Ok(()))
+            }
+            Some(LockTakeFault::Failed) => {
+                self.add_failed_step(path, exclusive, step, FileCall::TakeLock)?;
+                Ok(Err(LockTakeFault::Failed))
+            }
+            Some(fault) => {
+                self.add_step(path, exclusive, step)?;
+                Ok(Err(fault))
+            }
         }
     }
 }

@@ -1,11 +1,7 @@
 //! Calls on the locks of a host in memory: what they answer, and their steps.
-ghost use Rattle.std.specs.Prelude.{◌≡◌, ◌≢◌, ◌≤◌, ◌++◌, ◌∷◌, [], ⊤, false, Some, OnOk, OnErr};
-ghost use Rattle.std.specs.Bool.{MatchBool};
+ghost use Rattle.std.specs.Prelude.{◌≡◌, ◌≢◌, ◌≤◌, ◌++◌, ◌∷◌, [], false, Some, None, OnOk, OnErr};
 ghost use Rattle.std.specs.List.{slice_get};
 ghost use Rattle.tame_names.specs.Counts.{CountRose, IsListed, next_call};
-ghost use Rattle.tame_names.specs.Locks.{AddsCall};
-ghost use Rattle.tame_names.specs.MemoryFiles.{host_in};
-ghost use Rattle.tame_names.specs.MemoryLocks.{LockCounted};
 
 use crate::errors::NoMemory;
 use crate::host::{FileCall, FileFault, LockCall, LockOpenFault, LockStep, LockTakeFault};
@@ -96,128 +92,98 @@ impl MemLocks {
     }
 }
 
+/// What an opening answers that is to give this answer.
+pub(crate) fn opening_fault(answer: Option<LockAnswer>) -> Option<LockOpenFault>
+    ensures { result ≢ Some LockOpenFault.Failed → answer ≡ Some (LockAnswer.Open result) }
+{
+    match answer {
+        Some(LockAnswer::Open(fault)) => fault,
+        _ => Some(LockOpenFault::Failed),
+    }
+}
+
+/// What a taking answers that is to give this answer; one that waits for its turn is never
+/// contested.
+pub(crate) fn taking_fault(answer: Option<LockAnswer>, block: bool) -> Option<LockTakeFault>
+    ensures given { result ≢ Some LockTakeFault.Failed → answer ≡ Some (LockAnswer.Take result) }
+    ensures contested { result ≡ Some LockTakeFault.Contested → block ≡ false }
+{
+    match answer {
+        Some(LockAnswer::Take(Some(LockTakeFault::Contested))) if block => {
+            Some(LockTakeFault::Failed)
+        }
+        Some(LockAnswer::Take(fault)) => fault,
+        _ => Some(LockTakeFault::Failed),
+    }
+}
+
 impl MemFiles {
-    /// Counts a failed call on a lock, and adds it to the failed ones where memory allows.
-    fn fail_lock(&mut self, call: FileCall, path: &str)
-        ensures host { host_in self.new ≡ host_in self.old }
-        ensures locks { self.new.locks ≡ self.old.locks }
-        ensures calls { self.new.calls ≡ self.old.calls }
-        ensures fails { self.new.fails ≡ self.old.fails }
-        ensures rose { CountRose self.old.faults self.new.faults }
-        ensures later { self.old.faults ≤ self.new.faults }
-        ensures failed { AddsCall ⊤ (record { call = call; path = Some path.now })
-            self.old.failed self.new.failed }
+    /// Counts a call on a lock, and gives the answer that was stated for it; none where its number
+    /// is listed, and where no answer is left.
+    pub(crate) fn begin_lock(&mut self) -> Option<LockAnswer>
+        ensures same { self.new ≡ record self.old {
+          calls = next_call self.old.calls;
+          locks = record self.old.locks { asked = next_call self.old.locks.asked };
+        } }
+        ensures faults { self.new.faults ≡ self.old.faults }
+        ensures listed { IsListed self.new.calls self.old.fails → result ≡ None }
+        ensures answer { result ≢ None
+            → result ≡ slice_get self.old.locks.answers self.old.locks.asked }
     {
+        let answer = self.locks.next_answer();
+        self.calls = self.calls.saturating_add(1);
+        if self.fails.as_slice().contains(&self.calls) {
+            return None;
+        }
+        answer
+    }
+
+    /// Adds a step that doesn't fail.
+    pub(crate) fn add_step(
+        &mut self,
+        path: &str,
+        exclusive: bool,
+        call: LockCall,
+    ) -> Result<(), NoMemory>
+        ensures added { OnOk result (self.new ≡ record self.old {
+          locks = record self.old.locks {
+            steps = self.old.locks.steps
+                ++ record { path = path.now; exclusive = exclusive; call = call } ∷ [];
+          };
+        }) }
+        ensures same { OnErr result (self.new ≡ self.old) }
+    {
+        self.locks.add(self.alloc, path, exclusive, call)
+    }
+
+    /// Adds a step that fails, and with it a failed call, which is counted; or, where memory runs
+    /// out, neither.
+    pub(crate) fn add_failed_step(
+        &mut self,
+        path: &str,
+        exclusive: bool,
+        step: LockCall,
+        call: FileCall,
+    ) -> Result<(), NoMemory>
+        ensures added { OnOk result (self.new ≡ record self.old {
+          locks = record self.old.locks {
+            steps = self.old.locks.steps
+                ++ record { path = path.now; exclusive = exclusive; call = step } ∷ [];
+          };
+          failed = self.old.failed ++ record { call = call; path = Some path.now } ∷ [];
+          faults = next_call self.old.faults;
+        }) }
+        ensures later { self.old.faults ≤ self.new.faults }
+        ensures rose { OnOk result (CountRose self.old.faults self.new.faults) }
+        ensures same { OnErr result (self.new ≡ self.old) }
+    {
+        let before = self.locks.steps.len();
+        self.add_step(path, exclusive, step)?;
         match self.fail(call, Some(path)) {
-            FileFault::Failed => {}
-            FileFault::NoMemory => self.faults = self.faults.saturating_add(1),
-        }
-    }
-
-    /// Counts a call on a lock. Whether it is to go on; else it failed, and that was counted.
-    fn begin_lock(&mut self, call: FileCall, path: &str) -> bool
-        ensures host { host_in self.new ≡ host_in self.old }
-        ensures locks { self.new.locks ≡ self.old.locks }
-        ensures count { self.new.calls ≡ next_call self.old.calls }
-        ensures listed { self.new.fails ≡ self.old.fails }
-        ensures fails { IsListed self.new.calls self.old.fails → result ≡ false }
-        ensures later { self.old.faults ≤ self.new.faults }
-        ensures failed { MatchBool result
-            ((self.new.failed ≡ self.old.failed) × (self.new.faults ≡ self.old.faults))
-            (CountRose self.old.faults self.new.faults × AddsCall ⊤
-            (record { call = call; path = Some path.now }) self.old.failed self.new.failed) }
-    {
-        match self.begin(call, Some(path)) {
-            Ok(()) => true,
-            Err(FileFault::Failed) => false,
-            Err(FileFault::NoMemory) => {
-                self.faults = self.faults.saturating_add(1);
-                false
-            }
-        }
-    }
-
-    /// Adds a step, or counts a fault where memory runs out.
-    pub(crate) fn add_step(&mut self, path: &str, exclusive: bool, call: LockCall) -> bool
-        ensures host { host_in self.new ≡ host_in self.old }
-        ensures calls { self.new.calls ≡ self.old.calls }
-        ensures fails { self.new.fails ≡ self.old.fails }
-        ensures failed { self.new.failed ≡ self.old.failed }
-        ensures answers { self.new.locks.answers ≡ self.old.locks.answers }
-        ensures asked { self.new.locks.asked ≡ self.old.locks.asked }
-        ensures later { self.old.faults ≤ self.new.faults }
-        ensures added { MatchBool result
-            ((self.new.faults ≡ self.old.faults) × (self.new.locks.steps ≡ self.old.locks.steps
-            ++ record { path = path.now; exclusive = exclusive; call = call } ∷ []))
-            ((self.new.locks.steps ≡ self.old.locks.steps)
-            × CountRose self.old.faults self.new.faults) }
-    {
-        match self.locks.add(self.alloc, path, exclusive, call) {
-            Ok(()) => true,
-            Err(NoMemory) => {
-                self.faults = self.faults.saturating_add(1);
-                false
-            }
-        }
-    }
-
-    /// What an opening answers, but for its step: a failed one was counted.
-    pub(crate) fn opening(&mut self, path: &str) -> Option<LockOpenFault>
-        ensures host { host_in self.new ≡ host_in self.old }
-        ensures steps { self.new.locks.steps ≡ self.old.locks.steps }
-        ensures later { self.old.faults ≤ self.new.faults }
-        ensures rose { result ≡ Some LockOpenFault.Failed
-            → CountRose self.old.faults self.new.faults }
-        ensures failed { AddsCall (result ≡ Some LockOpenFault.Failed)
-            (record { call = FileCall.OpenLock; path = Some path.now })
-            self.old.failed self.new.failed }
-        ensures counted { LockCounted (result ≡ Some LockOpenFault.Failed)
-            (LockAnswer.Open result) self.old self.new }
-    {
-        let answer = self.locks.next_answer();
-        if !self.begin_lock(FileCall::OpenLock, path) {
-            return Some(LockOpenFault::Failed);
-        }
-        match answer {
-            Some(LockAnswer::Open(None)) => None,
-            Some(LockAnswer::Open(Some(LockOpenFault::NotFound))) => Some(LockOpenFault::NotFound),
-            Some(LockAnswer::Open(Some(LockOpenFault::Denied))) => Some(LockOpenFault::Denied),
-            _ => {
-                self.fail_lock(FileCall::OpenLock, path);
-                Some(LockOpenFault::Failed)
-            }
-        }
-    }
-
-    /// What a taking answers, but for its step: a failed one was counted.
-    pub(crate) fn taking(&mut self, path: &str, block: bool) -> Option<LockTakeFault>
-        ensures host { host_in self.new ≡ host_in self.old }
-        ensures steps { self.new.locks.steps ≡ self.old.locks.steps }
-        ensures later { self.old.faults ≤ self.new.faults }
-        ensures rose { result ≡ Some LockTakeFault.Failed
-            → CountRose self.old.faults self.new.faults }
-        ensures contested { result ≡ Some LockTakeFault.Contested → block ≡ false }
-        ensures failed { AddsCall (result ≡ Some LockTakeFault.Failed)
-            (record { call = FileCall.TakeLock; path = Some path.now })
-            self.old.failed self.new.failed }
-        ensures counted { LockCounted (result ≡ Some LockTakeFault.Failed)
-            (LockAnswer.Take result) self.old self.new }
-    {
-        let answer = self.locks.next_answer();
-        if !self.begin_lock(FileCall::TakeLock, path) {
-            return Some(LockTakeFault::Failed);
-        }
-        match answer {
-            Some(LockAnswer::Take(None)) => None,
-            Some(LockAnswer::Take(Some(LockTakeFault::NotSupported))) => {
-                Some(LockTakeFault::NotSupported)
-            }
-            Some(LockAnswer::Take(Some(LockTakeFault::Contested))) if !block => {
-                Some(LockTakeFault::Contested)
-            }
-            _ => {
-                self.fail_lock(FileCall::TakeLock, path);
-                Some(LockTakeFault::Failed)
+            FileFault::Failed => Ok(()),
+            FileFault::NoMemory => {
+                self.locks.steps.cut(before);
+                Err(NoMemory)
             }
         }
     }

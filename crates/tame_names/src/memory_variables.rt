@@ -10,7 +10,9 @@ use std::alloc::Global;
 /// A variable of the environment in memory.
 #[derive(Drop)]
 pub struct MemVariable {
+    /// Its name.
     pub name: Text,
+    /// Its value.
     pub value: EnvValue,
 }
 

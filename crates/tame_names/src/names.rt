@@ -222,6 +222,22 @@ impl<'n> KrateName<'n> {
     }
 }
 
+impl<'n> TryFrom<&'n str> for KrateName<'n> {
+    ghost use Rattle.std.specs.Prelude.{◌≡◌, IfOk, IfErr, Some, None};
+    ghost use Rattle.tame_names.specs.KrateNames.{text_of};
+    ghost use Rattle.tame_names.specs.Names.{refusal, refusal_of};
+
+    type Error = InvalidKrateName;
+
+    ghost try_from_gives = { λ name r.
+        IfOk r (λ n. (text_of n ≡ name.now) × (refusal_of name.now ≡ None))
+        × IfErr r (λ e. refusal_of name.now ≡ Some (refusal e)) };
+
+    fn try_from(name: &'n str) -> Result<KrateName<'n>, InvalidKrateName> {
+        KrateName::try_from(name)
+    }
+}
+
 impl KrateName<'static> {
     ghost use Rattle.tame_names.specs.KrateNames.{text_of};
 

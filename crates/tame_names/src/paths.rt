@@ -1,6 +1,5 @@
 //! Paths as text.
 ghost use Rattle.std.specs.Prelude.{◌≡◌, ◌≤◌, ◌<◌, bytes_eq, length, option_map, slice_index, take, IfOk, IfSome};
-ghost use Rattle.tame_names.specs.Paths.{plain_path};
 ghost use Rattle.tame_names.specs.Paths as spec;
 
 use crate::errors::NoMemory;
@@ -27,7 +26,7 @@ fn ends_with_slash(path: &str) -> bool
 
 /// Whether two paths stand for the same, whatever slashes stand at their ends.
 pub fn is_same_path(one: &str, other: &str) -> bool
-    ensures { result ≡ bytes_eq (plain_path one.now) (plain_path other.now) }
+    ensures { result ≡ bytes_eq (spec.plain_path one.now) (spec.plain_path other.now) }
 {
     match (one.as_bytes(), other.as_bytes()) {
         ([], []) => true,
@@ -56,7 +55,7 @@ pub fn join(alloc: Global, folder: &str, path: &str) -> Result<Text, NoMemory>
 
 /// How many bytes a path has without the slashes at its end.
 fn plain_len(path: &[u8]) -> usize
-    ensures plain { take result path.now ≡ plain_path path.now }
+    ensures plain { take result path.now ≡ spec.plain_path path.now }
     ensures within { result ≤ length path.now }
     ensures slash { result < length path.now → slice_index path.now result ≡ 47 }
 {
@@ -67,8 +66,8 @@ fn plain_len(path: &[u8]) -> usize
 }
 
 /// The path that a path stands for: without the slashes at its end, but for `/` itself.
-pub fn plain(path: &str) -> &str
-    ensures { result.now ≡ plain_path path.now }
+pub fn plain_path(path: &str) -> &str
+    ensures { result.now ≡ spec.plain_path path.now }
 {
     let len = plain_len(path.as_bytes());
     &path[..len]
@@ -104,14 +103,14 @@ pub fn parent(path: &str) -> Option<&str>
     ensures folder { option_map (λ folder. folder.now) result ≡ spec.parent path.now }
     ensures shorter { IfSome result (λ folder. length folder.now < length path.now) }
 {
-    parent_of_plain(plain(path))
+    parent_of_plain(plain_path(path))
 }
 
 /// The name of a path in its folder: the text behind the last `/`. Slashes at the end don't count.
 pub fn file_name(path: &str) -> &str
     ensures { result.now ≡ spec.file_name path.now }
 {
-    let path = plain(path);
+    let path = plain_path(path);
     match cut_at_last_slash(path) {
         None => path,
         Some((_, name)) => name,

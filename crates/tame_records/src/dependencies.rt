@@ -16,9 +16,12 @@ use tame_names::{Error, Items, Text};
 /// What a dependency is used for.
 #[derive(Clone, Copy, Debug, Default, PartialEq, Eq, Hash)]
 pub enum DependencyKind {
+    /// For the crate itself.
     #[default]
     Normal,
+    /// For examples, tests and benchmarks alone.
     Dev,
+    /// For the build script alone.
     Build,
 }
 
@@ -29,11 +32,15 @@ pub struct IndexDependency {
     pub name: Text,
     /// The requirement on its version.
     pub req: Text,
+    /// The features of it that are asked for, in the order of the line.
     pub features: Items<Text>,
+    /// Whether it is needed only where a feature asks for it.
     pub optional: bool,
+    /// Whether its default features are asked for.
     pub default_features: bool,
     /// The platform that it is for; none: every platform.
     pub target: Option<Text>,
+    /// What it is used for.
     pub kind: DependencyKind,
     /// The crate's own name, where `name` isn't that.
     pub package: Option<Text>,

@@ -5,12 +5,19 @@ ghost use Rattle.tame_records.specs.VersionFlags as spec;
 /// What a key means to a version.
 #[derive(Clone, Copy)]
 pub(crate) enum VersionKey {
+    /// The crate's name.
     Name,
+    /// The version's text.
     Version,
+    /// The list of dependencies.
     Deps,
+    /// The digest of the crate file.
     Checksum,
+    /// The features.
     Features,
+    /// The features that are written in a newer form.
     Features2,
+    /// Whether it is yanked.
     Yanked,
     /// One of the members that are a text or null.
     Text,
@@ -23,13 +30,19 @@ pub(crate) enum VersionKey {
 /// What a key means to a dependency.
 #[derive(Clone, Copy)]
 pub(crate) enum DependencyKey {
+    /// The name in the version's manifest.
     Name,
+    /// The requirement on its version.
     Req,
+    /// The features of it that are asked for.
     Features,
+    /// Whether it is optional.
     Optional,
+    /// Whether its default features are asked for.
     DefaultFeatures,
     /// One of the members that are a text or null.
     Text,
+    /// What it is used for.
     Kind,
     /// No member of a dependency.
     Other,

@@ -17,6 +17,7 @@ use tame_names::{Error, FileFault, Files, IoKind, Items, ReadAnswer, split};
 /// The versions of a crate, in the order in which they were published.
 #[derive(Debug, Drop, PartialEq, Eq)]
 pub struct IndexKrate {
+    /// The versions, the first published in front.
     pub versions: Items<IndexVersion>,
 }
 

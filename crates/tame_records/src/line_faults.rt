@@ -8,6 +8,7 @@ use tame_names::NoMemory;
 pub enum LineFault {
     /// The line isn't JSON, or it or one of its members hasn't its form.
     Json,
+    /// Memory ran out.
     NoMemory,
 }
 

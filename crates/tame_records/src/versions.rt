@@ -20,6 +20,7 @@ use tame_names::{Items, NoMemory, Text};
 /// A version of a crate in the index (Cargo Book, "Registry Index", JSON schema).
 #[derive(Debug, Drop, PartialEq, Eq)]
 pub struct IndexVersion {
+    /// The crate's name, as written.
     pub name: Text,
     /// The version's text; it may be no SemVer version.
     pub version: Text,
@@ -27,8 +28,11 @@ pub struct IndexVersion {
     pub deps: Shared<IndexDependency>,
     /// The SHA-256 digest of the crate file.
     pub checksum: Chksum,
+    /// Whether the version is yanked: kept, and not to be chosen anew.
     pub yanked: bool,
+    /// The native library that it links, if one is stated.
     pub links: Option<Text>,
+    /// The oldest Rust that it supports, as written, if one is stated.
     pub rust_version: Option<Text>,
     /// When it was published, as written.
     pub pubtime: Option<Text>,
@@ -51,7 +55,9 @@ struct OptionalMembers {
 /// What an audit keeps of a version: its text, and whether it is yanked.
 #[derive(Debug, Drop, PartialEq, Eq)]
 pub struct VersionFlag {
+    /// The version's text; it may be no SemVer version.
     pub version: Text,
+    /// Whether the version is yanked.
     pub yanked: bool,
 }
 

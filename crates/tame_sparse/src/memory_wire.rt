@@ -12,7 +12,9 @@ use tame_names::{Items, NoMemory};
 /// What a server holds at a call, and the answer that it gives; without one the call fails.
 #[derive(Drop)]
 pub struct Scripted {
+    /// What the server holds at the path; none where it holds nothing.
     pub held: Option<Representation>,
+    /// The answer; none where the call fails.
     pub answer: Option<WireAnswer>,
 }
 
@@ -47,6 +49,7 @@ impl MemWire {
     }
 }
 
+/// A copy of a revision, where there is one; an error only where memory runs out.
 pub fn copy_revision(
     alloc: Global,
     revision: &Option<OwnedRevision>,

@@ -16,7 +16,9 @@ use tame_names::utf8_text;
 pub struct Response<'r> {
     /// The status code (RFC 9110, section 15).
     pub status: u16,
+    /// The revision of the body, where the response names one.
     pub revision: Option<HttpRevision<'r>>,
+    /// The bytes of the body.
     pub body: &'r [u8],
 }
 

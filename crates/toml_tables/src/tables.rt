@@ -12,6 +12,7 @@ use toml::{Table, Value};
 pub enum TableFault {
     /// The text is no TOML.
     Toml,
+    /// Memory ran out.
     NoMemory,
 }
 

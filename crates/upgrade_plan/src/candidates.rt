@@ -96,6 +96,7 @@ impl Candidate {
         self.version.cmp_precedence(&than.version) == Ordering::Less
     }
 
+    /// The version's text.
     pub fn into_text(self) -> Text
         ensures { result ≡ self }
     {

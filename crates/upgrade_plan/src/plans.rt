@@ -32,7 +32,9 @@ pub enum PlanOutcome {
 /// The place of a package in the lockfile, and what is planned for it.
 #[derive(Drop)]
 pub struct PlanItem {
+    /// The place of the package in the lockfile, from 0.
     pub package: usize,
+    /// What is planned for it.
     pub outcome: PlanOutcome,
 }
 

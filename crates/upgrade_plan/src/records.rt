@@ -33,7 +33,9 @@ pub enum NoRecord {
 /// The records of the lines of a crate, or why there are none.
 #[derive(Drop)]
 pub enum Recorded {
+    /// The records, in the order of the lines.
     Versions(IndexKrate),
+    /// Why there are none.
     Missing(NoRecord),
 }
 

@@ -17,4 +17,5 @@ mod Reached
 mod Sets
 mod Slashless
 mod Stocked
+mod Told
 mod Whole

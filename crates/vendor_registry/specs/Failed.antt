@@ -1,7 +1,7 @@
 -- Which failed call a refusal is told of (this project).
 use Rattle.std.specs.Prelude.{◌≡◌, List, [], ◌∷◌, ◌++◌, Result, Err}
 use Rattle.tame_names.specs.declared.host.FailedCall.{FailedCall}
-use Rattle.tame_local.specs.Refusals.{IsCallFor}
+use Rattle.tame_local.specs.Calls.{IsCallFor}
 use Rattle.vendor_faults.specs.declared.faults.VendorFault.{VendorFault}
 use Rattle.vendor_faults.specs.declared.faults.VendorFault.TheVariants as fault
 

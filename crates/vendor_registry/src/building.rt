@@ -258,7 +258,9 @@ fn begin<F: Files>(
 /// A registry that was built, and the number of bytes written, at most 2^64 - 1.
 #[derive(Drop)]
 pub struct Built {
+    /// The registry.
     pub registry: LocalRegistry,
+    /// The number of bytes that were written.
     pub bytes: u64,
 }
 

@@ -23,7 +23,9 @@ use vendor_faults::VendorFault;
 /// The name and the version of a package.
 #[derive(Debug, Drop, PartialEq, Eq, PartialOrd, Ord)]
 pub struct Pair {
+    /// The package's name.
     pub name: Text,
+    /// The version's text.
     pub version: Text,
 }
 

@@ -25,6 +25,7 @@ use vendor_faults::VendorFault;
 /// A registry that was made of an audit's packages.
 #[derive(Drop)]
 pub struct Vendored {
+    /// The registry.
     pub registry: LocalRegistry,
     /// The number of its crate files.
     pub packages: usize,

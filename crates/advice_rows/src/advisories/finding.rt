@@ -36,13 +36,35 @@ fn hit_lines(
     Ok(without_newline(out))
 }
 
+/// The same of the packages of the lockfile of a text.
+fn hits_in(
+    alloc: Global,
+    settings: &Settings,
+    advisory: &Advisory,
+    lock: &str,
+) -> Result<String, RowFault> {
+    match read_lockfile(alloc, lock) {
+        Ok(lockfile) => hit_lines(alloc, settings, advisory, lockfile.packages()),
+        Err(fault) => Err(fault),
+    }
+}
+
+/// The same of the first advisory of a stage and of its lockfile.
+fn hits_under(alloc: Global, settings: &Settings, stage: &Stage) -> Result<String, RowFault> {
+    let text = stage.first()?;
+    match read_advisory(alloc, text) {
+        Ok(advisory) => hits_in(alloc, settings, &advisory, stage.lock()),
+        Err(fault) => Err(fault),
+    }
+}
+
 /// `hits IGNORE SEVERITY ARCH OS KINDS`
 pub fn hits_of(alloc: Global, stage: &mut Stage, row: Row<'_>) -> Result<String, RowFault> {
     stage.end(alloc)?;
-    let settings = settings_of(alloc, row)?;
-    let advisory = read_advisory(alloc, stage.first()?)?;
-    let lockfile = read_lockfile(alloc, stage.lock())?;
-    hit_lines(alloc, &settings, &advisory, lockfile.packages())
+    match settings_of(alloc, row) {
+        Ok(settings) => hits_under(alloc, &settings, stage),
+        Err(fault) => Err(fault),
+    }
 }
 
 /// `add HEAD`

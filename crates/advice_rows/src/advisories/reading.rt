@@ -101,10 +101,10 @@ fn format_line(alloc: Global, word: &str, config: &OutputConfig) -> Result<Strin
 /// `word WORD`
 pub fn word(alloc: Global, row: Row<'_>) -> Result<String, RowFault> {
     let word = row.rest();
-    if let Some(option) = DenyOption::from_str(word) {
+    if let Some(option) = DenyOption::from_word(word) {
         return Ok(option_line(alloc, word, option)?);
     }
-    let Some(format) = OutputFormat::from_str(word) else {
+    let Some(format) = OutputFormat::from_word(word) else {
         return Ok(String::new(alloc));
     };
     let config = config_of(alloc, format)?;

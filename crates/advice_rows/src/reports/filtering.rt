@@ -1,5 +1,4 @@
 //! Symbols, and the paths that they keep.
-use crate::row_words::listed;
 use audit_advisory::FunctionPath;
 use audit_report::SymbolSet;
 use row_fixtures::{Row, RowFault};
@@ -17,13 +16,21 @@ fn path_of(alloc: Global, text: &str) -> Result<FunctionPath, RowFault> {
     Ok(segments)
 }
 
-/// The symbols that a word lists; none for `-`.
-pub fn symbols(alloc: Global, row: &mut Row<'_>) -> Result<SymbolSet, RowFault> {
+/// The paths that a mark parts.
+fn paths_of(alloc: Global, text: &str, mark: char) -> Result<Items<FunctionPath>, RowFault> {
     let mut paths = Items::new(alloc);
-    for text in listed(alloc, row)?.as_slice() {
-        paths.add(path_of(alloc, text.as_str())?)?;
+    for path in text.split(mark) {
+        paths.add(path_of(alloc, path)?)?;
     }
-    Ok(SymbolSet::new(paths))
+    Ok(paths)
+}
+
+/// The symbols that a word lists; none for `-`.
+pub fn symbols(alloc: Global, word: &str) -> Result<SymbolSet, RowFault> {
+    match word {
+        "-" => Ok(SymbolSet::new(Items::new(alloc))),
+        _ => Ok(SymbolSet::new(paths_of(alloc, word, ',')?)),
+    }
 }
 
 /// Appends a path behind a blank.
@@ -37,16 +44,25 @@ fn push_path(out: &mut String, path: &FunctionPath) -> Result<(), AllocError> {
     Ok(())
 }
 
-/// `filter SYMBOLS PATH..`
-pub fn filter(alloc: Global, mut row: Row<'_>) -> Result<String, RowFault> {
-    let symbols = symbols(alloc, &mut row)?;
-    let mut paths = Items::new(alloc);
-    for word in row.rest().split(' ') {
-        paths.add(path_of(alloc, word)?)?;
-    }
+/// Those of the paths that the symbols keep.
+fn kept_line(
+    alloc: Global,
+    symbols: &SymbolSet,
+    paths: &[FunctionPath],
+) -> Result<String, RowFault> {
     let mut text = String::from_str(alloc, "kept:")?;
-    for path in symbols.filter(paths.as_slice()) {
+    for path in symbols.filter(paths) {
         push_path(&mut text, path)?;
     }
     Ok(text)
+}
+
+/// `filter SYMBOLS PATH..`
+pub fn filter(alloc: Global, mut row: Row<'_>) -> Result<String, RowFault> {
+    let word = row.word();
+    let paths = paths_of(alloc, row.rest(), ' ')?;
+    match symbols(alloc, word) {
+        Ok(symbols) => kept_line(alloc, &symbols, paths.as_slice()),
+        Err(fault) => Err(fault),
+    }
 }

@@ -12,6 +12,18 @@ fn push_gained(text: &mut String, name: &str, sink: &MemSink) -> Result<(), Allo
     write!(text, "\n{name}:\n{gained}.")
 }
 
+/// An answer, and what an output of this name gained.
+fn gained_by(
+    alloc: Global,
+    answer: Result<(), PrintError>,
+    name: &str,
+    sink: &MemSink,
+) -> Result<String, RowFault> {
+    let mut text = format!(in alloc; "{answer:?}")?;
+    push_gained(&mut text, name, sink)?;
+    Ok(text)
+}
+
 /// An answer, and what two outputs gained.
 fn gained(
     alloc: Global,
@@ -19,25 +31,25 @@ fn gained(
     out: &MemSink,
     err: &MemSink,
 ) -> Result<String, RowFault> {
-    let mut text = format!(in alloc; "{answer:?}")?;
-    push_gained(&mut text, "out", out)?;
+    let mut text = gained_by(alloc, answer, "out", out)?;
     push_gained(&mut text, "err", err)?;
     Ok(text)
 }
 
-/// An output whose puts with the numbers of the next word fail.
-fn sink_of(alloc: Global, row: &mut Row<'_>) -> Result<MemSink, RowFault> {
-    Ok(MemSink::new(alloc, Items::of(row.numbers(alloc)?)))
+/// An output whose puts with these numbers fail.
+fn sink_of(alloc: Global, failing: Vec<u64>) -> MemSink {
+    MemSink::new(alloc, Items::of(failing))
 }
 
 /// `print PATH OUT ERR`
 pub fn print(alloc: Global, stage: &mut Stage, mut row: Row<'_>) -> Result<String, RowFault> {
     let path = row.text_or_none(alloc)?;
-    let mut out = sink_of(alloc, &mut row)?;
-    let mut err = sink_of(alloc, &mut row)?;
+    let (outs, errs) = (row.numbers(alloc)?, row.numbers(alloc)?);
     let (Some(presenter), Some(laid)) = (&mut stage.presenter, &stage.laid) else {
         return Err(RowFault::Unread);
     };
+    let mut out = sink_of(alloc, outs);
+    let mut err = sink_of(alloc, errs);
     let path = match &path {
         Some(path) => Some(path.as_str()),
         None => None,
@@ -58,24 +70,24 @@ fn put_log(alloc: Global, laid: &Laid, path: &str, out: &mut MemSink) -> Result<
 /// `log PATH OUT`
 pub fn log(alloc: Global, stage: &mut Stage, mut row: Row<'_>) -> Result<String, RowFault> {
     let path = row.text(alloc)?;
-    let mut out = sink_of(alloc, &mut row)?;
+    let outs = row.numbers(alloc)?;
     let Some(laid) = &stage.laid else {
         return Err(RowFault::Unread);
     };
+    let mut out = sink_of(alloc, outs);
     let answer = put_log(alloc, laid, path.as_str(), &mut out);
-    let mut text = format!(in alloc; "{answer:?}")?;
-    push_gained(&mut text, "out", &out)?;
-    Ok(text)
+    gained_by(alloc, answer, "out", &out)
 }
 
 /// `self PLACES OUT ERR`
 pub fn print_self(alloc: Global, stage: &mut Stage, mut row: Row<'_>) -> Result<String, RowFault> {
     let places = places(alloc, &mut row)?;
-    let mut out = sink_of(alloc, &mut row)?;
-    let mut err = sink_of(alloc, &mut row)?;
+    let (outs, errs) = (row.numbers(alloc)?, row.numbers(alloc)?);
     let (Some(presenter), Some(laid)) = (&mut stage.presenter, &stage.laid) else {
         return Err(RowFault::Unread);
     };
+    let mut out = sink_of(alloc, outs);
+    let mut err = sink_of(alloc, errs);
     let answer = presenter.print_self_report(alloc, &mut out, &mut err, &laid.database, &places);
     gained(alloc, answer, &out, &err)
 }
@@ -83,14 +95,13 @@ pub fn print_self(alloc: Global, stage: &mut Stage, mut row: Row<'_>) -> Result<
 /// `scanning PATH ERR`
 pub fn scanning(alloc: Global, stage: &mut Stage, mut row: Row<'_>) -> Result<String, RowFault> {
     let path = row.text(alloc)?;
-    let mut err = sink_of(alloc, &mut row)?;
+    let errs = row.numbers(alloc)?;
     let (Some(presenter), Some(laid)) = (&mut stage.presenter, &stage.laid) else {
         return Err(RowFault::Unread);
     };
+    let mut err = sink_of(alloc, errs);
     let answer = presenter.before_report(alloc, &mut err, path.as_str(), &laid.lockfile);
-    let mut text = format!(in alloc; "{answer:?}")?;
-    push_gained(&mut text, "err", &err)?;
-    Ok(text)
+    gained_by(alloc, answer, "err", &err)
 }
 
 /// `binary FOUND N PATH ERR`
@@ -98,14 +109,13 @@ pub fn binary(alloc: Global, stage: &mut Stage, mut row: Row<'_>) -> Result<Stri
     let found = found(&mut row)?;
     let count = place(&mut row)?;
     let path = row.text(alloc)?;
-    let mut err = sink_of(alloc, &mut row)?;
+    let errs = row.numbers(alloc)?;
     let Some(presenter) = &mut stage.presenter else {
         return Err(RowFault::Unread);
     };
+    let mut err = sink_of(alloc, errs);
     let answer = presenter.binary_scan_report(alloc, &mut err, found, count, path.as_str());
-    let mut text = format!(in alloc; "{answer:?}")?;
-    push_gained(&mut text, "err", &err)?;
-    Ok(text)
+    gained_by(alloc, answer, "err", &err)
 }
 
 /// `exits PLACES`

@@ -51,7 +51,7 @@ impl Stage {
 
     /// `symbols SYMBOLS`
     pub fn set_symbols(&mut self, alloc: Global, mut row: Row<'_>) -> Result<String, RowFault> {
-        let symbols = symbols(alloc, &mut row)?;
+        let symbols = symbols(alloc, row.word())?;
         match &mut self.presenter {
             Some(presenter) => presenter.set_symbols(symbols),
             None => return Err(RowFault::Unread),

@@ -26,21 +26,35 @@ fn config_of(alloc: Global, text: &str) -> Result<AuditConfig, RowFault> {
     }
 }
 
+/// What settings ask of advisories.
+fn report_line(alloc: Global, config: &AuditConfig) -> Result<String, RowFault> {
+    let settings = config.report_settings(alloc)?;
+    Ok(format!(in alloc; "{settings:?}")?)
+}
+
 /// `report TEXT`: what the settings ask of advisories.
 pub fn report(alloc: Global, mut row: Row<'_>) -> Result<String, RowFault> {
     let text = row.text(alloc)?;
-    let config = config_of(alloc, text.as_str())?;
-    let settings = config.report_settings(alloc)?;
-    Ok(format!(in alloc; "{settings:?}")?)
+    match config_of(alloc, text.as_str()) {
+        Ok(config) => report_line(alloc, &config),
+        Err(fault) => Err(fault),
+    }
+}
+
+/// The architectures and the systems that count.
+fn targets_line(alloc: Global, config: &AuditConfig) -> Result<String, RowFault> {
+    let arch = config.target.arch(alloc)?;
+    let os = config.target.os(alloc)?;
+    Ok(format!(in alloc; "{arch:?} {os:?}")?)
 }
 
 /// `targets TEXT`: the architectures and the systems that count.
 pub fn targets(alloc: Global, mut row: Row<'_>) -> Result<String, RowFault> {
     let text = row.text(alloc)?;
-    let config = config_of(alloc, text.as_str())?;
-    let arch = config.target.arch(alloc)?;
-    let os = config.target.os(alloc)?;
-    Ok(format!(in alloc; "{arch:?} {os:?}")?)
+    match config_of(alloc, text.as_str()) {
+        Ok(config) => targets_line(alloc, &config),
+        Err(fault) => Err(fault),
+    }
 }
 
 /// The settings under a command.
@@ -53,13 +67,20 @@ fn overridden(
     Ok(format!(in alloc; "{config:?}")?)
 }
 
+/// The settings of a text under a command.
+fn text_under(alloc: Global, command: &AuditCommand, text: &str) -> Result<String, RowFault> {
+    match config_of(alloc, text) {
+        Ok(config) => overridden(alloc, command, config),
+        Err(fault) => Err(fault),
+    }
+}
+
 /// `under TEXT WORD ..`: the settings under the options of a command.
 pub fn under(alloc: Global, mut row: Row<'_>) -> Result<String, RowFault> {
     let text = row.text(alloc)?;
-    let config = config_of(alloc, text.as_str())?;
     let words = words_of(alloc, row)?;
     match read_words(alloc, words.as_slice()) {
-        Ok(Command::Audit(command)) => overridden(alloc, &command, config),
+        Ok(Command::Audit(command)) => text_under(alloc, &command, text.as_str()),
         _ => Err(RowFault::Unread),
     }
 }

@@ -88,7 +88,7 @@ impl Stage {
     pub fn set_deny(&mut self, alloc: Global, mut words: Row<'_>) -> Result<String, RowFault> {
         let mut deny = Items::new(alloc);
         for word in words.word().split(',') {
-            match DenyOption::from_str(word) {
+            match DenyOption::from_word(word) {
                 Some(option) => deny.add(option)?,
                 None => return Err(RowFault::Unread),
             }

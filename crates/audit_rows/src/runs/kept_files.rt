@@ -1,9 +1,9 @@
 //! What the cache keeps of the crate `a`, and what its next request names.
-use row_fixtures::{FLAGGED_FILE, RowFault, flagged_entry, owned_text, shown};
+use row_fixtures::{FLAGGED_FILE, Row, RowFault, asked, flagged_entry, owned_text, shown};
 use std::alloc::{AllocError, Global};
 use tame_cache::{CacheDisk, MemCacheDisk, Peek};
 use tame_entry::OwnedRevision;
-use tame_names::{FileLock, KrateName};
+use tame_names::FileLock;
 use tame_sparse::{Request, SparseIndex};
 
 /// What a file is: the entry of a line, or else its bytes.
@@ -69,8 +69,11 @@ pub fn named_next(
     disk: &mut MemCacheDisk,
 ) -> Result<Option<OwnedRevision>, RowFault> {
     let lock = FileLock::unlocked();
-    let name = KrateName::try_from("a")?;
-    let request = index.make_remote_request(alloc, name, None, &lock, disk)?;
+    let name = Row::of("a").name(alloc)?;
+    let request = asked(
+        alloc,
+        index.make_remote_request(alloc, name, None, &lock, disk),
+    )?;
     let Request { named, .. } = request;
     Ok(named)
 }

@@ -16,7 +16,7 @@ fn config_at(alloc: Global, dl: &str) -> Result<IndexConfig, RowFault> {
 /// `url DL NAME VERSION`: where a version is downloaded from.
 pub fn url(alloc: Global, mut words: Row<'_>) -> Result<String, RowFault> {
     let config = config_at(alloc, words.word())?;
-    let name = words.name()?;
+    let name = words.name(alloc)?;
     let url = config.download_url(alloc, name, words.word())?;
     Ok(String::from_str(alloc, url.as_str())?)
 }
@@ -32,17 +32,22 @@ pub fn url_of_version(alloc: Global, mut words: Row<'_>) -> Result<String, RowFa
     }
 }
 
-/// `config BYTES`: the members of a configuration, or that it is refused.
-pub fn config(alloc: Global, mut words: Row<'_>) -> Result<String, RowFault> {
-    let bytes = words.bytes(alloc)?;
-    let Ok(config) = IndexConfig::from_slice(alloc, bytes.as_slice()) else {
-        return Ok(String::from_str(alloc, "refused")?);
-    };
+/// The members of a configuration.
+fn config_line(alloc: Global, config: &IndexConfig) -> Result<String, RowFault> {
     let api = match &config.api {
         Some(api) => api.as_str(),
         None => "none",
     };
     Ok(format!(in alloc; "{} {api} {}", config.dl, config.auth_required)?)
+}
+
+/// `config BYTES`: the members of a configuration, or that it is refused.
+pub fn config(alloc: Global, mut words: Row<'_>) -> Result<String, RowFault> {
+    let bytes = words.bytes(alloc)?;
+    match IndexConfig::from_slice(alloc, bytes.as_slice()) {
+        Ok(config) => config_line(alloc, &config),
+        Err(_) => Ok(String::from_str(alloc, "refused")?),
+    }
 }
 
 /// `order BYTES BYTES`: how two configurations are ordered, or that one is refused.

@@ -1,11 +1,12 @@
 //! Entries as bytes.
 use crate::cache::revisions::revision_of;
 use crate::cache::sources::{Source, written};
-use row_fixtures::{INDEX_URL, RevisionWord, Row, RowFault, body_of, entry_of, shown};
+use crate::fakes::fake_krate;
+use row_fixtures::{INDEX_URL, RevisionWord, Row, RowFault, asked, body_of, entry_of, shown};
 use std::alloc::{AllocError, Global};
 use tame_entry::{CacheWrite, IndexEntry, JsonLines, Revision, ValidCacheEntry};
 use tame_names::{FileLock, Items, MemSink};
-use tame_records::{IndexKrate, IndexVersion};
+use tame_records::IndexKrate;
 
 /// How many bytes are written of lines under a revision; they are in the sink.
 fn put(
@@ -14,7 +15,10 @@ fn put(
     revision: &Revision<'_>,
     sink: &mut MemSink,
 ) -> Result<u64, RowFault> {
-    Ok(CacheWrite::Remote(lines).write_cache_entry(alloc, sink, INDEX_URL, revision)?)
+    asked(
+        alloc,
+        CacheWrite::Remote(lines).write_cache_entry(alloc, sink, INDEX_URL, revision),
+    )
 }
 
 /// What an entry is read back as: whether its revision is this one, and how many bytes follow it.
@@ -31,17 +35,27 @@ fn read_back(alloc: Global, entry: &[u8], revision: &Revision<'_>) -> Result<Str
 
 /// How many bytes are written of lines under a revision and foretold, which, and what they are
 /// read as.
+fn put_line(
+    alloc: Global,
+    lines: JsonLines<'_>,
+    revision: &Revision<'_>,
+    sink: &mut MemSink,
+) -> Result<String, RowFault> {
+    let count = put(alloc, lines, revision, sink)?;
+    let told = CacheWrite::Remote(lines).entry_len(alloc, INDEX_URL, revision)?;
+    let back = read_back(alloc, sink.bytes(), revision)?;
+    let bytes = shown(alloc, sink.bytes())?;
+    Ok(format!(in alloc; "{count} {told} [{bytes}] {back}")?)
+}
+
+/// The same in a sink of its own.
 fn entry_line(
     alloc: Global,
     lines: JsonLines<'_>,
     revision: &Revision<'_>,
 ) -> Result<String, RowFault> {
     let mut sink = MemSink::new(alloc, Items::new(alloc));
-    let count = put(alloc, lines, revision, &mut sink)?;
-    let told = CacheWrite::Remote(lines).entry_len(alloc, INDEX_URL, revision)?;
-    let back = read_back(alloc, sink.bytes(), revision)?;
-    let bytes = shown(alloc, sink.bytes())?;
-    Ok(format!(in alloc; "{count} {told} [{bytes}] {back}")?)
+    put_line(alloc, lines, revision, &mut sink)
 }
 
 /// `entry REVISION BODY`: the same of a body's lines.
@@ -154,20 +168,15 @@ pub fn of_versions(alloc: Global, mut words: Row<'_>) -> Result<String, RowFault
         body.as_slice(),
         &revision_of(&revision, revision.http()),
     )?;
-    let krate = IndexKrate::from_slice(alloc, body.as_slice())?;
-    versions_line(
-        alloc,
-        &krate,
-        lines.as_slice(),
-        &revision_of(&revision, revision.http()),
-    )
-}
-
-/// A crate of one version.
-fn fake_krate(alloc: Global, name: &str, version: &str) -> Result<IndexKrate, RowFault> {
-    let mut versions = Items::new(alloc);
-    versions.add(IndexVersion::fake(alloc, name, version)?)?;
-    Ok(IndexKrate { versions })
+    match asked(alloc, IndexKrate::from_slice(alloc, body.as_slice())) {
+        Ok(krate) => versions_line(
+            alloc,
+            &krate,
+            lines.as_slice(),
+            &revision_of(&revision, revision.http()),
+        ),
+        Err(fault) => Err(fault),
+    }
 }
 
 fn storable_line(
@@ -184,23 +193,27 @@ pub fn storable(alloc: Global, mut words: Row<'_>) -> Result<String, RowFault> {
     let revision = RevisionWord::of(alloc, words.word())?;
     let name = words.word();
     let version = words.text(alloc)?;
-    let krate = fake_krate(alloc, name, version.as_str())?;
-    storable_line(alloc, &krate, &revision_of(&revision, revision.http()))
+    match fake_krate(alloc, name, version.as_str()) {
+        Ok(krate) => storable_line(alloc, &krate, &revision_of(&revision, revision.http())),
+        Err(fault) => Err(fault),
+    }
 }
 
 /// The revision of an index entry that comes from the cache.
-fn cached_line(alloc: Global, entry: &IndexEntry<'_, '_>) -> Result<String, AllocError> {
-    match entry.cached() {
-        Ok(None) => String::from_str(alloc, "not of the cache"),
-        Ok(Some(entry)) => format!(in alloc; "under {:?}", entry.revision),
-        Err(error) => format!(in alloc; "{error:?}"),
-    }
+fn cached_line(alloc: Global, entry: &IndexEntry<'_, '_>) -> Result<String, RowFault> {
+    Ok(match entry.cached() {
+        Ok(None) => String::from_str(alloc, "not of the cache")?,
+        Ok(Some(entry)) => format!(in alloc; "under {:?}", entry.revision)?,
+        Err(error) => format!(in alloc; "{error:?}")?,
+    })
 }
 
 /// `cached SOURCE`: the revision of an index entry that comes from the cache.
 pub fn cached(alloc: Global, words: Row<'_>) -> Result<String, RowFault> {
-    let lock = FileLock::unlocked();
     let source = Source::of(alloc, words)?;
-    let entry = source.entry(alloc, &lock)?;
-    Ok(cached_line(alloc, &entry)?)
+    let lock = FileLock::unlocked();
+    match source.entry(alloc, &lock) {
+        Ok(entry) => cached_line(alloc, &entry),
+        Err(fault) => Err(fault),
+    }
 }

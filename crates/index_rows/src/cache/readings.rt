@@ -1,13 +1,13 @@
 //! Index entries read as the versions of a crate, and line by line.
 use crate::cache::revisions::revision_of;
 use crate::cache::sources::{Source, written};
-use row_fixtures::{INDEX_URL, RevisionWord, Row, RowFault, shown, shown_word};
+use row_fixtures::{INDEX_URL, RevisionWord, Row, RowFault, asked, shown, shown_word};
 use std::alloc::{AllocError, Global};
 use tame_entry::{
     IndexEntry, IndexEntryVersion, LockedMmap, Revision, ValidCacheEntry, entries_read_as_bodies,
     entries_read_back,
 };
-use tame_names::{FileLock, MemFiles};
+use tame_names::{Error, FileLock, MemFiles};
 use tame_records::{IndexKrate, IndexVersion};
 
 fn push_version(out: &mut String, version: &IndexVersion) -> Result<(), AllocError> {
@@ -16,7 +16,7 @@ fn push_version(out: &mut String, version: &IndexVersion) -> Result<(), AllocErr
 }
 
 /// How many versions there are, and each with its flag.
-fn versions(alloc: Global, krate: &IndexKrate) -> Result<String, AllocError> {
+fn versions(alloc: Global, krate: &IndexKrate) -> Result<String, RowFault> {
     let count = krate.versions.as_slice().len();
     let mut out = format!(in alloc; "{count}:")?;
     for version in krate.versions.as_slice() {
@@ -26,16 +26,29 @@ fn versions(alloc: Global, krate: &IndexKrate) -> Result<String, AllocError> {
 }
 
 fn read_entry(alloc: Global, entry: &IndexEntry<'_, '_>) -> Result<String, RowFault> {
-    let krate = entry.deserialize(alloc)?;
-    Ok(versions(alloc, &krate)?)
+    match asked(alloc, entry.deserialize(alloc)) {
+        Ok(krate) => versions(alloc, &krate),
+        Err(fault) => Err(fault),
+    }
 }
 
 /// `read SOURCE`: an index entry as versions with their flags.
 pub fn read(alloc: Global, words: Row<'_>) -> Result<String, RowFault> {
-    let lock = FileLock::unlocked();
     let source = Source::of(alloc, words)?;
-    let entry = source.entry(alloc, &lock)?;
-    read_entry(alloc, &entry)
+    let lock = FileLock::unlocked();
+    match source.entry(alloc, &lock) {
+        Ok(entry) => read_entry(alloc, &entry),
+        Err(fault) => Err(fault),
+    }
+}
+
+/// A crate as versions with their flags, if it was found.
+fn found_line(alloc: Global, found: Result<Option<IndexKrate>, Error>) -> Result<String, RowFault> {
+    match asked(alloc, found) {
+        Ok(Some(krate)) => versions(alloc, &krate),
+        Ok(None) => Ok(String::from_str(alloc, "nothing")?),
+        Err(fault) => Err(fault),
+    }
 }
 
 fn read_under(
@@ -43,19 +56,18 @@ fn read_under(
     entry: &IndexEntry<'_, '_>,
     revision: &Revision<'_>,
 ) -> Result<String, RowFault> {
-    match entry.deserialize_with_revision(alloc, revision)? {
-        Some(krate) => Ok(versions(alloc, &krate)?),
-        None => Ok(String::from_str(alloc, "nothing")?),
-    }
+    found_line(alloc, entry.deserialize_with_revision(alloc, revision))
 }
 
 /// `under REVISION SOURCE`: the same where it is kept under the revision.
 pub fn under(alloc: Global, mut words: Row<'_>) -> Result<String, RowFault> {
     let revision = RevisionWord::of(alloc, words.word())?;
-    let lock = FileLock::unlocked();
     let source = Source::of(alloc, words)?;
-    let entry = source.entry(alloc, &lock)?;
-    read_under(alloc, &entry, &revision_of(&revision, revision.http()))
+    let lock = FileLock::unlocked();
+    match source.entry(alloc, &lock) {
+        Ok(entry) => read_under(alloc, &entry, &revision_of(&revision, revision.http())),
+        Err(fault) => Err(fault),
+    }
 }
 
 fn kept_line(
@@ -64,10 +76,7 @@ fn kept_line(
     wanted: Option<&Revision<'_>>,
 ) -> Result<String, RowFault> {
     match ValidCacheEntry::read(entry, INDEX_URL) {
-        Ok(entry) => match entry.to_krate(alloc, wanted)? {
-            Some(krate) => Ok(versions(alloc, &krate)?),
-            None => Ok(String::from_str(alloc, "nothing")?),
-        },
+        Ok(entry) => found_line(alloc, entry.to_krate(alloc, wanted)),
         Err(error) => Ok(format!(in alloc; "{error:?}")?),
     }
 }
@@ -105,23 +114,35 @@ fn items_line(alloc: Global, entry: &IndexEntry<'_, '_>) -> Result<String, RowFa
 
 /// `items SOURCE`: the version's text of each item of an index entry.
 pub fn items(alloc: Global, words: Row<'_>) -> Result<String, RowFault> {
-    let lock = FileLock::unlocked();
     let source = Source::of(alloc, words)?;
-    let entry = source.entry(alloc, &lock)?;
-    items_line(alloc, &entry)
+    let lock = FileLock::unlocked();
+    match source.entry(alloc, &lock) {
+        Ok(entry) => items_line(alloc, &entry),
+        Err(fault) => Err(fault),
+    }
+}
+
+/// A record's version and flag.
+fn record_line(alloc: Global, version: &IndexVersion) -> Result<String, RowFault> {
+    Ok(format!(in alloc; "{} {}", version.version, version.yanked)?)
 }
 
 /// `line LINE`: a line as a record, or why it is none.
 pub fn line(alloc: Global, mut words: Row<'_>) -> Result<String, RowFault> {
     let line = words.bytes(alloc)?;
-    let version = IndexEntryVersion::of_line(line.as_slice()).deserialize(alloc)?;
-    Ok(format!(in alloc; "{} {}", version.version, version.yanked)?)
+    match asked(
+        alloc,
+        IndexEntryVersion::of_line(line.as_slice()).deserialize(alloc),
+    ) {
+        Ok(version) => record_line(alloc, &version),
+        Err(fault) => Err(fault),
+    }
 }
 
 /// `map PATH`: the bytes of a file.
 pub fn map(alloc: Global, files: &mut MemFiles, mut words: Row<'_>) -> Result<String, RowFault> {
     let lock = FileLock::unlocked();
-    let file = LockedMmap::mmap(alloc, files, words.word(), &lock)?;
+    let file = asked(alloc, LockedMmap::mmap(alloc, files, words.word(), &lock))?;
     Ok(shown(alloc, file.as_slice())?)
 }
 

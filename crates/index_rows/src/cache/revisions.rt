@@ -13,11 +13,20 @@ pub fn revision_of<'a>(word: &'a RevisionWord, http: Option<HttpRevision<'a>>) -
     }
 }
 
+fn bytes_line(
+    alloc: Global,
+    revision: &Revision<'_>,
+    count: u64,
+    bytes: &[u8],
+) -> Result<String, RowFault> {
+    let text = shown(alloc, bytes)?;
+    Ok(format!(in alloc; "{count} [{text}] [{revision:?}]")?)
+}
+
 fn written(alloc: Global, revision: &Revision<'_>) -> Result<String, RowFault> {
     let mut sink = MemSink::new(alloc, Items::new(alloc));
     let count = revision.write(&mut sink).unwrap_or(0);
-    let text = shown(alloc, sink.bytes())?;
-    Ok(format!(in alloc; "{count} [{text}] [{revision:?}]")?)
+    bytes_line(alloc, revision, count, sink.bytes())
 }
 
 /// `revision REVISION`: how many bytes are written of a revision, which, and how it is shown.

@@ -1,11 +1,11 @@
 //! The version and the flag of a line, without a record.
-use row_fixtures::{INDEX_URL, Row, RowFault, shown_word};
+use row_fixtures::{INDEX_URL, Row, RowFault, asked, shown_word};
 use std::alloc::Global;
 use tame_entry::{IndexEntry, IndexEntryVersion, LockedMmap};
 use tame_names::{FileLock, Text};
 
 fn scanned(alloc: Global, version: IndexEntryVersion<'_>) -> Result<String, RowFault> {
-    let (found, flag) = version.yanked(alloc)?;
+    let (found, flag) = asked(alloc, version.yanked(alloc))?;
     Ok(format!(in alloc; "{found} {flag}")?)
 }
 
@@ -43,8 +43,8 @@ pub fn scan_entry(alloc: Global, mut words: Row<'_>) -> Result<String, RowFault>
     let version = words.bytes(alloc)?;
     let line = words.bytes(alloc)?;
     let bytes = entry_bytes(alloc, version.as_slice(), line.as_slice())?;
-    let lock = FileLock::unlocked();
     let url = Text::of(alloc, INDEX_URL)?;
+    let lock = FileLock::unlocked();
     let entry = IndexEntry::Cache(LockedMmap::of(bytes, &lock), url);
     scanned_first(alloc, &entry)
 }

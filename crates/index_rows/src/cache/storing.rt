@@ -2,7 +2,7 @@
 use crate::cache::revisions::revision_of;
 use row_fixtures::{
     FLAGGED_FILE, INDEX_URL, RevisionWord, Row, RowFault, body_of, crashed, disk_failing,
-    disk_with, flagged_body, flagged_entry, shown_word, stop, told,
+    disk_with, flagged_body, flagged_entry, refused, shown_word, stop, told,
 };
 use std::alloc::{AllocError, Global};
 use tame_cache::{
@@ -10,7 +10,7 @@ use tame_cache::{
     kept_for_more,
 };
 use tame_entry::{CacheWrite, HttpRevision, IndexEntry, JsonLines, Revision, ValidCacheEntry};
-use tame_names::{FileLock, KrateName, Text};
+use tame_names::{FileLock, Text};
 
 /// The cache of an index in the folder of the empty path.
 fn root_cache(alloc: Global) -> Result<IndexCache, RowFault> {
@@ -25,7 +25,7 @@ fn store_lines(
     lines: JsonLines<'_>,
     revision: &Revision<'_>,
 ) -> Result<Result<Kept, CacheFault>, RowFault> {
-    let name = KrateName::try_from("a")?;
+    let name = Row::of("a").name(alloc)?;
     let lock = FileLock::unlocked();
     Ok(cache.write_to_cache(
         alloc,
@@ -74,18 +74,26 @@ fn found(alloc: Global, file: &[u8]) -> Result<&'static str, RowFault> {
     })
 }
 
+/// What an index entry that was read is.
+fn found_as(alloc: Global, entry: &Option<IndexEntry<'_, '_>>) -> Result<&'static str, RowFault> {
+    match entry {
+        Some(IndexEntry::Cache(file, _url)) => found(alloc, file.as_slice()),
+        Some(_entry) => Ok("no file"),
+        None => Ok("nothing"),
+    }
+}
+
 /// What a read of the crate `a` finds.
 fn found_in(
     alloc: Global,
     cache: &IndexCache,
     disk: &mut MemCacheDisk,
 ) -> Result<&'static str, RowFault> {
-    let name = KrateName::try_from("a")?;
+    let name = Row::of("a").name(alloc)?;
     let lock = FileLock::unlocked();
-    match cache.read_cache_file(alloc, name, &lock, disk)? {
-        Some(IndexEntry::Cache(file, _url)) => found(alloc, file.as_slice()),
-        Some(_entry) => Ok("no file"),
-        None => Ok("nothing"),
+    match cache.read_cache_file(alloc, name, &lock, disk) {
+        Ok(entry) => found_as(alloc, &entry),
+        Err(error) => Err(refused(alloc, &error)),
     }
 }
 
@@ -142,15 +150,27 @@ fn left_of(
     }
 }
 
+/// The same where a failed write tears.
+fn torn_line(
+    alloc: Global,
+    disk: &mut MemCacheDisk,
+    at: u64,
+    piece: &[u8],
+) -> Result<String, RowFault> {
+    disk.tear();
+    left_of(alloc, disk, at, piece)
+}
+
 /// `torn FILE AT PIECE`: the same where a failed write tears.
 pub fn torn(alloc: Global, mut words: Row<'_>) -> Result<String, RowFault> {
     let file = words.bytes(alloc)?;
     let at = words.number()?;
     let piece = words.bytes(alloc)?;
-    let mut first = Row::of("1");
-    let mut disk = disk_with(alloc, file.as_slice(), first.numbers(alloc)?)?;
-    disk.tear();
-    left_of(alloc, &mut disk, at, piece.as_slice())
+    let failing = Row::of("1").numbers(alloc)?;
+    match disk_with(alloc, file.as_slice(), failing) {
+        Ok(mut disk) => torn_line(alloc, &mut disk, at, piece.as_slice()),
+        Err(fault) => Err(fault),
+    }
 }
 
 /// Stores the yanked line, then the other one, stopped at this call.
@@ -161,11 +181,28 @@ fn stopped_write(alloc: Global, disk: &mut MemCacheDisk, at: u64) -> Result<Stri
     Ok(format!(in alloc; "{first}, {done}")?)
 }
 
-/// What a read finds, and what storing once more does.
-fn look_and_write(alloc: Global, disk: &mut MemCacheDisk) -> Result<String, RowFault> {
+/// What was done before, what a read finds, and what storing once more does.
+fn look_and_write(
+    alloc: Global,
+    disk: &mut MemCacheDisk,
+    before: &str,
+) -> Result<String, RowFault> {
     let found = look(alloc, disk)?;
     let again = write_and_look(alloc, disk, false)?;
-    Ok(format!(in alloc; "{found}; {again}")?)
+    Ok(format!(in alloc; "{before}: {found}; {again}")?)
+}
+
+/// The same once the disk has crashed.
+fn crashed_line(
+    alloc: Global,
+    disk: MemCacheDisk,
+    pick: u8,
+    before: &str,
+) -> Result<String, RowFault> {
+    match crashed(alloc, disk, pick) {
+        Ok(mut left) => look_and_write(alloc, &mut left, before),
+        Err(fault) => Err(fault),
+    }
 }
 
 /// `crashed STOP PICK`: the yanked line is stored, then the other one, stopped at this call, then
@@ -175,9 +212,7 @@ pub fn crashed_write(alloc: Global, mut words: Row<'_>) -> Result<String, RowFau
     let pick = words.byte_or_none()?.unwrap_or(0);
     let mut disk = disk_failing(alloc, Vec::new(alloc));
     let before = stopped_write(alloc, &mut disk, at)?;
-    let mut left = crashed(alloc, disk, pick)?;
-    let after = look_and_write(alloc, &mut left)?;
-    Ok(format!(in alloc; "{before}: {after}")?)
+    crashed_line(alloc, disk, pick, before.as_str())
 }
 
 /// The entry of the yanked line with another first byte; no bytes without one.
@@ -200,11 +235,20 @@ fn seen(alloc: Global, disk: &mut MemCacheDisk) -> Result<String, AllocError> {
     }
 }
 
-/// What stands first in the file of the crate `a`, and what storing this line over it does.
-fn written_over(alloc: Global, disk: &mut MemCacheDisk, yanked: bool) -> Result<String, RowFault> {
+/// How many bytes the file of the crate `a` has, what stands first in it, and what storing this
+/// line over it does.
+fn written_over(
+    alloc: Global,
+    disk: &mut MemCacheDisk,
+    len: usize,
+    yanked: bool,
+) -> Result<String, RowFault> {
     let seen = seen(alloc, disk)?;
     let then = write_and_look(alloc, disk, yanked)?;
-    Ok(format!(in alloc; "{seen}; {then}; {} faults", disk.disk_faults())?)
+    Ok(format!(in alloc;
+        "{len} bytes, {seen}; {then}; {} faults",
+        disk.disk_faults()
+    )?)
 }
 
 /// `foreign (HH | -) (YANKED | UNYANKED)`: storing a line over a file with another first byte, or
@@ -212,9 +256,10 @@ fn written_over(alloc: Global, disk: &mut MemCacheDisk, yanked: bool) -> Result<
 pub fn foreign(alloc: Global, mut words: Row<'_>) -> Result<String, RowFault> {
     let bytes = foreign_bytes(alloc, words.byte_or_none()?)?;
     let yanked = words.is("YANKED", "UNYANKED")?;
-    let mut disk = disk_with(alloc, bytes.as_slice(), Vec::new(alloc))?;
-    let written = written_over(alloc, &mut disk, yanked)?;
-    Ok(format!(in alloc; "{} bytes, {written}", bytes.len())?)
+    match disk_with(alloc, bytes.as_slice(), Vec::new(alloc)) {
+        Ok(mut disk) => written_over(alloc, &mut disk, bytes.len(), yanked),
+        Err(fault) => Err(fault),
+    }
 }
 
 /// `store REVISION BODY`: what storing a body under a revision answers.
@@ -238,7 +283,7 @@ pub fn path(alloc: Global, mut words: Row<'_>) -> Result<String, RowFault> {
     empty_is_kept();
     kept_for_more();
     histories_keep();
-    let name = words.name()?;
+    let name = words.name(alloc)?;
     let path = root_cache(alloc)?.cache_path(alloc, name)?;
     Ok(String::from_str(alloc, path.as_str())?)
 }

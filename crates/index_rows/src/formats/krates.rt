@@ -1,5 +1,5 @@
 //! The versions of a crate.
-use row_fixtures::{Row, RowFault, body_of, told};
+use row_fixtures::{Row, RowFault, asked, body_of, told};
 use std::alloc::{AllocError, Global};
 use tame_names::MemFiles;
 use tame_records::{DependencyKind, IndexKrate};
@@ -39,14 +39,18 @@ fn krate_line(alloc: Global, krate: &IndexKrate) -> Result<String, RowFault> {
 /// those that are no prerelease and not yanked.
 pub fn krate(alloc: Global, mut words: Row<'_>) -> Result<String, RowFault> {
     let body = body_of(alloc, words.word())?;
-    let krate = IndexKrate::from_slice(alloc, body.as_slice())?;
-    krate_line(alloc, &krate)
+    match asked(alloc, IndexKrate::from_slice(alloc, body.as_slice())) {
+        Ok(krate) => krate_line(alloc, &krate),
+        Err(fault) => Err(fault),
+    }
 }
 
 /// The same of a file.
 fn file_line(alloc: Global, files: &mut MemFiles, path: &str) -> Result<String, RowFault> {
-    let krate = IndexKrate::new(alloc, files, path)?;
-    krate_line(alloc, &krate)
+    match asked(alloc, IndexKrate::new(alloc, files, path)) {
+        Ok(krate) => krate_line(alloc, &krate),
+        Err(fault) => Err(fault),
+    }
 }
 
 /// `file PATH`: the same of a file, and how many reads have failed.
@@ -57,20 +61,29 @@ pub fn file(alloc: Global, files: &mut MemFiles, mut words: Row<'_>) -> Result<S
 }
 
 /// Whether two crates are equal, their first versions, and their last.
-fn same_line(alloc: Global, one: &IndexKrate, other: &IndexKrate) -> Result<String, AllocError> {
+fn same_line(alloc: Global, one: &IndexKrate, other: &IndexKrate) -> Result<String, RowFault> {
     let is_same = *one == *other;
     let first = one.versions.as_slice().first() == other.versions.as_slice().first();
     let last = one.versions.as_slice().last() == other.versions.as_slice().last();
-    format!(in alloc; "{is_same} {first} {last}")
+    Ok(format!(in alloc; "{is_same} {first} {last}")?)
+}
+
+/// The same, where the second one is that of a body.
+fn same_as(alloc: Global, one: &IndexKrate, body: &[u8]) -> Result<String, RowFault> {
+    match asked(alloc, IndexKrate::from_slice(alloc, body)) {
+        Ok(other) => same_line(alloc, one, &other),
+        Err(fault) => Err(fault),
+    }
 }
 
 /// `same BODY BODY`: whether two crates are equal, their first versions, and their last.
 pub fn same(alloc: Global, mut words: Row<'_>) -> Result<String, RowFault> {
     let one = body_of(alloc, words.word())?;
     let other = body_of(alloc, words.word())?;
-    let one = IndexKrate::from_slice(alloc, one.as_slice())?;
-    let other = IndexKrate::from_slice(alloc, other.as_slice())?;
-    Ok(same_line(alloc, &one, &other)?)
+    match asked(alloc, IndexKrate::from_slice(alloc, one.as_slice())) {
+        Ok(one) => same_as(alloc, &one, other.as_slice()),
+        Err(fault) => Err(fault),
+    }
 }
 
 /// `kind`: the kind of a dependency that names none.

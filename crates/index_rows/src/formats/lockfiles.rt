@@ -50,18 +50,22 @@ fn push_package(out: &mut String, package: &Package) -> Result<(), AllocError> {
     Ok(())
 }
 
-/// `packages`: each package of the text, with the places of its dependencies.
-pub fn packages(alloc: Global, text: &str) -> Result<String, RowFault> {
-    let lockfile = match Lockfile::read(alloc, text) {
-        Ok(lockfile) => lockfile,
-        Err(fault) => return Ok(fault_text(alloc, fault)?),
-    };
-    let count = lockfile.packages().len();
+/// Packages with the places of their dependencies.
+fn packages_line(alloc: Global, packages: &[Package]) -> Result<String, RowFault> {
+    let count = packages.len();
     let mut out = format!(in alloc; "{count} packages")?;
-    for package in lockfile.packages() {
+    for package in packages {
         push_package(&mut out, package)?;
     }
     Ok(out)
+}
+
+/// `packages`: each package of the text, with the places of its dependencies.
+pub fn packages(alloc: Global, text: &str) -> Result<String, RowFault> {
+    match Lockfile::read(alloc, text) {
+        Ok(lockfile) => packages_line(alloc, lockfile.packages()),
+        Err(fault) => Ok(fault_text(alloc, fault)?),
+    }
 }
 
 /// The first package's source and checksum, and how many dependencies it has; `-` for what it

@@ -51,7 +51,7 @@ pub fn cargo(alloc: Global, mut words: Row<'_>) -> Result<String, RowFault> {
 
 /// `prefix NAME TEXT`: a text with the folders of a name behind it.
 pub fn prefix(alloc: Global, mut words: Row<'_>) -> Result<String, RowFault> {
-    let name = words.name()?;
+    let name = words.name(alloc)?;
     let mut folders = words.text(alloc)?;
     name.prefix(&mut folders, '/')?;
     Ok(folders)

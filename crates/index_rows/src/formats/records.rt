@@ -1,5 +1,5 @@
 //! Index lines as records, and lines that are none.
-use row_fixtures::{DIGEST, Row, RowFault};
+use row_fixtures::{DIGEST, Row, RowFault, asked};
 use std::alloc::{AllocError, Global};
 use tame_names::Text;
 use tame_records::{IndexDependency, IndexVersion};
@@ -127,7 +127,7 @@ fn push_dependency(
     let package = dependency.package().unwrap_or("-");
     let name = dependency.crate_name();
     let target = dependency.target().unwrap_or("-");
-    let _requirement = dependency.version_requirement(alloc)?;
+    let _requirement = asked(alloc, dependency.version_requirement(alloc))?;
     write!(out, "; {package} {name} {target}")?;
     let (optional, default) = (dependency.is_optional(), dependency.has_default_features());
     Ok(write!(out, " {optional} {default} true")?)
@@ -144,26 +144,38 @@ fn version_line(alloc: Global, version: &IndexVersion) -> Result<String, RowFaul
     Ok(out)
 }
 
-/// `version LINE`: a record's name, version and flag, how many dependencies it has, its lowest
-/// version of Rust, and each dependency.
-pub fn version(alloc: Global, mut words: Row<'_>) -> Result<String, RowFault> {
-    let line = words.bytes(alloc)?;
-    let Ok(version) = IndexVersion::read_line(alloc, line.as_slice()) else {
-        return Ok(String::from_str(alloc, "no record")?);
-    };
+/// The same, with the version and the flag behind it.
+fn whole_line(alloc: Global, version: IndexVersion) -> Result<String, RowFault> {
     let mut out = version_line(alloc, &version)?;
     let head = version.into_version_flag();
     write!(out, "; {} {}", head.version, head.yanked)?;
     Ok(out)
 }
 
-/// `fake NAME VERSION`: what a record that is made of a name and a version alone has.
-pub fn fake(alloc: Global, mut words: Row<'_>) -> Result<String, RowFault> {
-    let name = words.word();
-    let fake = IndexVersion::fake(alloc, name, words.word())?;
+/// `version LINE`: a record's name, version and flag, how many dependencies it has, its lowest
+/// version of Rust, and each dependency.
+pub fn version(alloc: Global, mut words: Row<'_>) -> Result<String, RowFault> {
+    let line = words.bytes(alloc)?;
+    match IndexVersion::read_line(alloc, line.as_slice()) {
+        Ok(version) => whole_line(alloc, version),
+        Err(_) => Ok(String::from_str(alloc, "no record")?),
+    }
+}
+
+/// How many dependencies a record has, its flag, and what else it has.
+fn fake_line(alloc: Global, fake: &IndexVersion) -> Result<String, RowFault> {
     let (count, yanked) = (fake.dependencies().len(), fake.is_yanked());
     let links = fake.links().unwrap_or("-");
     let rust = fake.rust_version().unwrap_or("-");
     let is_zero = *fake.checksum() == [0; 32];
     Ok(format!(in alloc; "{count} {yanked} {links} {rust} {is_zero}")?)
+}
+
+/// `fake NAME VERSION`: what a record that is made of a name and a version alone has.
+pub fn fake(alloc: Global, mut words: Row<'_>) -> Result<String, RowFault> {
+    let name = words.word();
+    match IndexVersion::fake(alloc, name, words.word()) {
+        Ok(fake) => fake_line(alloc, &fake),
+        Err(_) => Err(RowFault::NoMemory),
+    }
 }

@@ -4,7 +4,7 @@ use std::alloc::{AllocError, Global};
 use tame_entry::JsonLines;
 use tame_names::{split, utf8_text};
 use tame_records::Chksum;
-use tame_sparse::crates_io_request;
+use tame_sparse::{Request, crates_io_request};
 
 fn push_piece(alloc: Global, out: &mut String, piece: &[u8]) -> Result<(), AllocError> {
     let piece = shown_word(alloc, piece)?;
@@ -59,11 +59,18 @@ pub fn digests(alloc: Global, mut words: Row<'_>) -> Result<String, RowFault> {
     Ok(format!(in alloc; "{is_equal}")?)
 }
 
-/// `request PATH`: the url of the index file of a path, and what is named.
-pub fn request(alloc: Global, mut words: Row<'_>) -> Result<String, RowFault> {
-    let request = crates_io_request(alloc, words.word())?;
+/// The url of a request, and what is named.
+fn request_line(alloc: Global, request: &Request) -> Result<String, RowFault> {
     let named = owned_text(alloc, &request.named)?;
     Ok(format!(in alloc; "{} {named}", request.uri)?)
+}
+
+/// `request PATH`: the url of the index file of a path, and what is named.
+pub fn request(alloc: Global, mut words: Row<'_>) -> Result<String, RowFault> {
+    match crates_io_request(alloc, words.word()) {
+        Ok(request) => request_line(alloc, &request),
+        Err(_) => Err(RowFault::NoMemory),
+    }
 }
 
 /// `clone REVISION`: whether a revision's copy equals it.

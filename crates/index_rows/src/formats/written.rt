@@ -1,34 +1,41 @@
 //! Lines that are written.
-use row_fixtures::{Row, RowFault, body_of, shown};
-use std::alloc::{AllocError, Global};
+use row_fixtures::{Row, RowFault, asked, body_of, shown};
+use std::alloc::Global;
 use tame_names::{Items, MemSink};
 use tame_records::{IndexKrate, IndexVersion};
 
 /// How many bytes are written, and which.
-fn sink_line(alloc: Global, count: u64, sink: &MemSink) -> Result<String, AllocError> {
+fn sink_line(
+    alloc: Global,
+    count: Result<u64, RowFault>,
+    sink: &MemSink,
+) -> Result<String, RowFault> {
+    let count = count?;
     let text = shown(alloc, sink.bytes())?;
-    format!(in alloc; "{count} [{text}]")
+    Ok(format!(in alloc; "{count} [{text}]")?)
 }
 
 /// The line of a record.
 fn version_line(alloc: Global, version: &IndexVersion) -> Result<String, RowFault> {
     let mut sink = MemSink::new(alloc, Items::new(alloc));
-    let count = version.write_line(alloc, &mut sink)?;
-    Ok(sink_line(alloc, count, &sink)?)
+    let count = asked(alloc, version.write_line(alloc, &mut sink));
+    sink_line(alloc, count, &sink)
 }
 
 /// `line NAME VERSION`: the line of a record of a name and a version alone.
 pub fn line(alloc: Global, mut words: Row<'_>) -> Result<String, RowFault> {
     let name = words.word();
-    let fake = IndexVersion::fake(alloc, name, words.word())?;
-    version_line(alloc, &fake)
+    match IndexVersion::fake(alloc, name, words.word()) {
+        Ok(fake) => version_line(alloc, &fake),
+        Err(_) => Err(RowFault::NoMemory),
+    }
 }
 
 /// The lines of a crate, and how many bytes are written.
 fn lines_of(alloc: Global, krate: &IndexKrate) -> Result<String, RowFault> {
     let mut sink = MemSink::new(alloc, Items::new(alloc));
-    let count = krate.write_json_lines(alloc, &mut sink)?;
-    Ok(sink_line(alloc, count, &sink)?)
+    let count = asked(alloc, krate.write_json_lines(alloc, &mut sink));
+    sink_line(alloc, count, &sink)
 }
 
 /// The names of the features of a crate's first version.
@@ -51,6 +58,8 @@ fn body_line(alloc: Global, krate: &IndexKrate) -> Result<String, RowFault> {
 /// `body BODY`: a body read and written again, and the features of its first version.
 pub fn body(alloc: Global, mut words: Row<'_>) -> Result<String, RowFault> {
     let body = body_of(alloc, words.word())?;
-    let krate = IndexKrate::from_slice(alloc, body.as_slice())?;
-    body_line(alloc, &krate)
+    match asked(alloc, IndexKrate::from_slice(alloc, body.as_slice())) {
+        Ok(krate) => body_line(alloc, &krate),
+        Err(fault) => Err(fault),
+    }
 }

@@ -1,13 +1,22 @@
 //! What an index makes of answers, and what it stores of them.
 use http::{HeaderValue, Response as HttpResponse};
 use row_fixtures::{
-    INDEX_URL, RevisionWord, Row, RowFault, body_of, disk_failing, shown, shown_word, told,
+    INDEX_URL, RevisionWord, Row, RowFault, body_of, disk_failing, refused, shown, shown_word, told,
 };
 use std::alloc::Global;
 use tame_cache::MemCacheDisk;
 use tame_entry::{HttpRevision, IndexEntry, Revision, ValidCacheEntry};
-use tame_names::{FileLock, Items, KrateName, MemSink};
+use tame_names::{FileLock, Items, MemSink};
 use tame_sparse::{Response, SparseIndex};
+
+/// Where an index entry comes from, if there is one.
+fn kind_of(entry: &Option<IndexEntry<'_, '_>>) -> &'static str {
+    match entry {
+        None => "nothing",
+        Some(IndexEntry::Remote(_lines)) => "lines",
+        Some(_entry) => "file",
+    }
+}
 
 /// What an answer for the crate `a` is taken as.
 fn taken(
@@ -17,14 +26,12 @@ fn taken(
     write: bool,
     disk: &mut MemCacheDisk,
 ) -> Result<&'static str, RowFault> {
+    let name = Row::of("a").name(alloc)?;
     let lock = FileLock::unlocked();
-    let name = KrateName::try_from("a")?;
-    let taken = index.parse_remote_response(alloc, name, response, write, &lock, disk)?;
-    Ok(match taken {
-        None => "nothing",
-        Some(IndexEntry::Remote(_lines)) => "lines",
-        Some(_entry) => "file",
-    })
+    match index.parse_remote_response(alloc, name, response, write, &lock, disk) {
+        Ok(entry) => Ok(kind_of(&entry)),
+        Err(error) => Err(refused(alloc, &error)),
+    }
 }
 
 /// The text of a revision.
@@ -44,13 +51,21 @@ fn kept_under(alloc: Global, entry: &[u8]) -> Result<String, RowFault> {
     }
 }
 
-/// What the entry of the crate `a` is kept under.
-fn kept(alloc: Global, index: &SparseIndex, disk: &mut MemCacheDisk) -> Result<String, RowFault> {
-    let lock = FileLock::unlocked();
-    let name = KrateName::try_from("a")?;
-    match index.cached_krate(alloc, name, &lock, disk)? {
+/// What an entry is kept under, if one is.
+fn kept_line(alloc: Global, entry: &Option<IndexEntry<'_, '_>>) -> Result<String, RowFault> {
+    match entry {
         Some(IndexEntry::Cache(file, _url)) => kept_under(alloc, file.as_slice()),
         _ => Ok(String::from_str(alloc, "nothing")?),
+    }
+}
+
+/// What the entry of the crate `a` is kept under.
+fn kept(alloc: Global, index: &SparseIndex, disk: &mut MemCacheDisk) -> Result<String, RowFault> {
+    let name = Row::of("a").name(alloc)?;
+    let lock = FileLock::unlocked();
+    match index.cached_krate(alloc, name, &lock, disk) {
+        Ok(entry) => kept_line(alloc, &entry),
+        Err(error) => Err(refused(alloc, &error)),
     }
 }
 
@@ -74,12 +89,22 @@ pub fn give(
     Ok(String::from_str(alloc, taken)?)
 }
 
+/// What an answer is taken as over a disk, and what is kept then.
+fn taken_and_kept(
+    alloc: Global,
+    index: &SparseIndex,
+    disk: &mut MemCacheDisk,
+    words: Row<'_>,
+) -> Result<String, RowFault> {
+    let taken = told(alloc, give(alloc, index, disk, words))?;
+    let kept = kept(alloc, index, disk)?;
+    Ok(format!(in alloc; "{taken}; kept {kept}")?)
+}
+
 /// `take FAILING` and the words of `give`: the same over a new disk, and what is kept then.
 pub fn take(alloc: Global, index: &SparseIndex, mut words: Row<'_>) -> Result<String, RowFault> {
-    let mut disk = disk_failing(alloc, words.numbers(alloc)?);
-    let taken = told(alloc, give(alloc, index, &mut disk, words))?;
-    let kept = kept(alloc, index, &mut disk)?;
-    Ok(format!(in alloc; "{taken}; kept {kept}")?)
+    let failing = words.numbers(alloc)?;
+    taken_and_kept(alloc, index, &mut disk_failing(alloc, failing), words)
 }
 
 fn header(alloc: Global, bytes: &[u8]) -> Result<HeaderValue, RowFault> {
@@ -103,20 +128,25 @@ fn with_fields(
     Ok(response)
 }
 
-/// `sent ETAG DATE`: the revision of a response with these header fields.
-pub fn sent(alloc: Global, mut words: Row<'_>) -> Result<String, RowFault> {
-    let etag = words.bytes(alloc)?;
-    let date = words.bytes(alloc)?;
-    let response = with_fields(
-        alloc,
-        header(alloc, etag.as_slice())?,
-        header(alloc, date.as_slice())?,
-    )?;
-    let (kind, text) = match Response::of(&response).revision {
+/// The revision of a response.
+fn sent_line(alloc: Global, response: &HttpResponse<Vec<u8>>) -> Result<String, RowFault> {
+    let (kind, text) = match Response::of(response).revision {
         None => return Ok(String::from_str(alloc, "nothing")?),
         Some(HttpRevision::Etag(text)) => ("etag", text),
         Some(HttpRevision::LastModified(text)) => ("date", text),
     };
     let text = shown_word(alloc, text.as_bytes())?;
     Ok(format!(in alloc; "{kind} {text}")?)
+}
+
+/// `sent ETAG DATE`: the revision of a response with these header fields.
+pub fn sent(alloc: Global, mut words: Row<'_>) -> Result<String, RowFault> {
+    let etag = words.bytes(alloc)?;
+    let date = words.bytes(alloc)?;
+    let etag = header(alloc, etag.as_slice())?;
+    let date = header(alloc, date.as_slice())?;
+    match with_fields(alloc, etag, date) {
+        Ok(response) => sent_line(alloc, &response),
+        Err(fault) => Err(fault),
+    }
 }

@@ -1,5 +1,5 @@
 //! The memory of entity tags.
-use row_fixtures::{RevisionWord, Row, RowFault, disk_failing, owned_text};
+use row_fixtures::{RevisionWord, Row, RowFault, asked, disk_failing, owned_text, refused};
 use std::alloc::Global;
 use tame_names::{FileLock, KrateName};
 use tame_sparse::{EtagCache, Response, SparseIndex};
@@ -11,11 +11,16 @@ pub fn tag_for(
     tags: &EtagCache,
     mut words: Row<'_>,
 ) -> Result<String, RowFault> {
+    let name = words.name(alloc)?;
     let lock = FileLock::unlocked();
-    let name = words.name()?;
     let mut disk = disk_failing(alloc, Vec::new(alloc));
-    let request = tags.make_remote_request(alloc, index, name, &lock, &mut disk)?;
-    owned_text(alloc, &request.named)
+    match asked(
+        alloc,
+        tags.make_remote_request(alloc, index, name, &lock, &mut disk),
+    ) {
+        Ok(request) => owned_text(alloc, &request.named),
+        Err(fault) => Err(fault),
+    }
 }
 
 /// What an answer without a body is taken as.
@@ -28,11 +33,14 @@ fn taken(
 ) -> Result<&'static str, RowFault> {
     let lock = FileLock::unlocked();
     let mut disk = disk_failing(alloc, Vec::new(alloc));
-    let taken = tags.parse_remote_response(alloc, index, name, response, true, &lock, &mut disk)?;
-    Ok(match taken {
-        None => "nothing",
-        Some(_entry) => "something",
-    })
+    match tags.parse_remote_response(alloc, index, name, response, true, &lock, &mut disk) {
+        Ok(entry) => Ok(if entry.is_some() {
+            "something"
+        } else {
+            "nothing"
+        }),
+        Err(error) => Err(refused(alloc, &error)),
+    }
 }
 
 /// `see STATUS REVISION NAME`: what an answer without a body is taken as.
@@ -49,6 +57,6 @@ pub fn see(
         revision: revision.http(),
         body: b"",
     };
-    let taken = taken(alloc, index, tags, words.name()?, response)?;
+    let taken = taken(alloc, index, tags, words.name(alloc)?, response)?;
     Ok(String::from_str(alloc, taken)?)
 }

@@ -1,10 +1,11 @@
 //! Git indices and what they store.
-use row_fixtures::{Row, RowFault, shown, shown_word};
+use crate::fakes::fake_krate;
+use row_fixtures::{Row, RowFault, asked, refused, shown, shown_word};
 use std::alloc::Global;
 use tame_cache::MemCacheDisk;
 use tame_entry::{GitRevision, HttpRevision, IndexEntry, Revision, Sha1Hex};
-use tame_names::{FileLock, Items, KrateName, Text};
-use tame_records::{IndexKrate, IndexVersion};
+use tame_names::{FileLock, KrateName, Text};
+use tame_records::IndexKrate;
 use tame_sparse::GitIndex;
 
 /// `head (HH | -)`: sets the head to a commit of twenty equal bytes, or to none; the head as
@@ -23,13 +24,6 @@ pub fn head(alloc: Global, git: &mut GitIndex, mut words: Row<'_>) -> Result<Str
     Ok(format!(in alloc; "{head}; its bytes: {is_raw}; a tag: {is_tag}")?)
 }
 
-/// A crate with one version.
-fn krate(alloc: Global, name: &str, version: &str) -> Result<IndexKrate, RowFault> {
-    let mut versions = Items::new(alloc);
-    versions.add(IndexVersion::fake(alloc, name, version)?)?;
-    Ok(IndexKrate { versions })
-}
-
 /// What storing a crate answers.
 fn stored(
     alloc: Global,
@@ -42,10 +36,11 @@ fn stored(
         return Err(RowFault::Unread);
     }
     let lock = FileLock::unlocked();
-    Ok(match git.write_to_cache(alloc, krate, blob, &lock, disk)? {
-        None => String::from_str(alloc, "nothing")?,
-        Some(kept) => format!(in alloc; "{kept:?}")?,
-    })
+    match asked(alloc, git.write_to_cache(alloc, krate, blob, &lock, disk)) {
+        Ok(None) => Ok(String::from_str(alloc, "nothing")?),
+        Ok(Some(kept)) => Ok(format!(in alloc; "{kept:?}")?),
+        Err(fault) => Err(fault),
+    }
 }
 
 /// `store NAME VERSION (HH | -)`: stores a crate of one version, under a blob of twenty equal
@@ -58,9 +53,11 @@ pub fn store(
 ) -> Result<String, RowFault> {
     let name = words.text(alloc)?;
     let version = words.text(alloc)?;
-    let krate = krate(alloc, name.as_str(), version.as_str())?;
     let blob = words.byte_or_none()?.map(|byte| Sha1Hex::from([byte; 20]));
-    stored(alloc, git, &krate, blob, disk)
+    match fake_krate(alloc, name.as_str(), version.as_str()) {
+        Ok(krate) => stored(alloc, git, &krate, blob, disk),
+        Err(fault) => Err(fault),
+    }
 }
 
 /// The bytes of an entry behind the url of the index, of 44 bytes, and the zero byte behind that,
@@ -72,6 +69,14 @@ fn front_of(alloc: Global, entry: &[u8]) -> Result<String, RowFault> {
     }
 }
 
+/// The same of what is kept.
+fn front_line(alloc: Global, entry: &Option<IndexEntry<'_, '_>>) -> Result<String, RowFault> {
+    match entry {
+        Some(IndexEntry::Cache(file, _url)) => front_of(alloc, file.as_slice()),
+        _ => Ok(String::from_str(alloc, "nothing")?),
+    }
+}
+
 /// The same of the file of a crate.
 fn kept_front(
     alloc: Global,
@@ -80,9 +85,9 @@ fn kept_front(
     disk: &mut MemCacheDisk,
 ) -> Result<String, RowFault> {
     let lock = FileLock::unlocked();
-    match git.cached_krate(alloc, name, &lock, disk)? {
-        Some(IndexEntry::Cache(file, _url)) => front_of(alloc, file.as_slice()),
-        _ => Ok(String::from_str(alloc, "nothing")?),
+    match git.cached_krate(alloc, name, &lock, disk) {
+        Ok(entry) => front_line(alloc, &entry),
+        Err(error) => Err(refused(alloc, &error)),
     }
 }
 
@@ -95,12 +100,13 @@ pub fn front(
     mut words: Row<'_>,
 ) -> Result<String, RowFault> {
     let path = shown_word(alloc, git.cache().path().as_bytes())?;
-    let front = kept_front(alloc, git, words.name()?, disk)?;
+    let front = kept_front(alloc, git, words.name(alloc)?, disk)?;
     Ok(format!(in alloc; "{front}; in {path}")?)
 }
 
 /// `git-url URL`: the git index of a url.
 pub fn of_url(alloc: Global, mut words: Row<'_>) -> Result<String, RowFault> {
-    let _index = GitIndex::at(alloc, Text::of(alloc, "")?, words.word())?;
+    let path = Text::of(alloc, "")?;
+    let _index = asked(alloc, GitIndex::at(alloc, path, words.word()))?;
     Ok(String::from_str(alloc, "an index")?)
 }

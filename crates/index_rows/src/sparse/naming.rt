@@ -1,11 +1,12 @@
 //! What requests name.
 use row_fixtures::{
-    RevisionWord, Row, RowFault, disk_failing, disk_with, entry_of, flagged_body, owned_text, told,
+    RevisionWord, Row, RowFault, asked, disk_failing, disk_with, entry_of, flagged_body,
+    owned_text, told,
 };
 use std::alloc::Global;
 use tame_cache::MemCacheDisk;
 use tame_entry::{HttpRevision, Revision};
-use tame_names::{FileLock, KrateName};
+use tame_names::FileLock;
 use tame_sparse::SparseIndex;
 
 /// What the request for the crate `a` names, over a disk.
@@ -15,10 +16,15 @@ fn named_over(
     revision: Option<HttpRevision<'_>>,
     disk: &mut MemCacheDisk,
 ) -> Result<String, RowFault> {
+    let name = Row::of("a").name(alloc)?;
     let lock = FileLock::unlocked();
-    let name = KrateName::try_from("a")?;
-    let request = index.make_remote_request(alloc, name, revision, &lock, disk)?;
-    owned_text(alloc, &request.named)
+    match asked(
+        alloc,
+        index.make_remote_request(alloc, name, revision, &lock, disk),
+    ) {
+        Ok(request) => owned_text(alloc, &request.named),
+        Err(fault) => Err(fault),
+    }
 }
 
 /// `name`: what the request for the crate `a` names, of the file that is kept.
@@ -28,6 +34,19 @@ pub fn named(
     disk: &mut MemCacheDisk,
 ) -> Result<String, RowFault> {
     named_over(alloc, index, None, disk)
+}
+
+/// What is named where the file of the crate has these bytes, and these calls on the disk fail.
+fn named_on(
+    alloc: Global,
+    index: &SparseIndex,
+    bytes: &[u8],
+    failing: Vec<u64>,
+) -> Result<String, RowFault> {
+    match disk_with(alloc, bytes, failing) {
+        Ok(mut disk) => named_over(alloc, index, None, &mut disk),
+        Err(fault) => Err(fault),
+    }
 }
 
 /// What is named of a revision that is handed in.
@@ -47,8 +66,7 @@ fn of_entry(
     revision: &Revision<'_>,
 ) -> Result<String, RowFault> {
     let entry = entry_of(alloc, flagged_body(alloc, true)?.as_bytes(), revision)?;
-    let mut disk = disk_with(alloc, entry.as_slice(), Vec::new(alloc))?;
-    named_over(alloc, index, None, &mut disk)
+    named_on(alloc, index, entry.as_slice(), Vec::new(alloc))
 }
 
 /// `edge REVISION`: what is named of a revision that is handed in, and of the entry that is kept
@@ -85,6 +103,6 @@ pub fn kept(alloc: Global, index: &SparseIndex, mut words: Row<'_>) -> Result<St
 
 /// `file BYTES`: what is named where the file of the crate has these bytes.
 pub fn file(alloc: Global, index: &SparseIndex, mut words: Row<'_>) -> Result<String, RowFault> {
-    let mut disk = disk_with(alloc, words.bytes(alloc)?.as_slice(), Vec::new(alloc))?;
-    named_over(alloc, index, None, &mut disk)
+    let bytes = words.bytes(alloc)?;
+    named_on(alloc, index, bytes.as_slice(), Vec::new(alloc))
 }

@@ -1,10 +1,10 @@
 //! Names of crate files, and digests of bytes.
 use bytes::Bytes;
-use row_fixtures::{Row, RowFault, plain_bytes};
-use std::alloc::Global;
+use row_fixtures::{Row, RowFault, asked, plain_bytes, refused};
+use std::alloc::{AllocError, Global};
 use tame_local::{ValidKrate, crate_file_components, validate_checksum};
 use tame_names::{Items, MemSource};
-use tame_records::{Chksum, IndexKrate};
+use tame_records::{Chksum, IndexKrate, IndexVersion};
 
 /// The digest of the bytes `abc`.
 pub const ABC: &str = "ba7816bf8f01cfea414140de5dae2223b00361a396177a9cb410ff61f20015ad";
@@ -40,28 +40,36 @@ pub fn sum(alloc: Global, mut row: Row<'_>) -> Result<String, RowFault> {
     Ok(format!(in alloc; "{answer:?}, {left} bytes left")?)
 }
 
-/// The versions of a crate, each a word `NAME@VERSION`, with commas between them; or its lines,
-/// where a word begins as one.
-pub fn krate_of(alloc: Global, versions: &str) -> Result<IndexKrate, RowFault> {
-    if versions.starts_with('{') {
-        let body = plain_bytes(alloc, versions)?;
-        return Ok(IndexKrate::from_slice(alloc, body.as_slice())?);
-    }
+/// Adds the line of a version.
+fn push_line(body: &mut String, name: &str, number: &str) -> Result<(), AllocError> {
+    write!(
+        body,
+        "{{\"name\":\"{name}\",\"vers\":\"{number}\",\"deps\":[],\
+        \"cksum\":\"{ABC}\",\"features\":{{}},\"yanked\":false}}\n"
+    )
+}
+
+/// The lines of versions, each a word `NAME@VERSION`, with commas between them.
+fn lines_of(alloc: Global, versions: &str) -> Result<String, RowFault> {
     let mut body = String::new(alloc);
     for version in versions.split(',') {
         let Some((name, number)) = version.split_once('@') else {
             return Err(RowFault::Unread);
         };
-        write!(
-            body,
-            "{{\"name\":\"{name}\",\"vers\":\"{number}\",\"deps\":[],"
-        )?;
-        write!(
-            body,
-            "\"cksum\":\"{ABC}\",\"features\":{{}},\"yanked\":false}}\n"
-        )?;
+        push_line(&mut body, name, number)?;
     }
-    Ok(IndexKrate::from_slice(alloc, body.as_bytes())?)
+    Ok(body)
+}
+
+/// The versions of a crate, each a word `NAME@VERSION`, with commas between them; or its lines,
+/// where a word begins as one.
+pub fn krate_of(alloc: Global, versions: &str) -> Result<IndexKrate, RowFault> {
+    let body = if versions.starts_with('{') {
+        plain_bytes(alloc, versions)?
+    } else {
+        lines_of(alloc, versions)?.into_bytes()
+    };
+    asked(alloc, IndexKrate::from_slice(alloc, body.as_slice()))
 }
 
 /// Bytes that may be shared.
@@ -72,14 +80,24 @@ pub fn shared(alloc: Global, bytes: &[u8]) -> Result<Bytes, RowFault> {
     }
 }
 
-/// `valid VERSIONS BYTES`
-pub fn valid(alloc: Global, mut row: Row<'_>) -> Result<String, RowFault> {
-    let krate = krate_of(alloc, row.word())?;
-    let bytes = row.bytes(alloc)?;
-    let Some(first) = krate.versions.as_slice().first() else {
+/// Whether bytes are those of the first version.
+fn valid_line(alloc: Global, versions: &[IndexVersion], bytes: &[u8]) -> Result<String, RowFault> {
+    let Some(first) = versions.first() else {
         return Err(RowFault::Unread);
     };
-    let valid = ValidKrate::validate(alloc, shared(alloc, bytes.as_slice())?, first)?;
-    let count = valid.bytes().len();
-    Ok(format!(in alloc; "{count} bytes")?)
+    let bytes = shared(alloc, bytes)?;
+    match &ValidKrate::validate(alloc, bytes, first) {
+        Ok(valid) => Ok(format!(in alloc; "{} bytes", valid.bytes().len())?),
+        Err(error) => Err(refused(alloc, error)),
+    }
+}
+
+/// `valid VERSIONS BYTES`
+pub fn valid(alloc: Global, mut row: Row<'_>) -> Result<String, RowFault> {
+    let versions = row.word();
+    let bytes = row.bytes(alloc)?;
+    match krate_of(alloc, versions) {
+        Ok(krate) => valid_line(alloc, krate.versions.as_slice(), bytes.as_slice()),
+        Err(fault) => Err(fault),
+    }
 }

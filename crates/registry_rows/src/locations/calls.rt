@@ -1,9 +1,15 @@
 //! Rows of locks, and of calls on the host.
 use crate::locations::scene::Scene;
-use row_fixtures::{Row, RowFault, shown};
+use row_fixtures::{Row, RowFault, asked, shown};
 use std::alloc::Global;
 use tame_location::LockOptions;
-use tame_names::{Files, OpenedLock, ReadAnswer, Text};
+use tame_names::{FileLock, Files, OpenedLock, ReadAnswer, Text};
+
+/// The state of a lock that was taken.
+fn state_line(alloc: Global, lock: Result<FileLock, RowFault>) -> Result<String, RowFault> {
+    let lock = lock?;
+    Ok(format!(in alloc; "{:?}", lock.state())?)
+}
 
 /// What becomes of a lock that is taken in the way of a word.
 fn taken(
@@ -13,15 +19,15 @@ fn taken(
     row: &mut Row<'_>,
 ) -> Result<String, RowFault> {
     let host = &mut scene.host;
-    let lock = match row.word() {
-        "once" => options.try_lock(alloc, host)?,
-        "wait" => options.lock(alloc, host, |_path| None)?,
+    match row.word() {
+        "once" => state_line(alloc, asked(alloc, options.try_lock(alloc, host))),
+        "wait" => state_line(alloc, asked(alloc, options.lock(alloc, host, |_path| None))),
         word => {
             let times = word.parse::<u32>().unwrap_or(0);
-            options.lock(alloc, host, |_path| Some(times))?
+            let lock = options.lock(alloc, host, |_path| Some(times));
+            state_line(alloc, asked(alloc, lock))
         }
-    };
-    Ok(format!(in alloc; "{:?}", lock.state())?)
+    }
 }
 
 fn lock(alloc: Global, scene: &mut Scene, row: &mut Row<'_>) -> Result<String, RowFault> {
@@ -41,7 +47,10 @@ fn package_lock(alloc: Global, scene: &mut Scene, row: &mut Row<'_>) -> Result<S
         Some(root) => Some(Text::from_string(root)),
         None => None,
     };
-    let options = LockOptions::cargo_package_lock(alloc, &mut scene.host, root)?;
+    let options = asked(
+        alloc,
+        LockOptions::cargo_package_lock(alloc, &mut scene.host, root),
+    )?;
     taken(alloc, scene, &options, row)
 }
 
@@ -73,13 +82,14 @@ fn called(
         }
         "open" => {
             let exclusive = row.is("exclusive", "shared")?;
-            Ok(format!(in alloc; "{:?}", scene.host.open_lock(path, exclusive))?)
+            let answer = scene.host.open_lock(path, exclusive)?;
+            Ok(format!(in alloc; "{answer:?}")?)
         }
         "take" => {
             let exclusive = row.is("exclusive", "shared")?;
             let block = row.is("wait", "once")?;
             let opened = OpenedLock { file: None };
-            let answer = scene.host.take_lock(path, &opened, exclusive, block);
+            let answer = scene.host.take_lock(path, &opened, exclusive, block)?;
             Ok(format!(in alloc; "{answer:?}")?)
         }
         "look" => look(alloc, scene, path),

@@ -1,10 +1,12 @@
 //! Rows of urls, folders and versions.
 use crate::locations::scene::{Scene, small_number};
-use row_fixtures::{Row, RowFault};
-use std::alloc::Global;
+use row_fixtures::{Row, RowFault, asked};
+use semver::Version;
+use std::alloc::{AllocError, Global};
 use tame_location::{
-    canonicalize_url, get_index_details, parse_cargo_semver, sip_hash_2_4, url_to_local_dir,
+    UrlDir, canonicalize_url, get_index_details, parse_cargo_semver, sip_hash_2_4, url_to_local_dir,
 };
+use tame_names::Text;
 
 /// The hash of a number of bytes, low byte first.
 fn sip(alloc: Global, row: &mut Row<'_>) -> Result<String, RowFault> {
@@ -20,11 +22,29 @@ fn sip(alloc: Global, row: &mut Row<'_>) -> Result<String, RowFault> {
     Ok(format!(in alloc; "{:016x}", number.swap_bytes())?)
 }
 
+fn dir_line(alloc: Global, dir: &UrlDir) -> Result<String, AllocError> {
+    format!(in alloc; "{} {}", dir.dir_name, dir.canonical)
+}
+
 fn dir(alloc: Global, scene: &Scene, row: &mut Row<'_>) -> Result<String, RowFault> {
     let stable = row.is("stable", "plain")?;
     let url = row.text(alloc)?;
-    let dir = url_to_local_dir(alloc, url.as_str(), stable, &scene.ident)?;
-    Ok(format!(in alloc; "{} {}", dir.dir_name, dir.canonical)?)
+    match asked(
+        alloc,
+        url_to_local_dir(alloc, url.as_str(), stable, &scene.ident),
+    ) {
+        Ok(dir) => Ok(dir_line(alloc, &dir)?),
+        Err(fault) => Err(fault),
+    }
+}
+
+/// A path and a url.
+pub fn parts_line(
+    alloc: Global,
+    found: Result<(Text, Text), RowFault>,
+) -> Result<String, RowFault> {
+    let (path, url) = found?;
+    Ok(format!(in alloc; "{path} {url}")?)
 }
 
 fn details(alloc: Global, scene: &mut Scene, row: &mut Row<'_>) -> Result<String, RowFault> {
@@ -36,8 +56,13 @@ fn details(alloc: Global, scene: &mut Scene, row: &mut Row<'_>) -> Result<String
         None => None,
     };
     let Scene { host, ident, .. } = scene;
-    let (path, url) = get_index_details(alloc, host, url.as_str(), root, stable, ident)?;
-    Ok(format!(in alloc; "{path} {url}")?)
+    let found = get_index_details(alloc, host, url.as_str(), root, stable, ident);
+    parts_line(alloc, asked(alloc, found))
+}
+
+fn version_line(alloc: Global, found: Result<Version, RowFault>) -> Result<String, RowFault> {
+    let version = found?;
+    Ok(format!(in alloc; "{version}")?)
 }
 
 /// A row of a url or a version.
@@ -46,14 +71,16 @@ pub fn answer(alloc: Global, scene: &mut Scene, mut row: Row<'_>) -> Result<Stri
         "sip" => sip(alloc, &mut row),
         "canonical" => {
             let url = row.text(alloc)?;
-            Ok(canonicalize_url(alloc, url.as_str())?.into_string())
+            Ok(asked(alloc, canonicalize_url(alloc, url.as_str()))?.into_string())
         }
         "dir" => dir(alloc, scene, &mut row),
         "details" => details(alloc, scene, &mut row),
         _ => {
             let text = row.text(alloc)?;
-            let version = parse_cargo_semver(alloc, text.as_str())?;
-            Ok(format!(in alloc; "{version}")?)
+            version_line(
+                alloc,
+                asked(alloc, parse_cargo_semver(alloc, text.as_str())),
+            )
         }
     }
 }

@@ -1,6 +1,7 @@
 //! The host that rows speak of, and the numbers of urls.
-use row_fixtures::{Laid, LaidNode, Row, RowFault, host_with, numbers};
+use row_fixtures::{Laid, LaidNode, Row, RowFault, host_with};
 use std::alloc::Global;
+use std::mem;
 use tame_location::{KnownIdent, TableIdent};
 use tame_names::{
     EnvValue, Items, LockAnswer, LockOpenFault, LockTakeFault, MemFiles, MemVariable, Text,
@@ -92,21 +93,20 @@ impl Scene {
 
     /// The host that was laid, of which these calls fail; the next one begins with nothing.
     fn stand(&mut self, alloc: Global, row: &mut Row<'_>) -> Result<(), RowFault> {
-        let failing = numbers(row.numbers(alloc)?);
-        let next = Scene::new(alloc);
-        let Scene {
-            laid,
-            variables,
-            current,
-            answers,
-            ident,
-            ..
-        } = std::mem::replace(self, next);
-        let host = host_with(alloc, laid.as_slice(), &[], failing.into_vec())?;
+        let failing = row.numbers(alloc)?;
+        let host = host_with(alloc, self.laid.as_slice(), &[], failing)?;
+        self.take_host(alloc, host);
+        Ok(())
+    }
+
+    /// Takes a host, and gives it what was laid for it.
+    fn take_host(&mut self, alloc: Global, host: MemFiles) {
+        let variables = mem::replace(&mut self.variables, Items::new(alloc));
+        let answers = mem::replace(&mut self.answers, Items::new(alloc));
+        let current = mem::replace(&mut self.current, String::new(alloc));
+        self.laid = Vec::new(alloc);
         let host = host.with_variables(variables).with_locks(answers);
         self.host = host.with_current(Text::from_string(current));
-        self.ident = ident;
-        Ok(())
     }
 
     /// A row that lays something, which has no answer.

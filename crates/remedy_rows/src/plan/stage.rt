@@ -101,7 +101,7 @@ impl Stage {
     /// A file of the cache at the path of a name.
     fn add_file(&mut self, alloc: Global, name: Row<'_>, bytes: Vec<u8>) -> Result<(), RowFault> {
         let mut name = name;
-        let place = name.name()?.relative_path(alloc, None)?;
+        let place = name.name(alloc)?.relative_path(alloc, None)?;
         let path = join(alloc, ".cache", place.as_str())?;
         self.files.add(CacheFile { path, bytes })?;
         Ok(())

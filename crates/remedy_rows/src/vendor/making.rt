@@ -1,7 +1,7 @@
 //! Audits whose packages are vendored.
 use crate::vendor::stage::Stage;
 use audit_core::{AuditConfig, AuditError, Audited, Auditor};
-use row_fixtures::{Row, RowFault};
+use row_fixtures::{Row, RowFault, refused};
 use std::alloc::Global;
 use tame_cache::MemCacheDisk;
 use tame_local::LocalRegistry;
@@ -27,7 +27,7 @@ fn audit(alloc: Global, text: &str, lock: &FileLock) -> Result<Audited, RowFault
 }
 
 /// A refusal, with the digest that was found as its text.
-fn refused(alloc: Global, fault: &VendorFault) -> Result<String, RowFault> {
+fn refused_line(alloc: Global, fault: &VendorFault) -> Result<String, RowFault> {
     match fault {
         VendorFault::Digest { package, found } => {
             let digest = found.to_text(alloc)?;
@@ -67,7 +67,7 @@ fn vendored(
             )?)
         }
         Err(fault) => {
-            let text = refused(alloc, &fault)?;
+            let text = refused_line(alloc, &fault)?;
             Ok(format!(in alloc; "{text}, {faults} failed")?)
         }
     }
@@ -89,7 +89,8 @@ pub fn vendor_row(
 /// `validate PATH`
 pub fn validate(alloc: Global, stage: &mut Stage, mut words: Row<'_>) -> Result<String, RowFault> {
     let path = Text::of(alloc, words.word())?;
-    let registry = LocalRegistry::open(alloc, &mut stage.files, path, true)?;
-    let index = registry.index().path();
-    Ok(format!(in alloc; "valid, index {index}")?)
+    match &LocalRegistry::open(alloc, &mut stage.files, path, true) {
+        Ok(registry) => Ok(format!(in alloc; "valid, index {}", registry.index().path())?),
+        Err(error) => Err(refused(alloc, error)),
+    }
 }

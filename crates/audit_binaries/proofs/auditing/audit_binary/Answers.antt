@@ -14,9 +14,9 @@ returns-in-Ok-audit_text-clause-answered g c =
         text = c.in-Ok.said.text;
         said = opened.said;
         audit = done.audited;
-        unasked = λ other. ap (g.W.Wire.exchanges) (done.unasked other);
-        others = λ told. done.others told _ lockfile;
-        folders = λ told. done.folders told _ lockfile;
+        unasked = λ other. ap (g.W.Wire.exchanges) (done.calls.unasked other);
+        others = λ told. (done.asks _ lockfile).others told;
+        folders = λ told. (done.asks _ lockfile).folders told;
         kept = done.kept;
       };
       counted = record {
@@ -55,7 +55,7 @@ returns-clause-cut g c =
       failed = opened.unfailed;
       begun = begun_by tells scan began ended c.args.path.now c.in-Ok.said opened.said
           (λ f is. let same = done.uncalled f is in record { moment = rw (same.0, same.1) refl; folders = ap (g.D.CacheDisk.folders) same.1 })
-          (λ packages is. record { asked = λ told. done.part told packages is; others = λ told. done.others told packages is; folders = λ told. done.folders told packages is });
+          (λ packages is. record { asked = λ told. (done.asks packages is).part told; others = λ told. (done.asks packages is).others told; folders = λ told. (done.asks packages is).folders told });
     }
 
 pub returns-in-Err-Refused-clause-kept : goal.returns-in-Err-Refused-clause-kept

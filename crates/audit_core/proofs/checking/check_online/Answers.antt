@@ -2,58 +2,23 @@ use Rattle.std.proofs.Common.{◌≡◌, Some, map, ap, ◌∙◌, refl}
 use Rattle.audit_core.specs.declared.asking.AnsweredTurn.{AnsweredTurn}
 use Rattle.tame_names.specs.Names.{path}
 use Rattle.audit_core.proofs.Apart.{asked_distinct}
-use Rattle.audit_core.proofs.Exchanged.{keeps_nothing, part_none}
-use Rattle.tame_cache.proofs.FolderLemmas.{made_weaker, none_made}
+use Rattle.audit_core.proofs.Exchanged.{keeps_nothing}
+use Rattle.audit_core.proofs.Left.{asks_nothing}
+use Rattle.tame_cache.proofs.FolderLemmas.{made_weaker}
 use Rattle.audit_core.proofs.Names.{asked_file, named_part, names_valid, no_file_of}
 use Rattle.audit_core.specs.Paths.{asked_paths, default_paths, defaults}
 use Rattle.audit_core.proofs.Steps.{AddsTurns-part}
 use Rattle.audit_core.proofs.Whole.{IsDone, audit_done, caused_done, answered_paths, held_done, turns_done}
 use Rattle.audit_core.proofs.checking.check_online.Goals as goal
 
-pub returns-in_err-index-clause-part : goal.returns-in_err-index-clause-part
-returns-in_err-index-clause-part g c told = part_none _ _ _ refl
-
 pub returns-in_err-index-clause-kept : goal.returns-in_err-index-clause-kept
 returns-in_err-index-clause-kept g c told_wire told = keeps_nothing (g.W.Wire.exchanges c.args.wire.now) (g.W.Wire.exchanges c.args.wire.now) (g.D.CacheDisk.past c.args.disk.now)
-
-pub returns-in_err-plan-clause-part : goal.returns-in_err-plan-clause-part
-returns-in_err-plan-clause-part g c told = part_none _ _ _ refl
 
 pub returns-in_err-plan-clause-kept : goal.returns-in_err-plan-clause-kept
 returns-in_err-plan-clause-kept g c told_wire told = keeps_nothing (g.W.Wire.exchanges c.args.wire.now) (g.W.Wire.exchanges c.args.wire.now) (g.D.CacheDisk.past c.args.disk.now)
 
 pub ask-requires-clause-named : goal.ask-requires-clause-named
 ask-requires-clause-named g c = rw c.as_slice.ensures (names_valid c.in_ok-plan.plan.names (asked_paths c.args.packages.now) c.in_ok-plan.ensures.named)
-
-pub returns-in_err-answered_turns-clause-part : goal.returns-in_err-answered_turns-clause-part
-returns-in_err-answered_turns-clause-part g c told =
-    let exchanges = g.W.Wire.exchanges in
-    let plan = c.in_ok-plan in
-    named_part plan.plan.names (asked_paths c.args.packages.now) (exchanges c.args.wire.now) (exchanges c.ask.new.wire) plan.ensures.named (rw c.as_slice.ensures at (c.in_err-answered_turns.ensures.part told))
-
-pub returns-in_err-verdicts-clause-part : goal.returns-in_err-verdicts-clause-part
-returns-in_err-verdicts-clause-part g c told =
-    let exchanges = g.W.Wire.exchanges in
-    let past = g.D.CacheDisk.past in
-    let plan = c.in_ok-plan in
-    let answered_turns : map (λ (h : AnsweredTurn). Some h.turn.path) c.in_ok-answered_turns.answered_turns ≡ map (λ q. Some q) (asked_paths c.args.packages.now) = c.in_ok-answered_turns.ensures.paths ∙ ap (map path) c.as_slice.ensures ∙ plan.ensures.named in
-    AddsTurns-part g.D.CacheDisk.tells (asked_paths c.args.packages.now) c.in_ok-answered_turns.answered_turns (exchanges c.args.wire.now) (exchanges c.ask.new.wire) (past c.args.disk.now) (past c.ask.new.disk) answered_turns (c.in_ok-answered_turns.ensures.said told)
-
-pub returns-in_err-turns-clause-part : goal.returns-in_err-turns-clause-part
-returns-in_err-turns-clause-part g c told =
-    let exchanges = g.W.Wire.exchanges in
-    let past = g.D.CacheDisk.past in
-    let plan = c.in_ok-plan in
-    let answered_turns : map (λ (h : AnsweredTurn). Some h.turn.path) c.in_ok-answered_turns.answered_turns ≡ map (λ q. Some q) (asked_paths c.args.packages.now) = c.in_ok-answered_turns.ensures.paths ∙ ap (map path) c.as_slice.ensures ∙ plan.ensures.named in
-    AddsTurns-part g.D.CacheDisk.tells (asked_paths c.args.packages.now) c.in_ok-answered_turns.answered_turns (exchanges c.args.wire.now) (exchanges c.ask.new.wire) (past c.args.disk.now) (past c.ask.new.disk) answered_turns (c.in_ok-answered_turns.ensures.said told)
-
-pub returns-clause-part : goal.returns-clause-part
-returns-clause-part g c told =
-    let exchanges = g.W.Wire.exchanges in
-    let past = g.D.CacheDisk.past in
-    let plan = c.in_ok-plan in
-    let answered_turns : map (λ (h : AnsweredTurn). Some h.turn.path) c.in_ok-answered_turns.answered_turns ≡ map (λ q. Some q) (asked_paths c.args.packages.now) = c.in_ok-answered_turns.ensures.paths ∙ ap (map path) c.as_slice.ensures ∙ plan.ensures.named in
-    AddsTurns-part g.D.CacheDisk.tells (asked_paths c.args.packages.now) c.in_ok-answered_turns.answered_turns (exchanges c.args.wire.now) (exchanges c.ask.new.wire) (past c.args.disk.now) (past c.ask.new.disk) answered_turns (c.in_ok-answered_turns.ensures.said told)
 
 pub judge-requires : goal.judge-requires
 judge-requires g c =
@@ -83,48 +48,51 @@ returns-clause-says g c =
       caused = caused_done (asked_paths packages) (defaults packages) hs verdicts done c.in_ok-answered_turns.ensures.caused;
     }
 
-pub returns-in_err-answered_turns-clause-others : goal.returns-in_err-answered_turns-clause-others
-returns-in_err-answered_turns-clause-others g c told q other =
+pub returns-in_err-index-clause-asks : goal.returns-in_err-index-clause-asks
+returns-in_err-index-clause-asks g c = asks_nothing _ _ _ _
+
+pub returns-in_err-plan-clause-asks : goal.returns-in_err-plan-clause-asks
+returns-in_err-plan-clause-asks g c = asks_nothing _ _ _ _
+
+pub returns-in_err-answered_turns-clause-asks : goal.returns-in_err-answered_turns-clause-asks
+returns-in_err-answered_turns-clause-asks g c =
     let plan = c.in_ok-plan in
-    c.ask.ensures.others told q (rw c.as_slice.ensures (no_file_of plan.plan.names (asked_paths c.args.packages.now) q plan.ensures.named other))
+    record {
+      part = λ told. named_part plan.plan.names (asked_paths c.args.packages.now) (g.W.Wire.exchanges c.args.wire.now) (g.W.Wire.exchanges c.ask.new.wire) plan.ensures.named
+          (rw c.as_slice.ensures at (c.in_err-answered_turns.ensures.part told));
+      others = λ told q other. c.ask.ensures.others told q (rw c.as_slice.ensures (no_file_of plan.plan.names (asked_paths c.args.packages.now) q plan.ensures.named other));
+      folders = λ told. made_weaker _ _ (λ q is. asked_file plan.plan.names (asked_paths c.args.packages.now) q plan.ensures.named is) _ _ (rw c.as_slice.ensures at (c.ask.ensures.folders told));
+    }
 
-pub returns-in_err-verdicts-clause-others : goal.returns-in_err-verdicts-clause-others
-returns-in_err-verdicts-clause-others g c told q other =
+pub returns-in_err-verdicts-clause-asks : goal.returns-in_err-verdicts-clause-asks
+returns-in_err-verdicts-clause-asks g c =
     let plan = c.in_ok-plan in
-    c.ask.ensures.others told q (rw c.as_slice.ensures (no_file_of plan.plan.names (asked_paths c.args.packages.now) q plan.ensures.named other))
+    record {
+      part = λ told. AddsTurns-part g.D.CacheDisk.tells (asked_paths c.args.packages.now) c.in_ok-answered_turns.answered_turns (g.W.Wire.exchanges c.args.wire.now) (g.W.Wire.exchanges c.ask.new.wire)
+          (g.D.CacheDisk.past c.args.disk.now) (g.D.CacheDisk.past c.ask.new.disk) (c.in_ok-answered_turns.ensures.paths ∙ ap (map path) c.as_slice.ensures ∙ plan.ensures.named)
+          (c.in_ok-answered_turns.ensures.said told);
+      others = λ told q other. c.ask.ensures.others told q (rw c.as_slice.ensures (no_file_of plan.plan.names (asked_paths c.args.packages.now) q plan.ensures.named other));
+      folders = λ told. made_weaker _ _ (λ q is. asked_file plan.plan.names (asked_paths c.args.packages.now) q plan.ensures.named is) _ _ (rw c.as_slice.ensures at (c.ask.ensures.folders told));
+    }
 
-pub returns-in_err-turns-clause-others : goal.returns-in_err-turns-clause-others
-returns-in_err-turns-clause-others g c told q other =
+pub returns-in_err-turns-clause-asks : goal.returns-in_err-turns-clause-asks
+returns-in_err-turns-clause-asks g c =
     let plan = c.in_ok-plan in
-    c.ask.ensures.others told q (rw c.as_slice.ensures (no_file_of plan.plan.names (asked_paths c.args.packages.now) q plan.ensures.named other))
+    record {
+      part = λ told. AddsTurns-part g.D.CacheDisk.tells (asked_paths c.args.packages.now) c.in_ok-answered_turns.answered_turns (g.W.Wire.exchanges c.args.wire.now) (g.W.Wire.exchanges c.ask.new.wire)
+          (g.D.CacheDisk.past c.args.disk.now) (g.D.CacheDisk.past c.ask.new.disk) (c.in_ok-answered_turns.ensures.paths ∙ ap (map path) c.as_slice.ensures ∙ plan.ensures.named)
+          (c.in_ok-answered_turns.ensures.said told);
+      others = λ told q other. c.ask.ensures.others told q (rw c.as_slice.ensures (no_file_of plan.plan.names (asked_paths c.args.packages.now) q plan.ensures.named other));
+      folders = λ told. made_weaker _ _ (λ q is. asked_file plan.plan.names (asked_paths c.args.packages.now) q plan.ensures.named is) _ _ (rw c.as_slice.ensures at (c.ask.ensures.folders told));
+    }
 
-pub returns-clause-others : goal.returns-clause-others
-returns-clause-others g c told q other =
+pub returns-clause-asks : goal.returns-clause-asks
+returns-clause-asks g c =
     let plan = c.in_ok-plan in
-    c.ask.ensures.others told q (rw c.as_slice.ensures (no_file_of plan.plan.names (asked_paths c.args.packages.now) q plan.ensures.named other))
-
-pub returns-in_err-answered_turns-clause-folders : goal.returns-in_err-answered_turns-clause-folders
-returns-in_err-answered_turns-clause-folders g c told =
-    let plan = c.in_ok-plan in
-    made_weaker _ _ (λ q is. asked_file plan.plan.names (asked_paths c.args.packages.now) q plan.ensures.named is) _ _ (rw c.as_slice.ensures at (c.ask.ensures.folders told))
-
-pub returns-in_err-verdicts-clause-folders : goal.returns-in_err-verdicts-clause-folders
-returns-in_err-verdicts-clause-folders g c told =
-    let plan = c.in_ok-plan in
-    made_weaker _ _ (λ q is. asked_file plan.plan.names (asked_paths c.args.packages.now) q plan.ensures.named is) _ _ (rw c.as_slice.ensures at (c.ask.ensures.folders told))
-
-pub returns-in_err-turns-clause-folders : goal.returns-in_err-turns-clause-folders
-returns-in_err-turns-clause-folders g c told =
-    let plan = c.in_ok-plan in
-    made_weaker _ _ (λ q is. asked_file plan.plan.names (asked_paths c.args.packages.now) q plan.ensures.named is) _ _ (rw c.as_slice.ensures at (c.ask.ensures.folders told))
-
-pub returns-clause-folders : goal.returns-clause-folders
-returns-clause-folders g c told =
-    let plan = c.in_ok-plan in
-    made_weaker _ _ (λ q is. asked_file plan.plan.names (asked_paths c.args.packages.now) q plan.ensures.named is) _ _ (rw c.as_slice.ensures at (c.ask.ensures.folders told))
-
-pub returns-in_err-index-clause-folders : goal.returns-in_err-index-clause-folders
-returns-in_err-index-clause-folders g c told = none_made _ _ _ refl
-
-pub returns-in_err-plan-clause-folders : goal.returns-in_err-plan-clause-folders
-returns-in_err-plan-clause-folders g c told = none_made _ _ _ refl
+    record {
+      part = λ told. AddsTurns-part g.D.CacheDisk.tells (asked_paths c.args.packages.now) c.in_ok-answered_turns.answered_turns (g.W.Wire.exchanges c.args.wire.now) (g.W.Wire.exchanges c.ask.new.wire)
+          (g.D.CacheDisk.past c.args.disk.now) (g.D.CacheDisk.past c.ask.new.disk) (c.in_ok-answered_turns.ensures.paths ∙ ap (map path) c.as_slice.ensures ∙ plan.ensures.named)
+          (c.in_ok-answered_turns.ensures.said told);
+      others = λ told q other. c.ask.ensures.others told q (rw c.as_slice.ensures (no_file_of plan.plan.names (asked_paths c.args.packages.now) q plan.ensures.named other));
+      folders = λ told. made_weaker _ _ (λ q is. asked_file plan.plan.names (asked_paths c.args.packages.now) q plan.ensures.named is) _ _ (rw c.as_slice.ensures at (c.ask.ensures.folders told));
+    }

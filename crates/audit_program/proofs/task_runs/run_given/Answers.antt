@@ -1,9 +1,10 @@
-use Rattle.std.proofs.Common.{◌≡◌, inl, [], Some, None, Ok, Err, refl, ap, sym, ◌∙◌}
+use Rattle.std.proofs.Common.{◌≡◌, inl, [], Some, None, Ok, Err, refl, rules, ap, ◌∙◌, arith}
+use Rattle.std.proofs.lemmas.Grind.{common_steps}
 use Rattle.audit_asked.specs.declared.faults.RunFault.{RunFault}
 use Rattle.audit_asked.specs.declared.faults.RunFault.TheVariants as fault
-use Rattle.audit_core.specs.Checks.{asked_of, checks_of}
+use Rattle.audit_core.specs.Checks.{checks_of}
 use Rattle.audit_core.specs.declared.auditors.Auditor.{Auditor}
-use Rattle.audit_core.proofs.Exchanged.{keeps_nothing, part_none}
+use Rattle.audit_core.proofs.Exchanged.{keeps_nothing}
 use Rattle.audit_program.specs.Causes.{IsAskedFault}
 use Rattle.audit_program.specs.Finishes.{IsFinishFault}
 use Rattle.audit_program.specs.Moments.{moment}
@@ -11,9 +12,11 @@ use Rattle.audit_program.specs.Statuses.{IsEarly}
 use Rattle.audit_program.proofs.Ended.{ended_from}
 use Rattle.audit_program.proofs.Faults.{ends_with, finish_case, has_fault, late_making, late_memory, late_print, late_start, making_case, memory_no_print, rose_later, same_fault}
 use Rattle.audit_program.proofs.Finishing.{started_failed}
+use Rattle.audit_core.proofs.Left.{asks_nothing, asks_then_read, calls_nothing, calls_then_read}
+use Rattle.audit_program.proofs.Leaving.{calls_weaker}
 use Rattle.audit_program.proofs.Made.{finishing_told, made_for, making_told, unmade_lines, unmade_started, unmade_unfixed}
 use Rattle.audit_program.proofs.Putting.{put_failed, put_nothing}
-use Rattle.audit_program.proofs.ReadSince.{kept_then_read, others_then_read}
+use Rattle.audit_program.proofs.ReadSince.{kept_then_read}
 use Rattle.audit_program.proofs.task_runs.run_given.Goals as goal
 
 -- ---- without an audit
@@ -21,13 +24,31 @@ use Rattle.audit_program.proofs.task_runs.run_given.Goals as goal
 pub returns-in_default-clause-kept : goal.returns-in_default-clause-kept
 returns-in_default-clause-kept g c told_wire told = keeps_nothing (g.W.Wire.exchanges c.args.wire.now) (g.W.Wire.exchanges c.args.wire.now) (g.D.CacheDisk.past c.args.disk.now)
 
-pub returns-in_default-clause-part : goal.returns-in_default-clause-part
-returns-in_default-clause-part g c told packages is = part_none _ _ _ refl
+pub returns-in_default-clause-asks : goal.returns-in_default-clause-asks
+returns-in_default-clause-asks g c packages is = asks_nothing _ _ _ _
 
-pub returns-in-Err-clause-others : goal.returns-in-Err-clause-others
-returns-in-Err-clause-others g c told packages is q other =
+pub returns-in_default-clause-calls : goal.returns-in_default-clause-calls
+returns-in_default-clause-calls g c = calls_nothing _ _ _ _ _ refl (λ unread. refl)
+
+pub returns-in-Err-clause-asks : goal.returns-in-Err-clause-asks
+returns-in-Err-clause-asks g c packages is =
     let checks : c.in-Ok.auditor.checks ≡ checks_of c.args.given.config = ap (λ (a : Auditor). a.checks) c.in-Ok.ensures in
-    (rw checks at (c.audit.ensures.others told packages (rw c.as_str.ensures is))) q other
+    rw checks at (c.audit.ensures.asks packages (rw c.as_str.ensures is))
+
+pub returns-in-Err-clause-calls : goal.returns-in-Err-clause-calls
+returns-in-Err-clause-calls g c =
+    let checks : c.in-Ok.auditor.checks ≡ checks_of c.args.given.config = ap (λ (a : Auditor). a.checks) c.in-Ok.ensures in
+    calls_weaker _ _ _ _ _ _ _ (rw checks at c.audit.ensures.calls) (λ same unread. same)
+
+pub returns-in-Err-clause-causes : goal.returns-in-Err-clause-causes
+returns-in-Err-clause-causes g c = record {
+  cause = first_of (search rules, grind (arith, common_steps));
+  print_rose = first_of (search rules, grind (arith, common_steps));
+  file_rose = first_of (search rules, grind (arith, common_steps));
+  crate_rose = first_of (search rules, grind (arith, common_steps));
+  store_rose = first_of (search rules, grind (arith, common_steps));
+  start_rose = first_of (search rules, grind (arith, common_steps));
+}
 
 -- ---- where nothing could be made
 
@@ -35,31 +56,16 @@ pub returns-in-Err-made-clause-kept : goal.returns-in-Err-made-clause-kept
 returns-in-Err-made-clause-kept g c told_wire told =
     kept_then_read _ _ (g.D.CacheDisk.past c.args.disk.now) (g.D.CacheDisk.past c.audit.new.disk) (g.D.CacheDisk.past c.make-made.new.disk) (c.audit.ensures.kept told_wire told) (c.make-made.ensures.disk_same told)
 
-pub returns-in-Err-made-clause-others : goal.returns-in-Err-made-clause-others
-returns-in-Err-made-clause-others g c told packages is =
+pub returns-in-Err-made-clause-asks : goal.returns-in-Err-made-clause-asks
+returns-in-Err-made-clause-asks g c packages is =
     let checks : c.in-Ok.auditor.checks ≡ checks_of c.args.given.config = ap (λ (a : Auditor). a.checks) c.in-Ok.ensures in
-    others_then_read (asked_of (checks_of c.args.given.config) packages) (g.D.CacheDisk.past c.args.disk.now) (g.D.CacheDisk.past c.audit.new.disk) (g.D.CacheDisk.past c.make-made.new.disk)
-    (rw checks at (c.audit.ensures.others told packages (rw c.as_str.ensures is))) (c.make-made.ensures.disk_same told)
+    asks_then_read _ _ _ _ _ _ (rw checks at (c.audit.ensures.asks packages (rw c.as_str.ensures is))) refl c.make-made.ensures.disk_same c.make-made.ensures.folders_same
 
-pub returns-in-Err-made-clause-unchanged : goal.returns-in-Err-made-clause-unchanged
-returns-in-Err-made-clause-unchanged g c other told q =
+pub returns-in-Err-made-clause-calls : goal.returns-in-Err-made-clause-calls
+returns-in-Err-made-clause-calls g c =
     let checks : c.in-Ok.auditor.checks ≡ checks_of c.args.given.config = ap (λ (a : Auditor). a.checks) c.in-Ok.ensures in
-    c.make-made.ensures.disk_same told q ∙ c.audit.ensures.unchanged (λ on. other (sym checks ∙ on)) told q
-
-pub returns-in-Err-made-clause-unasked : goal.returns-in-Err-made-clause-unasked
-returns-in-Err-made-clause-unasked g c other =
-    let checks : c.in-Ok.auditor.checks ≡ checks_of c.args.given.config = ap (λ (a : Auditor). a.checks) c.in-Ok.ensures in
-    c.audit.ensures.unasked (λ on. other (sym checks ∙ on))
-
-pub returns-in-Err-made-clause-unmade : goal.returns-in-Err-made-clause-unmade
-returns-in-Err-made-clause-unmade g c other told =
-    let checks : c.in-Ok.auditor.checks ≡ checks_of c.args.given.config = ap (λ (a : Auditor). a.checks) c.in-Ok.ensures in
-    c.make-made.ensures.folders_same told ∙ c.audit.ensures.unmade (λ on. other (sym checks ∙ on)) told
-
-pub returns-in-Err-made-clause-off : goal.returns-in-Err-made-clause-off
-returns-in-Err-made-clause-off g c unread off =
-    let checks : c.in-Ok.auditor.checks ≡ checks_of c.args.given.config = ap (λ (a : Auditor). a.checks) c.in-Ok.ensures in
-    c.make-made.ensures.unread unread ∙ c.audit.ensures.off (checks ∙ off)
+    calls_then_read _ _ _ _ _ _ _ _ (rw checks at c.audit.ensures.calls) c.make-made.ensures.disk_same c.make-made.ensures.folders_same
+    (λ same unread. c.make-made.ensures.unread unread ∙ same)
 
 pub returns-in-Err-made-clause-audited : goal.returns-in-Err-made-clause-audited
 returns-in-Err-made-clause-audited g c =
@@ -84,17 +90,31 @@ returns-in-Err-made-clause-audited g c =
       is_end = record { unmade = end; made = tt; status = tt };
     }
 
-pub returns-in-Err-made-clause-fault : goal.returns-in-Err-made-clause-fault
-returns-in-Err-made-clause-fault g c =
+pub returns-in-Err-made-clause-causes : goal.returns-in-Err-made-clause-causes
+returns-in-Err-made-clause-causes g c =
     let P : RunFault → Type 0 = λ e. IsAskedFault c.args.task.now c.args.given e in
-    rw c.with_audit.ensures (ends_with P c.failed-in-Err-made.result.fault c.in-Err-made.fault c.failed-in-Err-made.ensures.fault
-    (making_case P c.args.task.now.remedy c.in-Err-made.fault c.in-Err-made.ensures.only (λ told is. is) (λ reason is other. (is, other)) tt) tt)
+    record {
+      cause = rw c.with_audit.ensures (ends_with P c.failed-in-Err-made.result.fault c.in-Err-made.fault c.failed-in-Err-made.ensures.fault
+          (making_case P c.args.task.now.remedy c.in-Err-made.fault c.in-Err-made.ensures.only (λ told is. is) (λ reason is other. (is, other)) tt) tt);
+      print_rose = search rules;
+      file_rose = search rules;
+      crate_rose = search rules;
+      store_rose = search rules;
+      start_rose = search rules;
+    }
 
-pub returns-in-Err-made-clause-no_audit : goal.returns-in-Err-made-clause-no_audit
-returns-in-Err-made-clause-no_audit g c =
+pub returns-in-Err-made-clause-has : goal.returns-in-Err-made-clause-has
+returns-in-Err-made-clause-has g c =
     let P : RunFault → Type 0 = λ e. IsEarly c.args.task.now.remedy e → Some c.in-Ok-audit.audited ≡ None in
-    rw c.with_audit.ensures (ends_with P c.failed-in-Err-made.result.fault c.in-Err-made.fault c.failed-in-Err-made.ensures.fault
-    (λ early. late_making c.args.task.now.remedy c.in-Err-made.fault c.in-Err-made.ensures.only early) (λ early. late_memory c.args.task.now.remedy early))
+    record {
+      has_audit = search rules;
+      vendor_audit = search rules;
+      no_audit = rw c.with_audit.ensures (ends_with P c.failed-in-Err-made.result.fault c.in-Err-made.fault c.failed-in-Err-made.ensures.fault
+          (λ early. late_making c.args.task.now.remedy c.in-Err-made.fault c.in-Err-made.ensures.only early) (λ early. late_memory c.args.task.now.remedy early));
+      no_plan = search rules;
+      binaries = rw c.with_audit.ensures c.failed-in-Err-made.ensures.binaries;
+      generated = rw c.with_audit.ensures c.failed-in-Err-made.ensures.generated;
+    }
 
 pub returns-in-Err-made-clause-failed : goal.returns-in-Err-made-clause-failed
 returns-in-Err-made-clause-failed g c told =
@@ -110,31 +130,16 @@ pub returns-in-Ok-finish-clause-kept : goal.returns-in-Ok-finish-clause-kept
 returns-in-Ok-finish-clause-kept g c told_wire told =
     kept_then_read _ _ (g.D.CacheDisk.past c.args.disk.now) (g.D.CacheDisk.past c.audit.new.disk) (g.D.CacheDisk.past c.make-made.new.disk) (c.audit.ensures.kept told_wire told) (c.make-made.ensures.disk_same told)
 
-pub returns-in-Ok-finish-clause-others : goal.returns-in-Ok-finish-clause-others
-returns-in-Ok-finish-clause-others g c told packages is =
+pub returns-in-Ok-finish-clause-asks : goal.returns-in-Ok-finish-clause-asks
+returns-in-Ok-finish-clause-asks g c packages is =
     let checks : c.in-Ok.auditor.checks ≡ checks_of c.args.given.config = ap (λ (a : Auditor). a.checks) c.in-Ok.ensures in
-    others_then_read (asked_of (checks_of c.args.given.config) packages) (g.D.CacheDisk.past c.args.disk.now) (g.D.CacheDisk.past c.audit.new.disk) (g.D.CacheDisk.past c.make-made.new.disk)
-    (rw checks at (c.audit.ensures.others told packages (rw c.as_str.ensures is))) (c.make-made.ensures.disk_same told)
+    asks_then_read _ _ _ _ _ _ (rw checks at (c.audit.ensures.asks packages (rw c.as_str.ensures is))) refl c.make-made.ensures.disk_same c.make-made.ensures.folders_same
 
-pub returns-in-Ok-finish-clause-unchanged : goal.returns-in-Ok-finish-clause-unchanged
-returns-in-Ok-finish-clause-unchanged g c other told q =
+pub returns-in-Ok-finish-clause-calls : goal.returns-in-Ok-finish-clause-calls
+returns-in-Ok-finish-clause-calls g c =
     let checks : c.in-Ok.auditor.checks ≡ checks_of c.args.given.config = ap (λ (a : Auditor). a.checks) c.in-Ok.ensures in
-    c.make-made.ensures.disk_same told q ∙ c.audit.ensures.unchanged (λ on. other (sym checks ∙ on)) told q
-
-pub returns-in-Ok-finish-clause-unasked : goal.returns-in-Ok-finish-clause-unasked
-returns-in-Ok-finish-clause-unasked g c other =
-    let checks : c.in-Ok.auditor.checks ≡ checks_of c.args.given.config = ap (λ (a : Auditor). a.checks) c.in-Ok.ensures in
-    c.audit.ensures.unasked (λ on. other (sym checks ∙ on))
-
-pub returns-in-Ok-finish-clause-unmade : goal.returns-in-Ok-finish-clause-unmade
-returns-in-Ok-finish-clause-unmade g c other told =
-    let checks : c.in-Ok.auditor.checks ≡ checks_of c.args.given.config = ap (λ (a : Auditor). a.checks) c.in-Ok.ensures in
-    c.make-made.ensures.folders_same told ∙ c.audit.ensures.unmade (λ on. other (sym checks ∙ on)) told
-
-pub returns-in-Ok-finish-clause-off : goal.returns-in-Ok-finish-clause-off
-returns-in-Ok-finish-clause-off g c unread off =
-    let checks : c.in-Ok.auditor.checks ≡ checks_of c.args.given.config = ap (λ (a : Auditor). a.checks) c.in-Ok.ensures in
-    c.make-made.ensures.unread unread ∙ c.audit.ensures.off (checks ∙ off)
+    calls_then_read _ _ _ _ _ _ _ _ (rw checks at c.audit.ensures.calls) c.make-made.ensures.disk_same c.make-made.ensures.folders_same
+    (λ same unread. c.make-made.ensures.unread unread ∙ same)
 
 pub returns-in-Ok-finish-clause-audited : goal.returns-in-Ok-finish-clause-audited
 returns-in-Ok-finish-clause-audited g c =
@@ -159,31 +164,16 @@ pub returns-clause-kept : goal.returns-clause-kept
 returns-clause-kept g c told_wire told =
     kept_then_read _ _ (g.D.CacheDisk.past c.args.disk.now) (g.D.CacheDisk.past c.audit.new.disk) (g.D.CacheDisk.past c.make-made.new.disk) (c.audit.ensures.kept told_wire told) (c.make-made.ensures.disk_same told)
 
-pub returns-clause-others : goal.returns-clause-others
-returns-clause-others g c told packages is =
+pub returns-clause-asks : goal.returns-clause-asks
+returns-clause-asks g c packages is =
     let checks : c.in-Ok.auditor.checks ≡ checks_of c.args.given.config = ap (λ (a : Auditor). a.checks) c.in-Ok.ensures in
-    others_then_read (asked_of (checks_of c.args.given.config) packages) (g.D.CacheDisk.past c.args.disk.now) (g.D.CacheDisk.past c.audit.new.disk) (g.D.CacheDisk.past c.make-made.new.disk)
-    (rw checks at (c.audit.ensures.others told packages (rw c.as_str.ensures is))) (c.make-made.ensures.disk_same told)
+    asks_then_read _ _ _ _ _ _ (rw checks at (c.audit.ensures.asks packages (rw c.as_str.ensures is))) refl c.make-made.ensures.disk_same c.make-made.ensures.folders_same
 
-pub returns-clause-unchanged : goal.returns-clause-unchanged
-returns-clause-unchanged g c other told q =
+pub returns-clause-calls : goal.returns-clause-calls
+returns-clause-calls g c =
     let checks : c.in-Ok.auditor.checks ≡ checks_of c.args.given.config = ap (λ (a : Auditor). a.checks) c.in-Ok.ensures in
-    c.make-made.ensures.disk_same told q ∙ c.audit.ensures.unchanged (λ on. other (sym checks ∙ on)) told q
-
-pub returns-clause-unasked : goal.returns-clause-unasked
-returns-clause-unasked g c other =
-    let checks : c.in-Ok.auditor.checks ≡ checks_of c.args.given.config = ap (λ (a : Auditor). a.checks) c.in-Ok.ensures in
-    c.audit.ensures.unasked (λ on. other (sym checks ∙ on))
-
-pub returns-clause-unmade : goal.returns-clause-unmade
-returns-clause-unmade g c other told =
-    let checks : c.in-Ok.auditor.checks ≡ checks_of c.args.given.config = ap (λ (a : Auditor). a.checks) c.in-Ok.ensures in
-    c.make-made.ensures.folders_same told ∙ c.audit.ensures.unmade (λ on. other (sym checks ∙ on)) told
-
-pub returns-clause-off : goal.returns-clause-off
-returns-clause-off g c unread off =
-    let checks : c.in-Ok.auditor.checks ≡ checks_of c.args.given.config = ap (λ (a : Auditor). a.checks) c.in-Ok.ensures in
-    c.make-made.ensures.unread unread ∙ c.audit.ensures.off (checks ∙ off)
+    calls_then_read _ _ _ _ _ _ _ _ (rw checks at c.audit.ensures.calls) c.make-made.ensures.disk_same c.make-made.ensures.folders_same
+    (λ same unread. c.make-made.ensures.unread unread ∙ same)
 
 pub returns-clause-audited : goal.returns-clause-audited
 returns-clause-audited g c =
@@ -209,23 +199,34 @@ returns-clause-audited g c =
       };
     }
 
-pub returns-clause-fault : goal.returns-clause-fault
-returns-clause-fault g c =
+pub returns-clause-causes : goal.returns-clause-causes
+returns-clause-causes g c =
     let P : RunFault → Type 0 = λ e. IsAskedFault c.args.task.now c.args.given e in
-    rw c.with_audit-in-Err-finish.ensures (ends_with P c.failed-in-Err-finish.result.fault c.in-Err-finish.fault c.failed-in-Err-finish.ensures.fault
-    (finish_case P c.in-Err-finish.fault c.in-Err-finish.ensures.only tt (λ failed some. some) tt) tt)
+    record {
+      cause = rw c.with_audit-in-Err-finish.ensures (ends_with P c.failed-in-Err-finish.result.fault c.in-Err-finish.fault c.failed-in-Err-finish.ensures.fault
+          (finish_case P c.in-Err-finish.fault c.in-Err-finish.ensures.only tt (λ failed some. some) tt) tt);
+      print_rose = λ is.
+          let mine = same_fault c.in-Err-finish.fault fault.Print c.failed-in-Err-finish.result.fault c.failed-in-Err-finish.ensures.fault (rw c.with_audit-in-Err-finish.ensures at is) memory_no_print in
+          rose_later _ _ _ _ _ (c.in-Err-finish.ensures.print_rose (ap (λ (e : RunFault). Err e) mine)) c.failed-in-Err-finish.ensures.later;
+      file_rose = search rules;
+      crate_rose = search rules;
+      store_rose = search rules;
+      start_rose = search rules;
+    }
 
-pub returns-clause-rose : goal.returns-clause-rose
-returns-clause-rose g c is =
-    let mine = same_fault c.in-Err-finish.fault fault.Print c.failed-in-Err-finish.result.fault c.failed-in-Err-finish.ensures.fault (rw c.with_audit-in-Err-finish.ensures at is) memory_no_print in
-    rose_later _ _ _ _ _ (c.in-Err-finish.ensures.print_rose (ap (λ (e : RunFault). Err e) mine)) c.failed-in-Err-finish.ensures.later
-
-pub returns-clause-no_audit : goal.returns-clause-no_audit
-returns-clause-no_audit g c =
+pub returns-clause-has : goal.returns-clause-has
+returns-clause-has g c =
     let P : RunFault → Type 0 = λ e. IsEarly c.args.task.now.remedy e → Some c.in-Ok-audit.audited ≡ None in
-    rw c.with_audit-in-Err-finish.ensures (ends_with P c.failed-in-Err-finish.result.fault c.in-Err-finish.fault c.failed-in-Err-finish.ensures.fault
-    (finish_case P c.in-Err-finish.fault c.in-Err-finish.ensures.only (λ early. late_print c.args.task.now.remedy early) (λ failed some early. late_start c.args.task.now.remedy failed early)
-    (λ early. late_memory c.args.task.now.remedy early)) (λ early. late_memory c.args.task.now.remedy early))
+    record {
+      has_audit = search rules;
+      vendor_audit = search rules;
+      no_audit = rw c.with_audit-in-Err-finish.ensures (ends_with P c.failed-in-Err-finish.result.fault c.in-Err-finish.fault c.failed-in-Err-finish.ensures.fault
+          (finish_case P c.in-Err-finish.fault c.in-Err-finish.ensures.only (λ early. late_print c.args.task.now.remedy early) (λ failed some early. late_start c.args.task.now.remedy failed early)
+          (λ early. late_memory c.args.task.now.remedy early)) (λ early. late_memory c.args.task.now.remedy early));
+      no_plan = search rules;
+      binaries = rw c.with_audit-in-Err-finish.ensures c.failed-in-Err-finish.ensures.binaries;
+      generated = rw c.with_audit-in-Err-finish.ensures c.failed-in-Err-finish.ensures.generated;
+    }
 
 pub returns-clause-failed : goal.returns-clause-failed
 returns-clause-failed g c told =

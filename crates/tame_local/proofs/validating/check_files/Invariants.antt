@@ -1,8 +1,10 @@
-use Rattle.std.proofs.Common.{◌≡◌, ◌≤◌}
+use Rattle.std.proofs.Common.{◌≡◌, ◌≤◌, ℕ, List}
+use Rattle.tame_names.specs.declared.host.FailedCall.{FailedCall}
+use Rattle.tame_local.specs.Calls.{IsFilesCall}
 use Rattle.tame_local.specs.Registries.{AreRead, files_checked}
 use Rattle.tame_local.proofs.validating.check_files.Given as goal
 
--- the host as it was, and what is left decides
+-- the host as it was, and what is left decides, with the calls that it makes
 abbrev pub invariant-loop-name : goal.invariant-loop-name
 invariant-loop-name g l = record {
   later : g.F.Files.faults l.fn.files ≤ g.F.Files.faults l.files;
@@ -11,4 +13,6 @@ invariant-loop-name g l = record {
   kept : g.F.Files.tells → AreRead (g.F.Files.host l.fn.files) l.read.krates;
   checked : g.F.Files.tells → files_checked (g.F.Files.host l.fn.files) l.index.path l.folder l.names.keys
       ≡ files_checked (g.F.Files.host l.fn.files) l.index.path l.folder l.name-iterator;
+  calls : g.F.Files.tells → (told : List ℕ) (call : FailedCall) → IsFilesCall (g.F.Files.host l.fn.files) l.index.path l.folder l.name-iterator told call
+      → IsFilesCall (g.F.Files.host l.fn.files) l.index.path l.folder l.names.keys told call;
 }

@@ -2,8 +2,11 @@ use Rattle.std.proofs.Common.{◌≡◌, ◌-◌, ◌^◌, min, ℕ, List, sym, 
 use Rattle.tame_names.specs.declared.errors.Error.TheVariants as error
 use Rattle.tame_names.specs.declared.errors.IoKind.TheVariants as io_kind
 use Rattle.tame_sparse.specs.Git.{first_name}
+use Rattle.tame_local.specs.Calls.{IsInsertCall}
+use Rattle.tame_local.proofs.CallsFor.{insert_for}
 use Rattle.tame_local.specs.Builders.{AreBegun, after, crates_made, insertable, size_of}
 use Rattle.vendor_registry.proofs.Inserting.{filled_is, inserted_is, one_entry, taken_is, told_occupied}
+use Rattle.vendor_registry.proofs.Told.{told_for}
 use Rattle.vendor_registry.proofs.building.insert_path.Goals as goal
 
 pub returns-in-Ok-clause-made : goal.returns-in-Ok-clause-made
@@ -72,3 +75,14 @@ returns-clause-begun g c = λ told pathed.
     (inserted_is folder c.args.path.now c.args.checked.now c.in_ok-krate.krate.versions c.as_slice.result.now pathed c.in_ok-krate.ensures.records
     (sym c.is_empty.ensures ∙ c.if-is_empty.false) (ap (crates_made folder) c.as_slice.ensures ∙ c.in_ok-krates.ensures folder))
     (c.in-Err.ensures.made told)
+
+pub returns-in-Err-IoPath-Failed-default-clause-failed : goal.returns-in-Err-IoPath-Failed-default-clause-failed
+returns-in-Err-IoPath-Failed-default-clause-failed g c = λ told.
+    let e = c.in-Err-IoPath-Failed-default in
+    let l = e.field-0-is in
+    let m = e.field-0-0-is in
+    let p = e.path-is in
+    let whole : e.field-0 ≡ error.IoPath io_kind.Failed e.path = cc in
+    let host = g.F.Files.host c.args.files.now in
+    told_for (IsInsertCall host c.args.builder.now.path c.in_ok-krate.krate.versions c.as_slice.result.now) (g.F.Files.failed c.args.files.now) (g.F.Files.failed c.insert.new.files) e.field-0 e.path whole
+    (λ call is. insert_for host c.args.builder.now.path c.in_ok-krate.krate.versions c.as_slice.result.now e.path call is) (e.ensures.failed told)

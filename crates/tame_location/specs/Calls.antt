@@ -1,0 +1,51 @@
+-- Calls on the host that fail, and what a failed one does (this project).
+use Rattle.std.specs.Prelude.{◌≡◌, ◌≢◌, ◌++◌, ◌∷◌, [], ℕ, List, Option, Some, None, Result, Ok, Err, IfErr}
+use Rattle.tame_names.specs.declared.errors.Error.{Error}
+use Rattle.tame_names.specs.declared.errors.Error.TheVariants as error
+use Rattle.tame_names.specs.declared.errors.IoKind.TheVariants as io
+use Rattle.tame_names.specs.declared.host.FailedCall.{FailedCall}
+use Rattle.tame_names.specs.declared.host.FileCall.{FileCall}
+use Rattle.tame_names.specs.declared.host.FileCall.TheVariants as file_call
+
+-- ---- calls
+
+-- the calls that ask for a variable, and for the current folder; and that read a file
+abbrev pub env_call : List ℕ → FailedCall
+env_call name = record { call = file_call.Env; path = Some name }
+
+abbrev pub current_call : FailedCall
+current_call = record { call = file_call.CurrentDir; path = None }
+
+abbrev pub read_call : List ℕ → FailedCall
+read_call path = record { call = file_call.Read; path = Some path }
+
+-- a call that failed is told by `Io` with `Failed`; the read of a file with its path
+abbrev pub error_by : FileCall → Option (List ℕ) → Error
+error_by file_call.Read (Some path) = error.IoPath io.Failed path
+error_by _ _ = error.Io io.Failed
+
+abbrev pub error_of : FailedCall → Error
+error_of call = error_by call.call call.path
+
+-- ---- what a failed one does
+
+-- what a host has tells the reason; a call that failed and want of memory are told by no host
+abbrev pub IsTold : Error → Type 0
+IsTold (error.Io io.Failed) = ⊥
+IsTold (error.IoPath io.Failed path) = ⊥
+IsTold error.NoMemory = ⊥
+IsTold _ = Unit {0}
+
+-- memory didn't run out
+abbrev pub HadMemory : {T : Type 0} → Result T Error → Type 0
+HadMemory result = IfErr result (λ e. e ≢ error.NoMemory)
+
+-- a failed answer is that of a call that may be asked, which was added to the failed ones; any
+-- other answer added none
+abbrev pub AddsFailed : {T : Type 0} → (FailedCall → Type 0) → List FailedCall → List FailedCall
+    → Result T Error → Type 0
+AddsFailed may before now (Err (error.IoPath io.Failed path)) =
+    (now ≡ before ++ read_call path ∷ []) × may (read_call path)
+AddsFailed may before now (Err (error.Io io.Failed)) = (call : FailedCall)
+    × (now ≡ before ++ call ∷ []) × (error_of call ≡ error.Io io.Failed) × may call
+AddsFailed may before now _ = now ≡ before
