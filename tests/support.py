@@ -132,9 +132,11 @@ def check(short, long=None, tools=(), needs_program=True, seed=1, in_memory=Fals
 class folder:
     """A new folder below the check's own, which is the current one meanwhile and goes away then."""
 
+    above = None
+
     def __enter__(self):
         self.before = os.getcwd()
-        self.at = tempfile.mkdtemp(dir=self.before)
+        self.at = tempfile.mkdtemp(dir=self.above or self.before)
         os.chmod(self.at, 0o755)
         os.chdir(self.at)
         return self.at
@@ -142,6 +144,13 @@ class folder:
     def __exit__(self, *_):
         os.chdir(self.before)
         shutil.rmtree(self.at, ignore_errors=True)
+
+
+def folder_in(above):
+    """The same below another folder."""
+    made = folder()
+    made.above = above
+    return made
 
 
 # ---- processes
@@ -323,6 +332,19 @@ def text_of(path):
 def files_below(at):
     """The paths of all files below a folder, in order."""
     return sorted(os.path.relpath(f"{above}/{name}", at) for above, _, names in os.walk(at) for name in names)
+
+
+# ---- crashes, by tests/shims/lose.c
+
+
+def file_or_none(path):
+    return bytes_of(path) if os.path.isfile(path) else None
+
+
+def names_synced(folder):
+    """The names that a folder had at its last sync; None where it never had one."""
+    names = file_or_none(f"{folder}/.names")
+    return None if names is None else set(names.decode().split("\n"))
 
 
 # ---- lockfiles, mirrors and lines of verdicts

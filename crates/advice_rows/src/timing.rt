@@ -3,8 +3,9 @@
 
 ghost use Rattle.std.specs.Prelude.{◌≡◌, []};
 
-use crate::stage::{add_read, read_lockfile, settings_of};
+use crate::stage::settings_of;
 use crate::trees::is_rendered;
+use advice_fixtures::{add_read, read_lockfile};
 use audit_advisory::{Advisory, Comparisons, Database, Report, Settings};
 use audit_lock::{Lockfile, Tree};
 use row_fixtures::{Row, RowFault};

@@ -73,8 +73,8 @@ fn trees_of(alloc: Global, lockfile: &Lockfile, failing: &[u64]) -> Result<Strin
 /// `trees FAILING`
 fn trees(alloc: Global, stage: &mut Stage, mut row: Row<'_>) -> Result<String, RowFault> {
     let failing = row.numbers(alloc)?;
-    stage.end(alloc)?;
-    match Lockfile::read(alloc, stage.lock()) {
+    stage.texts.end(alloc)?;
+    match Lockfile::read(alloc, stage.texts.lock()) {
         Ok(lockfile) => trees_of(alloc, &lockfile, failing.as_slice()),
         Err(LockfileFault::NoMemory) => Err(RowFault::NoMemory),
         Err(fault) => Ok(format!(in alloc; "{fault:?}")?),

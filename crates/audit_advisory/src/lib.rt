@@ -7,10 +7,11 @@
 //! Stands on `tame_names`, `toml_tables`, the lockfiles of `audit_lock`, and `semver`.
 //!
 //! ```ignore
-//! let database = Database::new(alloc, advisories)?;
-//! let mut count = Comparisons { made: 0 };
-//! let report = Report::generate(alloc, &database, &lockfile, &settings, &mut count)?;
-//! let failed = report_fails(&report, &[DenyOption::Yanked]);
+//! // crates/uses/src/audits.rt: is_hit
+//! match read_version(alloc, package.version.as_str())? {
+//!     Some(version) => Ok(database.hits_at(settings, package, &version)),
+//!     None => Ok(false),
+//! }
 //! ```
 #![tactic(auto)]
 

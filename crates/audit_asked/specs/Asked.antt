@@ -16,9 +16,21 @@ use Rattle.audit_asked.specs.Settings.{settled}
 use Rattle.audit_asked.specs.Starts.{IsPlaced}
 use Rattle.audit_asked.specs.Texts.{go_on, input_or_text}
 use Rattle.audit_asked.specs.declared.asking.Asked.{Asked}
-use Rattle.audit_asked.specs.declared.faults.RunFault.{RunFault}
-use Rattle.audit_asked.specs.declared.faults.RunFault.TheVariants as fault
+use Rattle.audit_asked.specs.declared.asking.Found.{Found}
+use Rattle.audit_asked.specs.declared.faults.AskFault.{AskFault}
+use Rattle.audit_asked.specs.declared.faults.AskFault.TheVariants as fault
 use Rattle.audit_asked.specs.declared.runners.Started.{Started}
+
+-- what was found under these settings, with the lockfile at this place
+abbrev pub asked_by : AuditConfig → List ℕ → Found → Asked
+asked_by config place found = record {
+  config = config;
+  place = place;
+  database = found.database;
+  advisories = found.advisories;
+  baseline = found.baseline;
+  text = found.text;
+}
 
 -- under these settings, with the lockfile at this place: the database, the advisories, the
 -- baseline, where one is named, and the lockfile's text, or the first refusal
@@ -47,11 +59,11 @@ asked command named host status =
     texts_asked host config named place))
 
 -- the status that a generating start ended with, by what was answered: 0, or the one that is told
-abbrev pub status_of : RunFault → ℤ
+abbrev pub status_of : AskFault → ℤ
 status_of (fault.Generate status) = status
 status_of _ = pos 0
 
-abbrev pub status_told : {T : Type 0} → Result T RunFault → ℤ
+abbrev pub status_told : {T : Type 0} → Result T AskFault → ℤ
 status_told (Ok a) = pos 0
 status_told (Err e) = status_of e
 

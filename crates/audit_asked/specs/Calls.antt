@@ -12,8 +12,8 @@ use Rattle.audit_advisory.specs.declared.advisories.Advisory.{Advisory}
 use Rattle.audit_asked.specs.Advisories.{advisories_from, crates_folder, names_at}
 use Rattle.audit_asked.specs.Places.{is_there, lockfile_name, manifest_name}
 use Rattle.audit_asked.specs.Settings.{config_at, folder_file, home_file, known_home}
-use Rattle.audit_asked.specs.declared.faults.RunFault.{RunFault}
-use Rattle.audit_asked.specs.declared.faults.RunFault.TheVariants as fault
+use Rattle.audit_asked.specs.declared.faults.AskFault.{AskFault}
+use Rattle.audit_asked.specs.declared.faults.AskFault.TheVariants as fault
 use Rattle.audit_asked.specs.declared.listings.Wanted.TheVariants as wanted
 use Rattle.audit_asked.specs.declared.places.LocateError.{LocateError}
 use Rattle.audit_asked.specs.declared.places.LocateError.TheVariants as locate
@@ -22,19 +22,19 @@ use Rattle.audit_asked.specs.declared.places.LocateError.TheVariants as locate
 
 -- a fault of the files added one call to the failed ones, which may end a run with its path; any
 -- other fault none
-abbrev pub AddsBy : (List ℕ → FailedCall → Type 0) → List FailedCall → List FailedCall → RunFault
+abbrev pub AddsBy : (List ℕ → FailedCall → Type 0) → List FailedCall → List FailedCall → AskFault
     → Type 0
 AddsBy may before now (fault.File path) =
     (call : FailedCall) × (now ≡ before ++ call ∷ []) × may path call
 AddsBy may before now _ = now ≡ before
 
 abbrev pub AddsFailed : {T : Type 0} → (List ℕ → FailedCall → Type 0) → List FailedCall
-    → List FailedCall → Result T RunFault → Type 0
+    → List FailedCall → Result T AskFault → Type 0
 AddsFailed may before now (Ok a) = now ≡ before
 AddsFailed may before now (Err e) = AddsBy may before now e
 
 -- the count never falls, and a fault of the files raised it
-pub record HasFileCause {T : Type 0} (before now : ℕ) (result : Result T RunFault) : Type 0 where
+pub record HasFileCause {T : Type 0} (before now : ℕ) (result : Result T AskFault) : Type 0 where
   pub later : before ≤ now
   pub rose : (path : List ℕ) → result ≡ Err (fault.File path) → CountRose before now
 

@@ -4,8 +4,8 @@ use Rattle.audit_advisory.specs.declared.faults.AdvisoryFault.{AdvisoryFault}
 use Rattle.audit_advisory.specs.declared.faults.AdvisoryFault.TheVariants as advisory_fault
 use Rattle.audit_settings.specs.Refusals.{Refusal, refusal}
 use Rattle.audit_settings.specs.declared.configs.SettingsFault.TheVariants as settings_fault
-use Rattle.audit_asked.specs.declared.faults.RunFault.{RunFault}
-use Rattle.audit_asked.specs.declared.faults.RunFault.TheVariants as fault
+use Rattle.audit_asked.specs.declared.faults.AskFault.{AskFault}
+use Rattle.audit_asked.specs.declared.faults.AskFault.TheVariants as fault
 
 -- the largest settings, advisories and lockfiles that are read: 64 MiB
 abbrev pub limit : ℕ
@@ -26,7 +26,7 @@ pub data Refused : Type 0 where
   untold : Refused
 
 -- the refusal that a fault tells
-abbrev pub refused : RunFault → Refused
+abbrev pub refused : AskFault → Refused
 refused (fault.Settings reason) = settings (refusal reason)
 refused (fault.Missing path) = missing path
 refused (fault.NotUtf8 path) = not_utf8 path
@@ -37,16 +37,15 @@ refused (fault.Generate status) = generate status
 refused _ = untold
 
 -- what a host has decides this fault: no call failed, and memory didn't run out
-abbrev pub is_told : RunFault → Bool
+abbrev pub is_told : AskFault → Bool
 is_told (fault.File path) = false
-is_told (fault.Start failed) = false
-is_told (fault.Vendor reason) = false
+is_told fault.Start = false
 is_told fault.NoMemory = false
 is_told _ = true
 
 -- the faults that reading may end with, but for a baseline's: a text is too large only above the
 -- limit, and want of memory is a fault of its own
-abbrev pub IsReadFault : RunFault → Type 0
+abbrev pub IsReadFault : AskFault → Type 0
 IsReadFault (fault.Settings reason) = reason ≢ settings_fault.NoMemory
 IsReadFault (fault.Missing path) = Unit {0}
 IsReadFault (fault.NotUtf8 path) = Unit {0}
@@ -57,24 +56,24 @@ IsReadFault fault.NoMemory = Unit {0}
 IsReadFault _ = ⊥
 
 -- the same where a baseline is read too: a line of it is told only where one is named
-abbrev pub IsTextsFault : Option (List ℕ) → RunFault → Type 0
+abbrev pub IsTextsFault : Option (List ℕ) → AskFault → Type 0
 IsTextsFault named (fault.Baseline line) = IsSome named
 IsTextsFault named e = IsReadFault e
 
 -- the faults that asking may end with: besides, a start ended with another status than 0, or failed
-abbrev pub IsAskFault : Option (List ℕ) → RunFault → Type 0
+abbrev pub IsAskFault : Option (List ℕ) → AskFault → Type 0
 IsAskFault named (fault.Generate status) = status ≢ pos 0
-IsAskFault named (fault.Start failed) = failed ≡ 1
+IsAskFault named fault.Start = Unit {0}
 IsAskFault named e = IsTextsFault named e
 
 -- a call on the files failed, or memory ran out
-abbrev pub IsCallFault : RunFault → Type 0
+abbrev pub IsCallFault : AskFault → Type 0
 IsCallFault (fault.File path) = Unit {0}
 IsCallFault fault.NoMemory = Unit {0}
 IsCallFault _ = ⊥
 
 -- what the parts give, and what was answered: an answer is theirs, and so is a refusal that the
 -- host tells
-pub record Gives {A : Type 0} (part : Result A Refused) (result : Result A RunFault) : Type 0 where
+pub record Gives {A : Type 0} (part : Result A Refused) (result : Result A AskFault) : Type 0 where
   pub ok : IfOk result (λ a. part ≡ Ok a)
   pub refused : IfErr result (λ e. IsTrue (is_told e) → part ≡ Err (refused e))

@@ -2,8 +2,8 @@
 use Rattle.std.specs.Prelude.{◌≡◌, ◌≢◌, ◌≤◌, ◌⊎◌, ℕ, ℤ, pos, codes, List, [], ◌∷◌, ◌++◌, Bool, true, false, Option, Some, None, Result, Ok, Err}
 use Rattle.tame_names.specs.Counts.{CountRose}
 use Rattle.audit_asked.specs.Places.{lockfile_name, manifest_name}
-use Rattle.audit_asked.specs.declared.faults.RunFault.{RunFault}
-use Rattle.audit_asked.specs.declared.faults.RunFault.TheVariants as fault
+use Rattle.audit_asked.specs.declared.faults.AskFault.{AskFault}
+use Rattle.audit_asked.specs.declared.faults.AskFault.TheVariants as fault
 use Rattle.audit_asked.specs.declared.places.LocateError.{LocateError}
 use Rattle.audit_asked.specs.declared.places.LocateError.TheVariants as locate
 use Rattle.audit_asked.specs.declared.runners.StartFault.{StartFault}
@@ -72,19 +72,19 @@ IsLocateError _ = Unit {0}
 
 -- by a fault: the start as it ended; where a call on the files failed or memory ran out, it may
 -- have been made or not
-abbrev pub StartsBy : List Started → List Started → RunFault → Type 0
+abbrev pub StartsBy : List Started → List Started → AskFault → Type 0
 StartsBy before now (fault.Generate status) = AddsStart (Some status) before now
-StartsBy before now (fault.Start failed) = AddsStart None before now
+StartsBy before now fault.Start = AddsStart None before now
 StartsBy before now (fault.File path) = (now ≡ before) ⊎ AddsStart (Some (pos 0)) before now
 StartsBy before now fault.NoMemory = (now ≡ before) ⊎ AddsStart (Some (pos 0)) before now
 StartsBy before now _ = AddsStart (Some (pos 0)) before now
 
 -- where a lockfile has to be generated
-abbrev pub RunStarts : {T : Type 0} → List Started → List Started → Result T RunFault → Type 0
+abbrev pub RunStarts : {T : Type 0} → List Started → List Started → Result T AskFault → Type 0
 RunStarts before now (Ok a) = AddsStart (Some (pos 0)) before now
 RunStarts before now (Err e) = StartsBy before now e
 
-abbrev pub RunStartsWhere : {T : Type 0} → Bool → List Started → List Started → Result T RunFault
+abbrev pub RunStartsWhere : {T : Type 0} → Bool → List Started → List Started → Result T AskFault
     → Type 0
 RunStartsWhere true before now result = RunStarts before now result
 RunStartsWhere false before now result = now ≡ before
@@ -97,6 +97,6 @@ IsPlaced false before now = now ≡ before
 
 -- the count never falls, and a failed start raised it
 pub record HasRunStartCause {T : Type 0} (before now : ℕ)
-    (result : Result T RunFault) : Type 0 where
+    (result : Result T AskFault) : Type 0 where
   pub later : before ≤ now
-  pub rose : (failed : ℕ) → result ≡ Err (fault.Start failed) → CountRose before now
+  pub rose : result ≡ Err fault.Start → CountRose before now

@@ -8,7 +8,7 @@ ghost use Rattle.audit_asked.specs.Asked.{IsAdvisoriesCall};
 ghost use Rattle.audit_asked.specs.Calls.{AddsFailed, HasFileCause, IsCallOn, IsListingBelow, IsListingCall, IsReadingCall};
 ghost use Rattle.audit_asked.specs.Refusals.{IsReadFault, IsCallFault, is_told, refused};
 
-use crate::faults::RunFault;
+use crate::faults::AskFault;
 use crate::listings::{Wanted, names_at};
 use crate::texts::file_text;
 use audit_advisory::{Advisory, AdvisoryFault};
@@ -37,7 +37,7 @@ fn add_paths<F: Files>(
     files: &mut F,
     folder: &str,
     paths: &mut Items<Text>,
-) -> Result<(), RunFault>
+) -> Result<(), AskFault>
     ensures ok { F.tells → OnOk result (paths.new
         ≡ paths.old ++ paths_below (F.host files.old) folder.now) }
     ensures only { IfErr result IsCallFault }
@@ -56,7 +56,7 @@ fn paths_in<F: Files>(
     files: &mut F,
     folder: &str,
     names: &BTreeSet<Text>,
-) -> Result<Items<Text>, RunFault>
+) -> Result<Items<Text>, AskFault>
     ensures ok { F.tells → IfOk result (λ paths.
         paths ≡ spec.paths_in (F.host files.old) folder.now names.now.keys) }
     ensures only { IfErr result IsCallFault }
@@ -78,7 +78,7 @@ fn database_paths<F: Files>(
     alloc: Global,
     files: &mut F,
     database: &str,
-) -> Result<Items<Text>, RunFault>
+) -> Result<Items<Text>, AskFault>
     ensures ok { F.tells → IfOk result (λ paths.
         paths ≡ spec.database_paths (F.host files.old) database.now) }
     ensures only { IfErr result IsCallFault }
@@ -98,7 +98,7 @@ fn advisory_at<F: Files>(
     files: &mut F,
     n: usize,
     path: &str,
-) -> Result<Advisory, RunFault>
+) -> Result<Advisory, AskFault>
     ensures ok { F.tells → IfOk result (λ read.
         spec.advisory_at (F.host files.old) n path.now ≡ Ok read) }
     ensures refused { F.tells → IfErr result (λ e. IsTrue (is_told e)
@@ -112,8 +112,8 @@ fn advisory_at<F: Files>(
     let text = file_text(alloc, files, path)?;
     match Advisory::read(alloc, text.as_str()) {
         Ok(advisory) => Ok(advisory),
-        Err(AdvisoryFault::NoMemory) => Err(RunFault::NoMemory),
-        Err(fault) => Err(RunFault::Advisory { n, fault }),
+        Err(AdvisoryFault::NoMemory) => Err(AskFault::NoMemory),
+        Err(fault) => Err(AskFault::Advisory { n, fault }),
     }
 }
 
@@ -122,7 +122,7 @@ fn advisories_at<F: Files>(
     alloc: Global,
     files: &mut F,
     paths: &[Text],
-) -> Result<Items<Advisory>, RunFault>
+) -> Result<Items<Advisory>, AskFault>
     ensures ok { F.tells → IfOk result (λ advisories.
         advisories_from (F.host files.old) 0 paths.now ≡ Ok advisories) }
     ensures refused { F.tells → IfErr result (λ e. IsTrue (is_told e)
@@ -146,7 +146,7 @@ pub(crate) fn advisories<F: Files>(
     alloc: Global,
     files: &mut F,
     database: &Option<Text>,
-) -> Result<Items<Advisory>, RunFault>
+) -> Result<Items<Advisory>, AskFault>
     ensures ok { F.tells → IfOk result (λ advisories.
         advisories_asked (F.host files.old) database.now ≡ Ok advisories) }
     ensures refused { F.tells → IfErr result (λ e. IsTrue (is_told e)

@@ -1,7 +1,7 @@
 //! What a run asks of its host.
 ghost use Rattle.std.specs.Prelude.{◌≡◌, Ok, Err, IfOk, IfErr, IsTrue, option_map};
 ghost use Rattle.tame_names.specs.Standing.{IsInput, StaysButInput};
-ghost use Rattle.audit_asked.specs.Asked.{IsAskedCall, IsOrderedCall, IsTextsCall, asked, generates, status_told, texts_asked};
+ghost use Rattle.audit_asked.specs.Asked.{IsAskedCall, IsOrderedCall, IsTextsCall, asked, asked_by, generates, status_told, texts_asked};
 ghost use Rattle.audit_asked.specs.Calls.{AddsFailed, HasFileCause};
 ghost use Rattle.audit_asked.specs.Places.{place_of};
 ghost use Rattle.audit_asked.specs.Refusals.{Gives, IsAskFault, IsTextsFault, is_told, refused};
@@ -10,7 +10,7 @@ ghost use Rattle.audit_asked.specs.Starts.{HasRunStartCause, RunStartsWhere, Sta
 
 use crate::advisories::advisories;
 use crate::databases::{database, database_path};
-use crate::faults::RunFault;
+use crate::faults::AskFault;
 use crate::known::baseline;
 use crate::places::place;
 use crate::runners::Runner;
@@ -49,15 +49,59 @@ fn path_of(text: &Option<Text>) -> Option<&str>
     }
 }
 
+/// What the host has under some settings, for a lockfile at some place.
+#[derive(Drop)]
+struct Found {
+    database: Text,
+    advisories: Items<Advisory>,
+    baseline: Option<Baseline>,
+    text: Text,
+}
+
 /// Asks the host for the advisories, for a baseline, where one is named, and for the lockfile's
 /// text, under these settings.
+fn look<F: Files>(
+    alloc: Global,
+    files: &mut F,
+    config: &AuditConfig,
+    named: Option<&str>,
+    place: &str,
+) -> Result<Found, AskFault>
+    ensures ok { F.tells → IfOk result (λ found.
+        texts_asked (F.host files.old) config.now (option_map (λ path. path.now) named.entry)
+        place.now ≡ Ok (asked_by config.now place.now found)) }
+    ensures refused { F.tells → IfErr result (λ e. IsTrue (is_told e)
+        → texts_asked (F.host files.old) config.now (option_map (λ path. path.now) named.entry)
+        place.now ≡ Err (refused e)) }
+    ensures only { IfErr result (IsTextsFault (option_map (λ path. path.now) named.entry)) }
+    ensures cause { HasFileCause (F.faults files.old) (F.faults files.new) result }
+    ensures failed { F.tells → AddsFailed (IsTextsCall (F.host files.old) config.now
+        (option_map (λ path. path.now) named.entry) place.now)
+        (F.failed files.old) (F.failed files.new) result }
+    ensures same { F.tells → StaysButInput (IsInput place.now)
+        (F.host files.old) (F.host files.new) }
+{
+    let database = database(alloc, files, &config.database.path)?;
+    let advisories = advisories(alloc, files, &database)?;
+    let baseline = baseline(alloc, files, named)?;
+    let text = input_or_text(alloc, files, place)?;
+    let database = database_path(alloc, database)?;
+    Ok(Found {
+        database,
+        advisories,
+        baseline,
+        text,
+    })
+}
+
+/// The same with the settings and the place.
 fn texts<F: Files>(
     alloc: Global,
     files: &mut F,
     config: AuditConfig,
     named: Option<&str>,
     place: Text,
-) -> Result<Asked, RunFault>
+) -> Result<Asked, AskFault>
     ensures ok { F.tells → IfOk result (λ asked.
         texts_asked (F.host files.old) config (option_map (λ path. path.now) named.entry) place
         ≡ Ok asked) }
@@ -72,11 +116,12 @@ fn texts<F: Files>(
     ensures same { F.tells → StaysButInput (IsInput place)
         (F.host files.old) (F.host files.new) }
 {
-    let database = database(alloc, files, &config.database.path)?;
-    let advisories = advisories(alloc, files, &database)?;
-    let baseline = baseline(alloc, files, named)?;
-    let text = input_or_text(alloc, files, place.as_str())?;
-    let database = database_path(alloc, database)?;
+    let Found {
+        database,
+        advisories,
+        baseline,
+        text,
+    } = look(alloc, files, &config, named, place.as_str())?;
     Ok(Asked {
         config,
         place,
@@ -96,7 +141,7 @@ pub fn ask<F: Files, R: Runner>(
     named: Option<&str>,
     files: &mut F,
     runner: &mut R,
-) -> Result<Asked, RunFault>
+) -> Result<Asked, AskFault>
     // what was asked, or the first refusal
     ensures gives { F.tells
         → Gives (asked command.now (option_map (λ path. path.now) named.entry) (F.host files.old)

@@ -7,7 +7,7 @@ ghost use Rattle.audit_asked.specs.Refusals.{Gives, IsReadFault, is_told, refuse
 
 use crate::advisories::advisories;
 use crate::databases::{database, database_path};
-use crate::faults::RunFault;
+use crate::faults::AskFault;
 use crate::settings::settled;
 use audit_advisory::Advisory;
 use audit_settings::{AuditCommand, AuditConfig};
@@ -30,7 +30,7 @@ fn advised<F: Files>(
     alloc: Global,
     files: &mut F,
     config: AuditConfig,
-) -> Result<AskedForBinaries, RunFault>
+) -> Result<AskedForBinaries, AskFault>
     ensures ok { F.tells → IfOk result (λ asked.
         spec.advised (F.host files.old) config ≡ Ok asked) }
     ensures refused { F.tells → IfErr result (λ e. IsTrue (is_told e)
@@ -57,7 +57,7 @@ pub fn ask_for_binaries<F: Files>(
     alloc: Global,
     command: &AuditCommand,
     files: &mut F,
-) -> Result<AskedForBinaries, RunFault>
+) -> Result<AskedForBinaries, AskFault>
     // what was asked, or the first refusal
     ensures gives { F.tells → Gives (asked_for_binaries command.now (F.host files.old)) result }
     ensures only { IfErr result IsReadFault }

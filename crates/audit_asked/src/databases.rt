@@ -6,7 +6,7 @@ ghost use Rattle.audit_asked.specs.Databases.{database_asked, database_at};
 ghost use Rattle.audit_asked.specs.Databases as spec;
 ghost use Rattle.audit_asked.specs.Refusals.{IsReadFault, is_told, refused};
 
-use crate::faults::RunFault;
+use crate::faults::AskFault;
 use crate::homes::known_home;
 use std::alloc::Global;
 use tame_names::{FileFault, Files, NoMemory, PathKind, Text, join, plain_path};
@@ -19,7 +19,7 @@ fn named_database<F: Files>(
     alloc: Global,
     files: &mut F,
     path: &str,
-) -> Result<Option<Text>, RunFault>
+) -> Result<Option<Text>, AskFault>
     ensures ok { F.tells → IfOk result (λ database.
         database_at path.now (F.host files.old) ≡ Ok database) }
     ensures refused { F.tells → IfErr result (λ e. IsTrue (is_told e)
@@ -32,15 +32,15 @@ fn named_database<F: Files>(
 {
     let copy = Text::of(alloc, path)?;
     match files.kind(path) {
-        Ok(PathKind::Absent) => Err(RunFault::Missing { path: copy }),
+        Ok(PathKind::Absent) => Err(AskFault::Missing { path: copy }),
         Ok(_) => Ok(Some(copy)),
-        Err(FileFault::Failed) => Err(RunFault::File { path: copy }),
-        Err(FileFault::NoMemory) => Err(RunFault::NoMemory),
+        Err(FileFault::Failed) => Err(AskFault::File { path: copy }),
+        Err(FileFault::NoMemory) => Err(AskFault::NoMemory),
     }
 }
 
 /// The database in cargo's home.
-fn home_database<F: Files>(alloc: Global, files: &mut F) -> Result<Option<Text>, RunFault>
+fn home_database<F: Files>(alloc: Global, files: &mut F) -> Result<Option<Text>, AskFault>
     ensures ok { F.tells → IfOk result (λ database.
         database_asked None (F.host files.old) ≡ Ok database) }
     ensures refused { F.tells → IfErr result (λ e. IsTrue (is_told e)
@@ -63,7 +63,7 @@ pub(crate) fn database<F: Files>(
     alloc: Global,
     files: &mut F,
     named: &Option<Text>,
-) -> Result<Option<Text>, RunFault>
+) -> Result<Option<Text>, AskFault>
     ensures ok { F.tells → IfOk result (λ database.
         database_asked named.now (F.host files.old) ≡ Ok database) }
     ensures refused { F.tells → IfErr result (λ e. IsTrue (is_told e)

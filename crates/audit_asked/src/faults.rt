@@ -1,17 +1,13 @@
-//! Why a run ends without its output.
+//! Why what is asked of the host isn't given.
 ghost use Rattle.std.specs.Prelude.{◌≡◌};
 
 use audit_advisory::AdvisoryFault;
-use audit_lock::LockfileFault;
 use audit_settings::SettingsFault;
 use tame_names::{NoMemory, Text};
-use vendor_faults::VendorFault;
 
-/// Why a run ended without its output. No reason that a fault holds is want of memory.
+/// Why a host doesn't give what is asked of it. No reason that a fault holds is want of memory.
 #[derive(Debug, Drop)]
-pub enum RunFault {
-    /// The word at this place, counted from 0, is wrong or missing.
-    Usage { place: usize },
+pub enum AskFault {
     /// The file of settings is refused, for this reason.
     Settings(SettingsFault),
     /// Nothing is at the path.
@@ -22,30 +18,24 @@ pub enum RunFault {
     TooLarge { path: Text, len: u64 },
     /// A call on the path failed; `cargo home` where the folder of cargo's home was asked for.
     File { path: Text },
-    /// The text is no lockfile, for this reason.
-    Lockfile(LockfileFault),
     /// The advisory with this number, counted from 0, is refused, for this reason.
     Advisory { n: usize, fault: AdvisoryFault },
     /// This line of the baseline, counted from 0, is no finding.
     Baseline { line: u64 },
-    /// No registry was made of the audit's packages, or it wasn't finished, for this reason.
-    Vendor(VendorFault),
-    /// The output failed.
-    Print,
     /// The start that should generate a lockfile ended with this status, which isn't 0.
     Generate { status: i32 },
-    /// This number of programs couldn't be started.
-    Start { failed: u64 },
+    /// The program that should generate a lockfile couldn't be started.
+    Start,
     /// Memory ran out.
     NoMemory,
 }
 
-impl From<NoMemory> for RunFault {
-    ghost use Rattle.audit_asked.specs.declared.faults.RunFault.TheVariants.{NoMemory as no_memory};
+impl From<NoMemory> for AskFault {
+    ghost use Rattle.audit_asked.specs.declared.faults.AskFault.TheVariants.{NoMemory as no_memory};
 
     ghost from_gives = { λ _ e. e ≡ no_memory };
 
-    fn from(_: NoMemory) -> RunFault {
-        RunFault::NoMemory
+    fn from(_: NoMemory) -> AskFault {
+        AskFault::NoMemory
     }
 }

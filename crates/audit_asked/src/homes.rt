@@ -4,14 +4,14 @@ ghost use Rattle.audit_asked.specs.Calls.{AddsFailed, AsksHome, HasFileCause};
 ghost use Rattle.audit_asked.specs.Settings as spec;
 ghost use Rattle.audit_asked.specs.Refusals.{IsCallFault};
 
-use crate::faults::RunFault;
+use crate::faults::AskFault;
 use std::alloc::Global;
 use tame_location::cargo_home;
 use tame_names::{Error, Files, IoKind, Text, plain_path};
 
 /// The folder of cargo's home, without slashes at its end; nothing where a variable isn't UTF-8 or
 /// none names it.
-pub(crate) fn known_home<F: Files>(alloc: Global, files: &mut F) -> Result<Option<Text>, RunFault>
+pub(crate) fn known_home<F: Files>(alloc: Global, files: &mut F) -> Result<Option<Text>, AskFault>
     ensures ok { F.tells → IfOk result (λ home. home ≡ spec.known_home (F.host files.old)) }
     ensures only { IfErr result IsCallFault }
     ensures cause { HasFileCause (F.faults files.old) (F.faults files.new) result }
@@ -22,8 +22,8 @@ pub(crate) fn known_home<F: Files>(alloc: Global, files: &mut F) -> Result<Optio
     let path = Text::of(alloc, "cargo home")?;
     match cargo_home(alloc, files) {
         Ok(home) => Ok(Some(Text::of(alloc, plain_path(home.as_str()))?)),
-        Err(Error::Io(IoKind::Failed)) => Err(RunFault::File { path }),
-        Err(Error::NoMemory) => Err(RunFault::NoMemory),
+        Err(Error::Io(IoKind::Failed)) => Err(AskFault::File { path }),
+        Err(Error::NoMemory) => Err(AskFault::NoMemory),
         Err(_) => Ok(None),
     }
 }

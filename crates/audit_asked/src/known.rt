@@ -5,24 +5,24 @@ ghost use Rattle.audit_asked.specs.Calls.{AddsFailed, HasFileCause, IsBaselineCa
 ghost use Rattle.audit_asked.specs.KnownFindings.{baseline_asked, findings_read};
 ghost use Rattle.audit_asked.specs.Refusals.{IsTextsFault, is_told, refused};
 
-use crate::faults::RunFault;
+use crate::faults::AskFault;
 use crate::texts::file_text;
 use known_findings::{Baseline, BaselineFault};
 use std::alloc::Global;
 use tame_names::{Files, Text};
 
 /// The baseline of a text.
-fn baseline_in(alloc: Global, text: &str) -> Result<Baseline, RunFault>
+fn baseline_in(alloc: Global, text: &str) -> Result<Baseline, AskFault>
     ensures ok { IfOk result (λ b. baseline_of text.now ≡ Ok b) }
     ensures refused { IfErr result (λ e. IsTrue (is_told e)
         → findings_read (baseline_of text.now) ≡ Err (refused e)) }
-    ensures only { IfErr result (λ e. (e ≡ RunFault.NoMemory) ⊎ IsTrue (is_told e)) }
+    ensures only { IfErr result (λ e. (e ≡ AskFault.NoMemory) ⊎ IsTrue (is_told e)) }
     ensures read { (path : List ℕ) → IfErr result (IsTextsFault (Some path)) }
 {
     match Baseline::read(alloc, text) {
         Ok(baseline) => Ok(baseline),
-        Err(BaselineFault::Line { n }) => Err(RunFault::Baseline { line: n }),
-        Err(BaselineFault::NoMemory) => Err(RunFault::NoMemory),
+        Err(BaselineFault::Line { n }) => Err(AskFault::Baseline { line: n }),
+        Err(BaselineFault::NoMemory) => Err(AskFault::NoMemory),
     }
 }
 
@@ -31,7 +31,7 @@ pub fn baseline<F: Files>(
     alloc: Global,
     files: &mut F,
     named: Option<&str>,
-) -> Result<Option<Baseline>, RunFault>
+) -> Result<Option<Baseline>, AskFault>
     ensures ok { F.tells → IfOk result (λ b.
         baseline_asked (option_map (λ path. path.now) named.entry) (F.host files.old) ≡ Ok b) }
     ensures refused { F.tells → IfErr result (λ e. IsTrue (is_told e)

@@ -5,11 +5,10 @@
 //! Promises: an answer or a refusal is that of the definition over what the host has; one call
 //! failed at most, and it is one that may end a run so.
 //! Stands on the host `Files` of `tame_names`, the home of `tame_location`, the readers of
-//! `audit_lock`, `audit_advisory`, `audit_settings` and `known_findings`, and the refusals of
-//! `vendor_faults`.
+//! `audit_lock`, `audit_advisory`, `audit_settings` and `known_findings`.
 //!
 //! ```ignore
-//! let asked = ask(alloc, &command, None, &mut files, &mut runner)?; // or a RunFault
+//! let asked = ask(alloc, &command, None, &mut files, &mut runner)?; // or a AskFault
 //! let lockfile = asked.text.as_str();                               // of the file at asked.place
 //! ```
 #![tactic(auto)]
@@ -29,7 +28,7 @@ mod texts;
 
 pub use asking::{Asked, ask};
 pub use binaries::{AskedForBinaries, ask_for_binaries};
-pub use faults::RunFault;
+pub use faults::AskFault;
 pub use places::{LocateError, generate, locate_or_generate};
 pub use runners::{MemRunner, NoRunner, Runner, StartFault, Started};
 pub use texts::TEXT_LIMIT;

@@ -6,7 +6,7 @@ ghost use Rattle.audit_asked.specs.Advisories as spec;
 ghost use Rattle.audit_asked.specs.Calls.{AddsFailed, HasFileCause, IsCallOn};
 ghost use Rattle.audit_asked.specs.Refusals.{IsCallFault};
 
-use crate::faults::RunFault;
+use crate::faults::AskFault;
 use std::alloc::Global;
 use std::collections::BTreeSet;
 use tame_names::{FileFault, Files, Listed, NoMemory, Text};
@@ -57,7 +57,7 @@ pub(crate) fn names_at<F: Files>(
     files: &mut F,
     wanted: Wanted,
     path: &str,
-) -> Result<BTreeSet<Text>, RunFault>
+) -> Result<BTreeSet<Text>, AskFault>
     ensures ok { F.tells → IfOk result (λ names.
         names.keys ≡ spec.names_at wanted (F.host files.old) path.now) }
     ensures only { IfErr result IsCallFault }
@@ -70,7 +70,7 @@ pub(crate) fn names_at<F: Files>(
     match files.list(alloc, path) {
         Ok(None) => Ok(BTreeSet::new(alloc)),
         Ok(Some(entries)) => Ok(names_of(alloc, wanted, entries.as_slice())?),
-        Err(FileFault::Failed) => Err(RunFault::File { path: copy }),
-        Err(FileFault::NoMemory) => Err(RunFault::NoMemory),
+        Err(FileFault::Failed) => Err(AskFault::File { path: copy }),
+        Err(FileFault::NoMemory) => Err(AskFault::NoMemory),
     }
 }

@@ -8,7 +8,7 @@ ghost use Rattle.audit_asked.specs.Starts.{Generates, GeneratesWhere, HasRunStar
 ghost use Rattle.audit_asked.specs.Starts as starts_spec;
 ghost use Rattle.audit_asked.specs.Asked.{status_told};
 
-use crate::faults::RunFault;
+use crate::faults::AskFault;
 use crate::runners::{Runner, StartFault};
 use std::alloc::Global;
 use tame_names::{FileFault, Files, Items, NoMemory, PathKind, Text};
@@ -156,7 +156,7 @@ pub(crate) fn place<F: Files, R: Runner>(
     files: &mut F,
     runner: &mut R,
     path: Option<&str>,
-) -> Result<Text, RunFault>
+) -> Result<Text, AskFault>
     ensures place { IfOk result (λ place. place ≡ place_of (option_map (λ p. p.now) path.entry)) }
     ensures ok { F.tells → IfOk result (λ place. place_asked
         (option_map (λ p. p.now) path.entry) (F.host files.old) (pos 0) ≡ Ok place) }
@@ -176,7 +176,7 @@ pub(crate) fn place<F: Files, R: Runner>(
     ensures failed { F.tells → AddsFailed
         (IsPlaceCall (option_map (λ p. p.now) path.entry) (F.host files.old))
         (F.failed files.old) (F.failed files.new) result }
-    ensures unstarted { F.tells → R.tells → (told : List ℕ) → result ≡ Err (RunFault.File told)
+    ensures unstarted { F.tells → R.tells → (told : List ℕ) → result ≡ Err (AskFault.File told)
         → R.starts runner.new ≡ R.starts runner.old }
     ensures same { F.tells → F.host files.new ≡ F.host files.old }
 {
@@ -184,11 +184,11 @@ pub(crate) fn place<F: Files, R: Runner>(
     let manifest = Text::of(alloc, MANIFEST_NAME)?;
     match locate_or_generate(alloc, files, runner, path) {
         Ok(place) => Ok(place),
-        Err(LocateError::File { path }) => Err(RunFault::File {
+        Err(LocateError::File { path }) => Err(AskFault::File {
             path: same_path(path, lockfile, manifest),
         }),
-        Err(LocateError::Start) => Err(RunFault::Start { failed: 1 }),
-        Err(LocateError::Generate { status }) => Err(RunFault::Generate { status }),
-        Err(LocateError::NoMemory) => Err(RunFault::NoMemory),
+        Err(LocateError::Start) => Err(AskFault::Start),
+        Err(LocateError::Generate { status }) => Err(AskFault::Generate { status }),
+        Err(LocateError::NoMemory) => Err(AskFault::NoMemory),
     }
 }

@@ -6,7 +6,7 @@ ghost use Rattle.audit_asked.specs.Refusals.{IsReadFault, is_told, refused};
 ghost use Rattle.audit_asked.specs.Settings.{known_home};
 ghost use Rattle.audit_asked.specs.Settings as spec;
 
-use crate::faults::RunFault;
+use crate::faults::AskFault;
 use crate::homes::known_home;
 use crate::texts::text_there;
 use audit_settings::{AuditCommand, AuditConfig, CONFIG_FILE, SettingsFault};
@@ -21,7 +21,7 @@ fn config_at<F: Files>(
     alloc: Global,
     files: &mut F,
     path: &str,
-) -> Result<Option<AuditConfig>, RunFault>
+) -> Result<Option<AuditConfig>, AskFault>
     ensures ok { F.tells → IfOk result (λ config.
         spec.config_at (F.host files.old) path.now ≡ Ok config) }
     ensures refused { F.tells → IfErr result (λ e. IsTrue (is_told e)
@@ -37,13 +37,13 @@ fn config_at<F: Files>(
     };
     match AuditConfig::from_toml(alloc, text.as_str()) {
         Ok(config) => Ok(Some(config)),
-        Err(SettingsFault::NoMemory) => Err(RunFault::NoMemory),
-        Err(fault) => Err(RunFault::Settings(fault)),
+        Err(SettingsFault::NoMemory) => Err(AskFault::NoMemory),
+        Err(fault) => Err(AskFault::Settings(fault)),
     }
 }
 
 /// The settings of the file in cargo's home, if it is there.
-fn config_in_home<F: Files>(alloc: Global, files: &mut F) -> Result<Option<AuditConfig>, RunFault>
+fn config_in_home<F: Files>(alloc: Global, files: &mut F) -> Result<Option<AuditConfig>, AskFault>
     ensures ok { F.tells → IfOk result (λ config.
         spec.config_in_home (F.host files.old) (known_home (F.host files.old)) ≡ Ok config) }
     ensures refused { F.tells → IfErr result (λ e. IsTrue (is_told e)
@@ -67,7 +67,7 @@ fn settings_from<F: Files>(
     alloc: Global,
     files: &mut F,
     path: &str,
-) -> Result<AuditConfig, RunFault>
+) -> Result<AuditConfig, AskFault>
     ensures ok { F.tells → IfOk result (λ config.
         spec.settings_from (F.host files.old) path.now ≡ Ok config) }
     ensures refused { F.tells → IfErr result (λ e. IsTrue (is_told e)
@@ -88,7 +88,7 @@ fn settings_from<F: Files>(
 }
 
 /// The settings, where those of the current folder come first.
-fn settings_file<F: Files>(alloc: Global, files: &mut F) -> Result<AuditConfig, RunFault>
+fn settings_file<F: Files>(alloc: Global, files: &mut F) -> Result<AuditConfig, AskFault>
     ensures ok { F.tells → IfOk result
         (λ config. spec.settings_file (F.host files.old) ≡ Ok config) }
     ensures refused { F.tells → IfErr result (λ e. IsTrue (is_told e)
@@ -107,7 +107,7 @@ pub(crate) fn settled<F: Files>(
     alloc: Global,
     command: &AuditCommand,
     files: &mut F,
-) -> Result<AuditConfig, RunFault>
+) -> Result<AuditConfig, AskFault>
     ensures ok { F.tells → IfOk result (λ config.
         spec.settled command.now (F.host files.old) ≡ Ok config) }
     ensures refused { F.tells → IfErr result (λ e. IsTrue (is_told e)

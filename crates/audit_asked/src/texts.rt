@@ -8,7 +8,7 @@ ghost use Rattle.audit_asked.specs.Refusals.{IsReadFault, is_told, refused};
 ghost use Rattle.audit_asked.specs.Texts.{limited_text};
 ghost use Rattle.audit_asked.specs.Texts as spec;
 
-use crate::faults::RunFault;
+use crate::faults::AskFault;
 use std::alloc::Global;
 use tame_names::{FileFault, Files, ReadAnswer, Text, utf8_text};
 
@@ -16,14 +16,14 @@ use tame_names::{FileFault, Files, ReadAnswer, Text, utf8_text};
 pub const TEXT_LIMIT: u64 = 67108864;
 
 /// The text of a file that was read whole.
-fn whole_text(alloc: Global, path: Text, bytes: &[u8]) -> Result<Text, RunFault>
+fn whole_text(alloc: Global, path: Text, bytes: &[u8]) -> Result<Text, AskFault>
     ensures ok { IfOk result (λ text. utf8_text bytes.now ≡ Some text) }
-    ensures refused { IfErr result (λ e. (e ≡ RunFault.NoMemory)
-        ⊎ ((e ≡ RunFault.NotUtf8 path) × (utf8_text bytes.now ≡ None))) }
+    ensures refused { IfErr result (λ e. (e ≡ AskFault.NoMemory)
+        ⊎ ((e ≡ AskFault.NotUtf8 path) × (utf8_text bytes.now ≡ None))) }
 {
     match utf8_text(bytes) {
         Some(text) => Ok(Text::of(alloc, text)?),
-        None => Err(RunFault::NotUtf8 { path }),
+        None => Err(AskFault::NotUtf8 { path }),
     }
 }
 
@@ -32,7 +32,7 @@ pub(crate) fn text_there<F: Files>(
     alloc: Global,
     files: &mut F,
     path: &str,
-) -> Result<Option<Text>, RunFault>
+) -> Result<Option<Text>, AskFault>
     ensures ok { F.tells → IfOk result (λ text.
         spec.text_there path.now ((F.host files.old).stands path.now) ≡ Ok text) }
     ensures refused { F.tells → IfErr result (λ e. IsTrue (is_told e)
@@ -47,9 +47,9 @@ pub(crate) fn text_there<F: Files>(
     match files.read(alloc, path, TEXT_LIMIT) {
         Ok(ReadAnswer::Absent) => Ok(None),
         Ok(ReadAnswer::Whole(bytes)) => Ok(Some(whole_text(alloc, copy, bytes.as_slice())?)),
-        Ok(ReadAnswer::Over(len)) => Err(RunFault::TooLarge { path: copy, len }),
-        Err(FileFault::Failed) => Err(RunFault::File { path: copy }),
-        Err(FileFault::NoMemory) => Err(RunFault::NoMemory),
+        Ok(ReadAnswer::Over(len)) => Err(AskFault::TooLarge { path: copy, len }),
+        Err(FileFault::Failed) => Err(AskFault::File { path: copy }),
+        Err(FileFault::NoMemory) => Err(AskFault::NoMemory),
     }
 }
 
@@ -58,7 +58,7 @@ pub(crate) fn file_text<F: Files>(
     alloc: Global,
     files: &mut F,
     path: &str,
-) -> Result<Text, RunFault>
+) -> Result<Text, AskFault>
     ensures ok { F.tells → IfOk result (λ text.
         spec.file_text path.now ((F.host files.old).stands path.now) ≡ Ok text) }
     ensures refused { F.tells → IfErr result (λ e. IsTrue (is_told e)
@@ -72,12 +72,12 @@ pub(crate) fn file_text<F: Files>(
     let copy = Text::of(alloc, path)?;
     match text_there(alloc, files, path)? {
         Some(text) => Ok(text),
-        None => Err(RunFault::Missing { path: copy }),
+        None => Err(AskFault::Missing { path: copy }),
     }
 }
 
 /// The text of standard input, whose path is told as `-`.
-fn input_text<F: Files>(alloc: Global, files: &mut F, path: &str) -> Result<Text, RunFault>
+fn input_text<F: Files>(alloc: Global, files: &mut F, path: &str) -> Result<Text, AskFault>
     ensures ok { F.tells → IfOk result (λ text.
         limited_text path.now (F.host files.old).input ≡ Ok text) }
     ensures refused { F.tells → IfErr result (λ e. IsTrue (is_told e)
@@ -92,9 +92,9 @@ fn input_text<F: Files>(alloc: Global, files: &mut F, path: &str) -> Result<Text
     match files.read_stdin(alloc, TEXT_LIMIT) {
         Ok(ReadAnswer::Absent) => unreachable!("input is never absent"),
         Ok(ReadAnswer::Whole(bytes)) => whole_text(alloc, copy, bytes.as_slice()),
-        Ok(ReadAnswer::Over(len)) => Err(RunFault::TooLarge { path: copy, len }),
-        Err(FileFault::Failed) => Err(RunFault::File { path: copy }),
-        Err(FileFault::NoMemory) => Err(RunFault::NoMemory),
+        Ok(ReadAnswer::Over(len)) => Err(AskFault::TooLarge { path: copy, len }),
+        Err(FileFault::Failed) => Err(AskFault::File { path: copy }),
+        Err(FileFault::NoMemory) => Err(AskFault::NoMemory),
     }
 }
 
@@ -103,7 +103,7 @@ pub(crate) fn input_or_text<F: Files>(
     alloc: Global,
     files: &mut F,
     path: &str,
-) -> Result<Text, RunFault>
+) -> Result<Text, AskFault>
     ensures ok { F.tells → IfOk result (λ text.
         spec.input_or_text (F.host files.old) path.now ≡ Ok text) }
     ensures refused { F.tells → IfErr result (λ e. IsTrue (is_told e)

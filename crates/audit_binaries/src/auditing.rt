@@ -13,7 +13,6 @@ use crate::decoders::Decoder;
 use crate::limits::BinaryLimits;
 use crate::opening::{Unopened, open_binary};
 use crate::summaries::summary_of;
-use audit_advisory::DenyOption;
 use audit_core::{AuditError, Auditor};
 use std::alloc::Global;
 use tame_cache::CacheDisk;
@@ -247,13 +246,12 @@ fn audit_each<F: Files, P: Decoder, W: Wire, D: CacheDisk>(
 }
 
 /// Audits what the binaries at these paths say, one after the other, each as `audit_binary`; a
-/// refused one stops nothing. `deny` is what the auditor's settings deny; the summary is by it and
-/// by the advisories on the auditor itself.
+/// refused one stops nothing. The summary is by what the auditor denies, and by the advisories on
+/// the auditor itself.
 pub fn audit_binaries<F: Files, P: Decoder, W: Wire, D: CacheDisk>(
     alloc: Global,
     auditor: &Auditor,
     limits: &BinaryLimits,
-    deny: &[DenyOption],
     paths: &Items<Text>,
     files: &mut F,
     decoder: &mut P,
@@ -296,7 +294,7 @@ pub fn audit_binaries<F: Files, P: Decoder, W: Wire, D: CacheDisk>(
         })
         paths.now b.answers) }
     ensures summary { IfOk result (λ b. b.summary
-        ≡ summary_of deny.now (self_advisories auditor.now.database) b.answers) }
+        ≡ summary_of auditor.now.deny (self_advisories auditor.now.database) b.answers) }
 
     // online, over an honest server and a disk that is kept for what it held, the verdicts of each
     // audit are the table's over what the server held when asked
@@ -385,6 +383,6 @@ pub fn audit_binaries<F: Files, P: Decoder, W: Wire, D: CacheDisk>(
         wire,
         disk,
     )?;
-    let summary = summary_of(deny, own.as_slice(), answers.as_slice());
+    let summary = summary_of(auditor.deny(), own.as_slice(), answers.as_slice());
     Ok(BinariesAudit { answers, summary })
 }

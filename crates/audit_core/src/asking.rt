@@ -18,7 +18,7 @@ use crate::answers::{PathAnswer, answer_taken};
 use crate::verdicts::Cause;
 use std::alloc::Global;
 use tame_cache::CacheDisk;
-use tame_names::{FileLock, Items, KrateName, NoMemory, Text};
+use tame_names::{Error, FileLock, Items, KrateName, NoMemory, Text};
 use tame_sparse::{Request, Response, SparseIndex, Wire, WireAnswer, WireFault};
 
 /// The turn of a path: the counts of faults of the wire before and after its exchange, and those
@@ -191,7 +191,8 @@ fn take_turn<W: Wire, D: CacheDisk>(
     let krate = krate_name(name);
     let request = match index.make_remote_request(alloc, krate, None, lock, disk) {
         Ok(request) => request,
-        Err(_) => return Err(NoMemory),
+        Err(Error::NoMemory) => return Err(NoMemory),
+        Err(_) => unreachable!("a plain request can be made"),
     };
     let disk_asked = disk.disk_faults();
     let answer = exchange_answer(alloc, index, lock, wire, disk, krate, &request)?;

@@ -103,6 +103,13 @@ impl Auditor {
         self.checks
     }
 
+    /// What is denied besides vulnerabilities.
+    pub fn deny(&self) -> &[DenyOption]
+        ensures { result.now ≡ self.now.deny }
+    {
+        self.deny.as_slice()
+    }
+
     /// The places of the advisories on the auditor itself: those on `cargo-audit` 0.22.2, and then
     /// those on `rustsec` 0.33.0, the library that it ports.
     pub fn self_advisories(&self, alloc: Global) -> Result<Items<usize>, NoMemory>

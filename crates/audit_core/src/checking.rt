@@ -17,7 +17,7 @@ use audit_lock::Package;
 use audit_settings::AuditConfig;
 use std::alloc::Global;
 use tame_cache::CacheDisk;
-use tame_names::{FileLock, Items, NoMemory, Text};
+use tame_names::{Error, FileLock, Items, NoMemory, Text};
 use tame_sparse::{CRATES_IO_HTTP_INDEX, SparseIndex, Wire};
 
 /// How yanked versions are checked.
@@ -70,7 +70,8 @@ pub fn crates_io(alloc: Global) -> Result<SparseIndex, NoMemory>
 {
     match SparseIndex::at(alloc, Text::of(alloc, "")?, CRATES_IO_HTTP_INDEX) {
         Ok(index) => Ok(index),
-        Err(_) => Err(NoMemory),
+        Err(Error::NoMemory) => Err(NoMemory),
+        Err(_) => unreachable!("the url of crates.io is one"),
     }
 }
 

@@ -7,9 +7,10 @@
 //! and settings of `audit_lock`, `audit_advisory` and `audit_settings`.
 //!
 //! ```ignore
-//! let auditor = Auditor::new(alloc, &config, &advisories)?;
-//! let audited = auditor.audit_text(alloc, text, &lock, &mut wire, &mut disk)?;
-//! let failed = auditor.should_exit_with_failure(alloc, &audited.report)?;
+//! // crates/uses/src/audits.rt: vulnerability_count
+//! let lock = FileLock::unlocked();
+//! let audited = auditor.audit_text(alloc, text, &lock, wire, disk)?;
+//! Ok(audited.report.vulnerabilities.len())
 //! ```
 #![tactic(auto)]
 

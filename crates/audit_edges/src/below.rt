@@ -204,10 +204,9 @@ impl<'a, R: Files + AllocGlobal> Root<'a, R> {
         }
     }
 
-    /// Opens the file at a path to be read, if there is one. One of more than `limit` bytes is an
-    /// error.
-    pub fn open(&mut self, path: &str, limit: u64) -> io::Result<Option<OpenedToRead<R::File>>> {
-        let below = self.file(path)?;
+    /// Opens the file that was found at a path to be read, if there is one. One of more than
+    /// `limit` bytes is an error.
+    pub fn open(&self, below: Below, limit: u64) -> io::Result<Option<OpenedToRead<R::File>>> {
         let Some(found) = below.file else {
             return Ok(None);
         };
@@ -218,7 +217,8 @@ impl<'a, R: Files + AllocGlobal> Root<'a, R> {
     /// The bytes of the file at a path, if there is one. One of more than `limit` bytes is an
     /// error.
     pub fn read(&mut self, alloc: Global, path: &str, limit: u64) -> io::Result<Option<Vec<u8>>> {
-        let Some(mut opened) = self.open(path, limit)? else {
+        let below = self.file(path)?;
+        let Some(mut opened) = self.open(below, limit)? else {
             return Ok(None);
         };
         let len = opened.found.len();

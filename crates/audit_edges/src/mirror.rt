@@ -16,9 +16,9 @@ pub const MIRROR_LIMIT: u64 = 67108864;
 /// Answers a path by the file there in a folder: 404 where it is absent, 304 where its entity
 /// tag is the named one, else 200. The tag is the text of the file with `.etag` added, without
 /// a newline at its end; a text that no request can name as it is, as an empty one, is no tag.
-/// Where the tag isn't the same before and after the file is read, the exchange fails. Below the
-/// folder no link is followed, and nothing but plain files is opened; a folder there is looked at
-/// once. It tells nothing of its exchanges.
+/// Where the tag isn't the same before and after the file is read, the exchange fails. A file whose
+/// tag is the named one is opened and not read. Below the folder no link is followed, and nothing
+/// but plain files is opened; a folder there is looked at once. It tells nothing of its exchanges.
 #[derive(Drop)]
 pub struct MirrorWire<'a, R: rt::Files + AllocGlobal> {
     root: Root<'a, R>,
@@ -76,35 +76,40 @@ fn is_named(named: &Option<OwnedRevision>, etag: &Option<Text>) -> bool {
     }
 }
 
-/// The answer to a request. A file whose tag is the named one is opened and not read.
+/// An answer without a body.
+fn bare(alloc: Global, status: u16, etag: Option<Text>) -> WireAnswer {
+    WireAnswer {
+        status,
+        revision: etag.map(OwnedRevision::Etag),
+        body: Items::new(alloc),
+    }
+}
+
+/// The answer to a request. The file is looked at before its tag is read, and opened behind it; so
+/// it was there when its tag was, and one whose tag is the named one needn't be read.
 fn answer<'a, R: rt::Files + AllocGlobal>(
     root: &mut Root<'a, R>,
     alloc: Global,
     request: &Request,
 ) -> io::Result<WireAnswer> {
     let path = request.path.as_str();
+    let below = root.file(path)?;
     let etag = read_etag(root, alloc, path)?;
-    let Some(mut opened) = root.open(path, MIRROR_LIMIT)? else {
-        return Ok(WireAnswer {
-            status: 404,
-            revision: None,
-            body: Items::new(alloc),
-        });
+    let Some(mut opened) = root.open(below, MIRROR_LIMIT)? else {
+        return Ok(bare(alloc, 404, None));
     };
-    let is_named = is_named(&request.named, &etag);
-    let body = if is_named {
-        Items::new(alloc)
-    } else {
-        let len = opened.found.len();
-        Items::of(read_whole(alloc, &mut opened.file, len, MIRROR_LIMIT)?)
-    };
+    if is_named(&request.named, &etag) {
+        return Ok(bare(alloc, 304, etag));
+    }
+    let len = opened.found.len();
+    let body = read_whole(alloc, &mut opened.file, len, MIRROR_LIMIT)?;
     if read_etag(root, alloc, path)? != etag {
         return Err(io::Error::from(ErrorKind::ResourceBusy));
     }
     Ok(WireAnswer {
-        status: if is_named { 304 } else { 200 },
+        status: 200,
         revision: etag.map(OwnedRevision::Etag),
-        body,
+        body: Items::of(body),
     })
 }
 

@@ -6,10 +6,17 @@
 //! versions of `semver`.
 //!
 //! ```ignore
-//! let lockfile = Lockfile::read(alloc, text)?;
-//! let tree = Tree::of(alloc, &lockfile)?;
-//! tree.render(alloc, &lockfile, 0, &mut out)?; // api 0.2.0
-//!                                              // └── app 0.3.1
+//! // crates/uses/src/audits.rt: put_trees
+//! let Ok(tree) = Tree::of(alloc, lockfile) else {
+//!     return Err(RenderFault::NoMemory);
+//! };
+//! let packages = lockfile.packages();
+//! for (place, package) in packages.iter().enumerate() {
+//!     if package.name.as_str() == name {
+//!         tree.render(alloc, lockfile, place, sink)?;
+//!     }
+//! }
+//! Ok(())
 //! ```
 #![tactic(auto)]
 

@@ -15,7 +15,7 @@ use Rattle.audit_report.specs.declared.binaries.Found.{Found}
 use Rattle.audit_report.specs.declared.binaries.Found.TheVariants as found
 use Rattle.audit_report.specs.declared.presenters.Presenter.{Presenter}
 use Rattle.audit_report.specs.declared.shown_trees.ShownTree.{ShownTree}
-use Rattle.audit_output.specs.FaultLines.{lockfile_words}
+use Rattle.audit_output.specs.LockfileWords.{lockfile_words}
 use Rattle.audit_output.specs.Outputs.{Output, Shown, loaded_by, presenter_of, self_output, unchecked_lines, verdict_output}
 use Rattle.audit_output.specs.declared.binary_printing.BinarySheet.{BinarySheet}
 

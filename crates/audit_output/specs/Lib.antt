@@ -1,4 +1,4 @@
 pub mod BinaryOutputs
-pub mod FaultLines
+pub mod LockfileWords
 pub mod Outputs
 pub mod Printed

@@ -4,9 +4,6 @@ use Rattle.audit_lock.specs.declared.resolving.Package.{Package}
 use Rattle.audit_advisory.specs.Outputs.{is_quiet}
 use Rattle.audit_advisory.specs.declared.advisories.Advisory.{Advisory}
 use Rattle.audit_advisory.specs.declared.outputs.OutputConfig.{OutputConfig}
-use Rattle.audit_asked.specs.declared.asking.Asked.{Asked}
-use Rattle.audit_asked.specs.declared.faults.RunFault.{RunFault}
-use Rattle.audit_asked.specs.declared.faults.RunFault.TheVariants as fault
 use Rattle.audit_core.specs.Auditors.{self_advisories}
 use Rattle.audit_core.specs.Checks.{checks_of}
 use Rattle.audit_core.specs.declared.auditing.Audited.{Audited}
@@ -64,14 +61,6 @@ pub record Shown : Type 0 where
   pub checks : Checks
   pub advisories : List Advisory
 
-abbrev pub shown_of : Asked → Shown
-shown_of asked = record {
-  config = asked.config.output;
-  database = asked.database;
-  checks = checks_of asked.config;
-  advisories = asked.advisories;
-}
-
 abbrev pub shown_on : Sheet → Shown
 shown_on sheet = record {
   config = sheet.config.now;
@@ -128,16 +117,3 @@ verdict_output audited =
 abbrev pub output_of : Bool → Shown → List ℕ → Audited → Output
 output_of verdicts shown place audited =
     if verdicts then verdict_output audited else report_output shown place audited
-
--- without an audit nothing
-abbrev pub output_by : Bool → Shown → List ℕ → Option Audited → Output
-output_by verdicts shown place None = record { out = []; err = [] }
-output_by verdicts shown place (Some audited) = output_of verdicts shown place audited
-
--- ---- why it may fail
-
--- a put failed, or memory ran out
-abbrev pub IsPrintFault : RunFault → Type 0
-IsPrintFault fault.Print = Unit {0}
-IsPrintFault fault.NoMemory = Unit {0}
-IsPrintFault _ = ⊥

@@ -5,7 +5,7 @@ ghost use Rattle.audit_output.specs.BinaryOutputs.{binary_words};
 ghost use Rattle.audit_output.specs.BinaryOutputs as spec;
 ghost use Rattle.audit_output.specs.Outputs.{unchecked_lines};
 
-use crate::fault_lines::{push_lockfile_words, push_two};
+use crate::lockfile_words::{push_lockfile_words, push_two};
 use crate::outputs::push_unchecked_lines;
 use audit_advisory::OutputConfig;
 use audit_binaries::{BinaryAnswer, BinaryFault, PackagesFound};

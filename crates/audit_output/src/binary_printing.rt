@@ -3,15 +3,14 @@ ghost use Rattle.std.specs.Prelude.{◌≡◌, ◌≤◌, ◌⊎◌, false, Err,
 ghost use Rattle.tame_names.specs.Counts.{CountRose};
 ghost use Rattle.audit_report.specs.Outputs.{IsPut};
 ghost use Rattle.audit_output.specs.BinaryOutputs.{AreReportsOf, IsAnswerOf, answer_printed, answers_output, binaries_output, binaries_printed, binaries_shown_on, binary_printed, binary_report, binary_status_lines, binary_verdicts, refused_line, reports_output, with_trees};
-ghost use Rattle.audit_output.specs.Outputs.{IsPrintFault, loaded_by, presenter_of};
+ghost use Rattle.audit_output.specs.Outputs.{loaded_by, presenter_of};
 
 use crate::binary_lines::{binary_status_lines, refused_line};
 use crate::outputs::loaded_lines_in;
 use crate::presenting::{new_presenter, print_report, print_self};
 use crate::printing::print_verdicts;
-use crate::putting::put_text;
+use crate::putting::{PrintFault, put_text};
 use audit_advisory::OutputConfig;
-use audit_asked::RunFault;
 use audit_binaries::{BinaryAnswer, BinaryFault};
 use audit_core::Auditor;
 use audit_report::Presenter;
@@ -38,18 +37,17 @@ fn print_loaded<E: Sink>(
     alloc: Global,
     sheet: &BinarySheet<'_>,
     err: &mut E,
-) -> Result<(), RunFault>
+) -> Result<(), PrintFault>
     ensures err { E.tells → IsPut (E.holds err.old) (loaded_by (binaries_shown_on sheet.now))
         (E.holds err.new) result }
     ensures later { E.faults err.old ≤ E.faults err.new }
-    ensures failed { result ≡ Err RunFault.Print → CountRose (E.faults err.old) (E.faults err.new) }
-    ensures only { IfErr result IsPrintFault }
+    ensures failed { result ≡ Err PrintFault.Put → CountRose (E.faults err.old) (E.faults err.new) }
 {
     let count = sheet.auditor.database().advisories().len();
     let checks = sheet.auditor.checks();
     match loaded_lines_in(alloc, sheet.config, count, sheet.database, checks) {
         Ok(lines) => put_text(err, lines.as_bytes()),
-        Err(_) => Err(RunFault::NoMemory),
+        Err(_) => Err(PrintFault::NoMemory),
     }
 }
 
@@ -60,16 +58,15 @@ fn print_status<E: Sink>(
     path: &str,
     answer: &BinaryAnswer,
     err: &mut E,
-) -> Result<(), RunFault>
+) -> Result<(), PrintFault>
     ensures err { E.tells → IsPut (E.holds err.old)
         (binary_status_lines config.now path.now answer.now) (E.holds err.new) result }
     ensures later { E.faults err.old ≤ E.faults err.new }
-    ensures failed { result ≡ Err RunFault.Print → CountRose (E.faults err.old) (E.faults err.new) }
-    ensures only { IfErr result IsPrintFault }
+    ensures failed { result ≡ Err PrintFault.Put → CountRose (E.faults err.old) (E.faults err.new) }
 {
     match binary_status_lines(alloc, config, path, answer) {
         Ok(lines) => put_text(err, lines.as_bytes()),
-        Err(_) => Err(RunFault::NoMemory),
+        Err(_) => Err(PrintFault::NoMemory),
     }
 }
 
@@ -79,16 +76,15 @@ fn print_refused<E: Sink>(
     path: &str,
     fault: BinaryFault,
     err: &mut E,
-) -> Result<(), RunFault>
+) -> Result<(), PrintFault>
     ensures err { E.tells → IsPut (E.holds err.old) (refused_line path.now fault)
         (E.holds err.new) result }
     ensures later { E.faults err.old ≤ E.faults err.new }
-    ensures failed { result ≡ Err RunFault.Print → CountRose (E.faults err.old) (E.faults err.new) }
-    ensures only { IfErr result IsPrintFault }
+    ensures failed { result ≡ Err PrintFault.Put → CountRose (E.faults err.old) (E.faults err.new) }
 {
     match refused_line(alloc, path, fault) {
         Ok(line) => put_text(err, line.as_bytes()),
-        Err(_) => Err(RunFault::NoMemory),
+        Err(_) => Err(PrintFault::NoMemory),
     }
 }
 
@@ -99,16 +95,15 @@ fn print_binary_verdicts<O: Sink, E: Sink>(
     answer: &BinaryAnswer,
     out: &mut O,
     err: &mut E,
-) -> Result<(), RunFault>
+) -> Result<(), PrintFault>
     ensures out { O.tells → IsPut (O.holds out.old)
         (binary_verdicts path.now answer.now).out (O.holds out.new) result }
     ensures err { E.tells → IsPut (E.holds err.old)
         (binary_verdicts path.now answer.now).err (E.holds err.new) result }
     ensures out_later { O.faults out.old ≤ O.faults out.new }
     ensures err_later { E.faults err.old ≤ E.faults err.new }
-    ensures failed { result ≡ Err RunFault.Print → CountRose (O.faults out.old) (O.faults out.new)
+    ensures failed { result ≡ Err PrintFault.Put → CountRose (O.faults out.old) (O.faults out.new)
         ⊎ CountRose (E.faults err.old) (E.faults err.new) }
-    ensures only { IfErr result IsPrintFault }
 {
     match answer {
         BinaryAnswer::Audited(_, audited) => print_verdicts(alloc, audited, out),
@@ -125,7 +120,7 @@ fn print_binary_report<O: Sink, E: Sink>(
     presenter: &mut Presenter,
     out: &mut O,
     err: &mut E,
-) -> Result<(), RunFault>
+) -> Result<(), PrintFault>
     requires report { IsAnswerOf auditor.now.database answer.now }
     ensures out { O.tells → IsPut (O.holds out.old)
         (binary_report auditor.now.database presenter.old path.now answer.now).out
@@ -135,9 +130,8 @@ fn print_binary_report<O: Sink, E: Sink>(
         (E.holds err.new) result }
     ensures out_later { O.faults out.old ≤ O.faults out.new }
     ensures err_later { E.faults err.old ≤ E.faults err.new }
-    ensures failed { result ≡ Err RunFault.Print → CountRose (O.faults out.old) (O.faults out.new)
+    ensures failed { result ≡ Err PrintFault.Put → CountRose (O.faults out.old) (O.faults out.new)
         ⊎ CountRose (E.faults err.old) (E.faults err.new) }
-    ensures only { IfErr result IsPrintFault }
     ensures shown { OnOk result (presenter.new ≡ with_trees presenter.old
         (binary_report auditor.now.database presenter.old path.now answer.now).trees) }
 {
@@ -158,7 +152,7 @@ fn print_answer<O: Sink, E: Sink>(
     presenter: &mut Presenter,
     out: &mut O,
     err: &mut E,
-) -> Result<(), RunFault>
+) -> Result<(), PrintFault>
     requires report { IsAnswerOf sheet.now.auditor.now.database answer.now }
     ensures out { O.tells → IsPut (O.holds out.old)
         (answer_printed (binaries_shown_on sheet.now) presenter.old path.now answer.now).out
@@ -168,9 +162,8 @@ fn print_answer<O: Sink, E: Sink>(
         (E.holds err.new) result }
     ensures out_later { O.faults out.old ≤ O.faults out.new }
     ensures err_later { E.faults err.old ≤ E.faults err.new }
-    ensures failed { result ≡ Err RunFault.Print → CountRose (O.faults out.old) (O.faults out.new)
+    ensures failed { result ≡ Err PrintFault.Put → CountRose (O.faults out.old) (O.faults out.new)
         ⊎ CountRose (E.faults err.old) (E.faults err.new) }
-    ensures only { IfErr result IsPrintFault }
     ensures shown { OnOk result (presenter.new ≡ with_trees presenter.old
         (answer_printed (binaries_shown_on sheet.now) presenter.old path.now answer.now).trees) }
 {
@@ -188,7 +181,7 @@ fn print_binary<O: Sink, E: Sink>(
     presenter: &mut Presenter,
     out: &mut O,
     err: &mut E,
-) -> Result<(), RunFault>
+) -> Result<(), PrintFault>
     requires report { IsAnswerOf sheet.now.auditor.now.database answer.now }
     ensures out { O.tells → IsPut (O.holds out.old)
         (binary_printed verdicts (binaries_shown_on sheet.now) presenter.old path.now
@@ -198,9 +191,8 @@ fn print_binary<O: Sink, E: Sink>(
         answer.now).err (E.holds err.new) result }
     ensures out_later { O.faults out.old ≤ O.faults out.new }
     ensures err_later { E.faults err.old ≤ E.faults err.new }
-    ensures failed { result ≡ Err RunFault.Print → CountRose (O.faults out.old) (O.faults out.new)
+    ensures failed { result ≡ Err PrintFault.Put → CountRose (O.faults out.old) (O.faults out.new)
         ⊎ CountRose (E.faults err.old) (E.faults err.new) }
-    ensures only { IfErr result IsPrintFault }
     ensures shown { OnOk result (presenter.new ≡ with_trees presenter.old
         (binary_printed verdicts (binaries_shown_on sheet.now) presenter.old path.now
         answer.now).trees) }
@@ -220,7 +212,7 @@ fn print_each<O: Sink, E: Sink>(
     presenter: &mut Presenter,
     out: &mut O,
     err: &mut E,
-) -> Result<(), RunFault>
+) -> Result<(), PrintFault>
     requires reports { AreReportsOf sheet.now.auditor.now.database sheet.now.answers.now }
     ensures out { O.tells → IsPut (O.holds out.old)
         (binaries_printed verdicts (binaries_shown_on sheet.now) presenter.old
@@ -230,9 +222,8 @@ fn print_each<O: Sink, E: Sink>(
         sheet.now.paths.now sheet.now.answers.now).err (E.holds err.new) result }
     ensures out_later { O.faults out.old ≤ O.faults out.new }
     ensures err_later { E.faults err.old ≤ E.faults err.new }
-    ensures failed { result ≡ Err RunFault.Print → CountRose (O.faults out.old) (O.faults out.new)
+    ensures failed { result ≡ Err PrintFault.Put → CountRose (O.faults out.old) (O.faults out.new)
         ⊎ CountRose (E.faults err.old) (E.faults err.new) }
-    ensures only { IfErr result IsPrintFault }
     ensures config { OnOk result (presenter.new.config ≡ presenter.old.config) }
 {
     let mut answers = sheet.answers;
@@ -263,7 +254,7 @@ fn print_reports<O: Sink, E: Sink>(
     presenter: &mut Presenter,
     out: &mut O,
     err: &mut E,
-) -> Result<(), RunFault>
+) -> Result<(), PrintFault>
     requires reports { AreReportsOf sheet.now.auditor.now.database sheet.now.answers.now }
     requires presenter { presenter.old ≡ presenter_of sheet.now.config.now }
     ensures out { O.tells → IsPut (O.holds out.old)
@@ -276,9 +267,8 @@ fn print_reports<O: Sink, E: Sink>(
         sheet.now.answers.now)).err (E.holds err.new) result }
     ensures out_later { O.faults out.old ≤ O.faults out.new }
     ensures err_later { E.faults err.old ≤ E.faults err.new }
-    ensures failed { result ≡ Err RunFault.Print → CountRose (O.faults out.old) (O.faults out.new)
+    ensures failed { result ≡ Err PrintFault.Put → CountRose (O.faults out.old) (O.faults out.new)
         ⊎ CountRose (E.faults err.old) (E.faults err.new) }
-    ensures only { IfErr result IsPrintFault }
 {
     print_loaded(alloc, sheet, err)?;
     print_each(alloc, false, sheet, presenter, out, err)?;
@@ -294,7 +284,7 @@ pub fn print_binaries<O: Sink, E: Sink>(
     sheet: &BinarySheet<'_>,
     out: &mut O,
     err: &mut E,
-) -> Result<(), RunFault>
+) -> Result<(), PrintFault>
     requires reports { AreReportsOf sheet.now.auditor.now.database sheet.now.answers.now }
     ensures out { O.tells → IsPut (O.holds out.old)
         (binaries_output verdicts (binaries_shown_on sheet.now) sheet.now.paths.now
@@ -304,9 +294,8 @@ pub fn print_binaries<O: Sink, E: Sink>(
         sheet.now.answers.now).err (E.holds err.new) result }
     ensures out_later { O.faults out.old ≤ O.faults out.new }
     ensures err_later { E.faults err.old ≤ E.faults err.new }
-    ensures failed { result ≡ Err RunFault.Print → CountRose (O.faults out.old) (O.faults out.new)
+    ensures failed { result ≡ Err PrintFault.Put → CountRose (O.faults out.old) (O.faults out.new)
         ⊎ CountRose (E.faults err.old) (E.faults err.new) }
-    ensures only { IfErr result IsPrintFault }
 {
     let mut presenter = new_presenter(alloc, sheet.config)?;
     if verdicts {

@@ -6,10 +6,10 @@ ghost use Rattle.audit_report.specs.Outputs.{IsPut};
 ghost use Rattle.audit_report.specs.Printed.{printed};
 ghost use Rattle.audit_report.specs.SelfReports.{self_summary, self_text};
 ghost use Rattle.audit_output.specs.BinaryOutputs.{with_trees};
-ghost use Rattle.audit_output.specs.Outputs.{IsPrintFault, presenter_of};
+ghost use Rattle.audit_output.specs.Outputs.{presenter_of};
 
+use crate::putting::PrintFault;
 use audit_advisory::OutputConfig;
-use audit_asked::RunFault;
 use audit_core::{Audited, Auditor};
 use audit_report::{Presenter, PrintError};
 use std::alloc::Global;
@@ -23,14 +23,13 @@ pub fn new_presenter(alloc: Global, config: &OutputConfig) -> Result<Presenter, 
 }
 
 /// The fault of a run whose report can't be printed. No place of its report is to blame.
-fn print_fault(error: PrintError) -> RunFault
+fn print_fault(error: PrintError) -> PrintFault
     requires { error ≢ PrintError.Tree }
-    ensures print { result ≡ RunFault.Print → error ≡ PrintError.Io }
-    ensures only { IsPrintFault result }
+    ensures print { result ≡ PrintFault.Put → error ≡ PrintError.Io }
 {
     match error {
-        PrintError::Io => RunFault::Print,
-        PrintError::NoMemory => RunFault::NoMemory,
+        PrintError::Io => PrintFault::Put,
+        PrintError::NoMemory => PrintFault::NoMemory,
         PrintError::Tree => unreachable!(),
     }
 }
@@ -44,7 +43,7 @@ pub fn print_report<O: Sink, E: Sink>(
     presenter: &mut Presenter,
     out: &mut O,
     err: &mut E,
-) -> Result<(), RunFault>
+) -> Result<(), PrintFault>
     requires report { IsReportOf auditor.now.database audited.now }
     ensures out { O.tells → IsPut (O.holds out.old)
         (printed presenter.old (option_map (λ p. p.now) path.entry) auditor.now.database
@@ -54,9 +53,8 @@ pub fn print_report<O: Sink, E: Sink>(
         audited.now.lockfile audited.now.report).err (E.holds err.new) result }
     ensures out_later { O.faults out.old ≤ O.faults out.new }
     ensures err_later { E.faults err.old ≤ E.faults err.new }
-    ensures failed { result ≡ Err RunFault.Print → CountRose (O.faults out.old) (O.faults out.new)
+    ensures failed { result ≡ Err PrintFault.Put → CountRose (O.faults out.old) (O.faults out.new)
         ⊎ CountRose (E.faults err.old) (E.faults err.new) }
-    ensures only { IfErr result IsPrintFault }
     ensures config { presenter.new.config ≡ presenter.old.config }
     // the trees that it showed count as shown
     ensures shown { OnOk result (presenter.new ≡ with_trees presenter.old
@@ -78,7 +76,7 @@ pub fn print_self<O: Sink, E: Sink>(
     presenter: &mut Presenter,
     out: &mut O,
     err: &mut E,
-) -> Result<(), RunFault>
+) -> Result<(), PrintFault>
     ensures out { O.tells → IsPut (O.holds out.old)
         (self_text auditor.now.database (self_advisories auditor.now.database))
         (O.holds out.new) result }
@@ -87,9 +85,8 @@ pub fn print_self<O: Sink, E: Sink>(
         (E.holds err.new) result }
     ensures out_later { O.faults out.old ≤ O.faults out.new }
     ensures err_later { E.faults err.old ≤ E.faults err.new }
-    ensures failed { result ≡ Err RunFault.Print → CountRose (O.faults out.old) (O.faults out.new)
+    ensures failed { result ≡ Err PrintFault.Put → CountRose (O.faults out.old) (O.faults out.new)
         ⊎ CountRose (E.faults err.old) (E.faults err.new) }
-    ensures only { IfErr result IsPrintFault }
 {
     let own = auditor.self_advisories(alloc)?;
     match presenter.print_self_report(alloc, out, err, auditor.database(), &own) {

@@ -3,16 +3,15 @@ ghost use Rattle.std.specs.Prelude.{◌≡◌, ◌≤◌, ◌⊎◌, Err, IfOk, 
 ghost use Rattle.tame_names.specs.Counts.{CountRose};
 ghost use Rattle.audit_core.specs.Auditors.{IsReportOf};
 ghost use Rattle.audit_report.specs.Outputs.{IsPut};
-ghost use Rattle.audit_output.specs.Outputs.{IsPrintFault, output_of, report_output, shown_on};
+ghost use Rattle.audit_output.specs.Outputs.{output_of, report_output, shown_on};
 ghost use Rattle.audit_output.specs.Outputs as spec;
 ghost use Rattle.audit_output.specs.Printed.{verdict_lines};
 
 use crate::judged_lines::verdict_lines;
 use crate::outputs::{loaded_lines_in, push_unchecked_lines};
 use crate::presenting::{new_presenter, print_report, print_self};
-use crate::putting::put_text;
+use crate::putting::{PrintFault, put_text};
 use audit_advisory::OutputConfig;
-use audit_asked::RunFault;
 use audit_core::{Audited, Auditor};
 use audit_report::scanning_line_in;
 use std::alloc::{AllocError, Global};
@@ -50,17 +49,16 @@ fn status_lines(alloc: Global, sheet: &Sheet<'_>) -> Result<String, AllocError>
 }
 
 /// Puts the status lines.
-fn print_status<E: Sink>(alloc: Global, sheet: &Sheet<'_>, err: &mut E) -> Result<(), RunFault>
+fn print_status<E: Sink>(alloc: Global, sheet: &Sheet<'_>, err: &mut E) -> Result<(), PrintFault>
     ensures err { E.tells → IsPut (E.holds err.old)
         (spec.status_lines (shown_on sheet.now) sheet.now.place.now sheet.now.audited.now)
         (E.holds err.new) result }
     ensures later { E.faults err.old ≤ E.faults err.new }
-    ensures failed { result ≡ Err RunFault.Print → CountRose (E.faults err.old) (E.faults err.new) }
-    ensures only { IfErr result IsPrintFault }
+    ensures failed { result ≡ Err PrintFault.Put → CountRose (E.faults err.old) (E.faults err.new) }
 {
     match status_lines(alloc, sheet) {
         Ok(lines) => put_text(err, lines.as_bytes()),
-        Err(_) => Err(RunFault::NoMemory),
+        Err(_) => Err(PrintFault::NoMemory),
     }
 }
 
@@ -71,7 +69,7 @@ fn print_all<O: Sink, E: Sink>(
     sheet: &Sheet<'_>,
     out: &mut O,
     err: &mut E,
-) -> Result<(), RunFault>
+) -> Result<(), PrintFault>
     requires report { IsReportOf sheet.now.auditor.now.database sheet.now.audited.now }
     ensures out { O.tells → IsPut (O.holds out.old)
         (report_output (shown_on sheet.now) sheet.now.place.now sheet.now.audited.now).out
@@ -81,9 +79,8 @@ fn print_all<O: Sink, E: Sink>(
         (E.holds err.new) result }
     ensures out_later { O.faults out.old ≤ O.faults out.new }
     ensures err_later { E.faults err.old ≤ E.faults err.new }
-    ensures failed { result ≡ Err RunFault.Print → CountRose (O.faults out.old) (O.faults out.new)
+    ensures failed { result ≡ Err PrintFault.Put → CountRose (O.faults out.old) (O.faults out.new)
         ⊎ CountRose (E.faults err.old) (E.faults err.new) }
-    ensures only { IfErr result IsPrintFault }
 {
     print_status(alloc, sheet, err)?;
     let mut presenter = new_presenter(alloc, sheet.config)?;
@@ -104,12 +101,11 @@ pub fn print_verdicts<O: Sink>(
     alloc: Global,
     audited: &Audited,
     out: &mut O,
-) -> Result<(), RunFault>
+) -> Result<(), PrintFault>
     ensures out { O.tells → IsPut (O.holds out.old)
         (verdict_lines audited.now.lockfile audited.now.verdicts) (O.holds out.new) result }
     ensures later { O.faults out.old ≤ O.faults out.new }
-    ensures failed { result ≡ Err RunFault.Print → CountRose (O.faults out.old) (O.faults out.new) }
-    ensures only { IfErr result IsPrintFault }
+    ensures failed { result ≡ Err PrintFault.Put → CountRose (O.faults out.old) (O.faults out.new) }
 {
     match verdict_lines(
         alloc,
@@ -117,7 +113,7 @@ pub fn print_verdicts<O: Sink>(
         audited.verdicts.as_slice(),
     ) {
         Ok(lines) => put_text(out, lines.as_bytes()),
-        Err(_) => Err(RunFault::NoMemory),
+        Err(_) => Err(PrintFault::NoMemory),
     }
 }
 
@@ -128,7 +124,7 @@ pub fn print<O: Sink, E: Sink>(
     sheet: &Sheet<'_>,
     out: &mut O,
     err: &mut E,
-) -> Result<(), RunFault>
+) -> Result<(), PrintFault>
     requires report { IsReportOf sheet.now.auditor.now.database sheet.now.audited.now }
     ensures out { O.tells → IsPut (O.holds out.old)
         (output_of verdicts (shown_on sheet.now) sheet.now.place.now sheet.now.audited.now).out
@@ -138,9 +134,8 @@ pub fn print<O: Sink, E: Sink>(
         (E.holds err.new) result }
     ensures out_later { O.faults out.old ≤ O.faults out.new }
     ensures err_later { E.faults err.old ≤ E.faults err.new }
-    ensures failed { result ≡ Err RunFault.Print → CountRose (O.faults out.old) (O.faults out.new)
+    ensures failed { result ≡ Err PrintFault.Put → CountRose (O.faults out.old) (O.faults out.new)
         ⊎ CountRose (E.faults err.old) (E.faults err.new) }
-    ensures only { IfErr result IsPrintFault }
 {
     if verdicts {
         print_verdicts(alloc, sheet.audited, out)

@@ -1,5 +1,5 @@
 -- What was asked, by its parts.
-use Rattle.std.proofs.Common.{◌≡◌, ◌≤◌, ◌⊎◌, ℕ, List, Bool, true, false, Option, Some, None, Result, Ok, Err, refl, arith}
+use Rattle.std.proofs.Common.{◌≡◌, ◌≤◌, ◌⊎◌, ℕ, IsTrue, List, Bool, true, false, Option, Some, None, Result, Ok, Err, refl, arith}
 use Rattle.std.specs.Prelude.{IfSome, pos}
 use Rattle.tame_names.specs.Standing.{Host}
 use Rattle.audit_lock.specs.declared.lockfiles.LockfileFault.{LockfileFault}
@@ -7,24 +7,27 @@ use Rattle.audit_lock.specs.declared.resolving.Package.{Package}
 use Rattle.audit_settings.specs.declared.commands.AuditCommand.{AuditCommand}
 use Rattle.audit_settings.specs.declared.configs.AuditConfig.{AuditConfig}
 use Rattle.audit_asked.specs.Advisories.{advisories_asked}
-use Rattle.audit_asked.specs.Asked.{texts_asked}
+use Rattle.audit_asked.specs.Asked.{status_told, texts_asked}
 use Rattle.audit_asked.specs.Databases.{database_asked}
 use Rattle.audit_asked.specs.ForBinaries.{asked_for_binaries}
 use Rattle.audit_asked.specs.KnownFindings.{baseline_asked}
 use Rattle.audit_asked.specs.Places.{place_asked}
-use Rattle.audit_asked.specs.Refusals.{Refused}
+use Rattle.audit_asked.specs.Refusals.{IsAskFault, IsReadFault, Refused, is_told, refused}
 use Rattle.audit_asked.specs.Settings.{settled}
 use Rattle.audit_asked.specs.Starts.{RunStartsWhere}
 use Rattle.audit_asked.specs.Texts.{go_on, input_or_text}
 use Rattle.audit_asked.specs.declared.asking.Asked.{Asked}
+use Rattle.audit_asked.specs.declared.faults.AskFault.{AskFault}
+use Rattle.audit_asked.specs.declared.faults.AskFault.TheVariants as ask
 use Rattle.audit_asked.specs.declared.binaries.AskedForBinaries.{AskedForBinaries}
-use Rattle.audit_asked.specs.declared.faults.RunFault.{RunFault}
-use Rattle.audit_asked.specs.declared.faults.RunFault.TheVariants as fault
+use Rattle.audit_program.specs.declared.faults.RunFault.{RunFault}
+use Rattle.audit_program.specs.declared.faults.RunFault.TheVariants as fault
 use Rattle.audit_asked.specs.declared.runners.Started.{Started}
-use Rattle.audit_program.specs.Causes.{IsAskedFault, Refuses, TaskCause}
+use Rattle.audit_program.specs.Causes.{BinariesCause, IsAskedFault, TaskCause}
+use Rattle.audit_program.specs.Faults.{by_ask}
 use Rattle.audit_program.specs.Tasks.{baseline_path, task_asked}
 use Rattle.audit_program.specs.declared.tasks.Task.{Task}
-use Rattle.audit_program.proofs.Faults.{ends_with}
+use Rattle.audit_program.proofs.FaultCases.{ends_with}
 use Rattle.tame_names.specs.Counts.{CountRoseBy}
 
 -- where all is accepted, the first part is, and the rest goes on with it
@@ -73,10 +76,6 @@ generated_as false given before now h = h
 pub rose_from : (failed a b c : ℕ) → a ≤ b → CountRoseBy failed b c → CountRoseBy failed a c
 rose_from failed a b c low rose = omega (arith, low, rose)
 
-pub if_some : {T : Type 0} (o : Option T) (P Q : T → Type 0) → ((x : T) → P x → Q x) → IfSome o P → IfSome o Q
-if_some None P Q f h = tt
-if_some (Some x) P Q f h = f x h
-
 -- ---- causes
 
 pub ok_same : {A E : Type 0} (r : Result A E) (a b : A) → r ≡ Ok a → r ≡ Ok b → a ≡ b
@@ -91,7 +90,7 @@ asked_cause told task host given (Some fault.NoMemory) gives only = tt
 asked_cause told task host given (Some (fault.Start failed)) gives only = only
 asked_cause told task host given (Some (fault.Vendor reason)) gives only = only
 asked_cause told task host given (Some (fault.Lockfile reason)) gives only = record { given = given; gives = gives; lockfile = only.1; no_memory = only.0 }
-asked_cause told task host given (Some (fault.File path)) gives only = record { gives = λ here no. cc (no); only = tt }
+asked_cause told task host given (Some (fault.File path)) gives only = record { asked = ask.File path; is = refl; gives = λ here no. cc (no); only = tt }
 asked_cause told task host given (Some (fault.Usage place)) gives only = absurd only
 asked_cause told task host given (Some (fault.Settings reason)) gives only = absurd only
 asked_cause told task host given (Some (fault.Missing path)) gives only = absurd only
@@ -102,22 +101,42 @@ asked_cause told task host given (Some (fault.Baseline line)) gives only = absur
 asked_cause told task host given (Some (fault.Generate status)) gives only = absurd only
 
 -- the fault of asking
-one_cause : (told : Type 0) (task : Task) (host : Host) (f : RunFault) → Refuses told task host f → TaskCause told task host f
-one_cause told task host fault.Print refuses = tt
-one_cause told task host fault.NoMemory refuses = tt
-one_cause told task host (fault.Start failed) refuses = let one = refuses.only in omega (arith, one)
-one_cause told task host (fault.Vendor reason) refuses = absurd refuses.only
-one_cause told task host (fault.Lockfile reason) refuses = absurd refuses.only
-one_cause told task host (fault.File path) refuses = refuses
-one_cause told task host (fault.Usage place) refuses = refuses
-one_cause told task host (fault.Settings reason) refuses = refuses
-one_cause told task host (fault.Missing path) refuses = refuses
-one_cause told task host (fault.NotUtf8 path) refuses = refuses
-one_cause told task host (fault.TooLarge path len) refuses = refuses
-one_cause told task host (fault.Advisory n reason) refuses = refuses
-one_cause told task host (fault.Baseline line) refuses = refuses
-one_cause told task host (fault.Generate status) refuses = refuses
+abbrev Gives : Type 0 → Task → Host → AskFault → Type 0
+Gives told task host e = told → IsTrue (is_told e) → task_asked task host (status_told {T = Unit {0}} (Err e)) ≡ Err (refused e)
 
-pub refused_cause : (told : Type 0) (task : Task) (host : Host) (f : RunFault) (o : Option RunFault) → (o ≡ Some f) ⊎ (o ≡ Some fault.NoMemory) → Refuses told task host f
-    → IfSome o (TaskCause told task host)
-refused_cause told task host f o end refuses = ends_with (λ e. TaskCause told task host e) o f end (one_cause told task host f refuses) tt
+one_cause : (told : Type 0) (task : Task) (host : Host) (e : AskFault) → Gives told task host e → IsAskFault (baseline_path task.remedy) e → TaskCause told task host (by_ask e)
+one_cause told task host (ask.Settings reason) gives only = record { asked = ask.Settings reason; is = refl; gives = gives; only = only }
+one_cause told task host (ask.Missing path) gives only = record { asked = ask.Missing path; is = refl; gives = gives; only = only }
+one_cause told task host (ask.NotUtf8 path) gives only = record { asked = ask.NotUtf8 path; is = refl; gives = gives; only = only }
+one_cause told task host (ask.TooLarge path len) gives only = record { asked = ask.TooLarge path len; is = refl; gives = gives; only = only }
+one_cause told task host (ask.File path) gives only = record { asked = ask.File path; is = refl; gives = gives; only = only }
+one_cause told task host (ask.Advisory n reason) gives only = record { asked = ask.Advisory n reason; is = refl; gives = gives; only = only }
+one_cause told task host (ask.Baseline line) gives only = record { asked = ask.Baseline line; is = refl; gives = gives; only = only }
+one_cause told task host (ask.Generate status) gives only = record { asked = ask.Generate status; is = refl; gives = gives; only = only }
+one_cause told task host ask.Start gives only = omega (arith)
+one_cause told task host ask.NoMemory gives only = tt
+
+pub refused_cause : (told : Type 0) (task : Task) (host : Host) (e : AskFault) (o : Option RunFault) → (o ≡ Some (by_ask e)) ⊎ (o ≡ Some fault.NoMemory)
+    → Gives told task host e → IsAskFault (baseline_path task.remedy) e → IfSome o (TaskCause told task host)
+refused_cause told task host e o end gives only = ends_with (λ f. TaskCause told task host f) o (by_ask e) end (one_cause told task host e gives only) tt
+
+-- ---- of binaries
+
+abbrev GivesBinaries : Type 0 → AuditCommand → Host → AskFault → Type 0
+GivesBinaries told command host e = told → IsTrue (is_told e) → asked_for_binaries command host ≡ Err (refused e)
+
+one_refused : (told : Type 0) (command : AuditCommand) (host : Host) (e : AskFault) → GivesBinaries told command host e → IsReadFault e → BinariesCause told command host (by_ask e)
+one_refused told command host (ask.Settings reason) gives only = record { asked = ask.Settings reason; is = refl; gives = gives; only = only }
+one_refused told command host (ask.Missing path) gives only = record { asked = ask.Missing path; is = refl; gives = gives; only = only }
+one_refused told command host (ask.NotUtf8 path) gives only = record { asked = ask.NotUtf8 path; is = refl; gives = gives; only = only }
+one_refused told command host (ask.TooLarge path len) gives only = record { asked = ask.TooLarge path len; is = refl; gives = gives; only = only }
+one_refused told command host (ask.File path) gives only = record { asked = ask.File path; is = refl; gives = gives; only = only }
+one_refused told command host (ask.Advisory n reason) gives only = record { asked = ask.Advisory n reason; is = refl; gives = gives; only = only }
+one_refused told command host (ask.Baseline line) gives only = absurd only
+one_refused told command host (ask.Generate status) gives only = absurd only
+one_refused told command host ask.Start gives only = absurd only
+one_refused told command host ask.NoMemory gives only = tt
+
+pub binaries_refused : (told : Type 0) (command : AuditCommand) (host : Host) (e : AskFault) (o : Option RunFault) → (o ≡ Some (by_ask e)) ⊎ (o ≡ Some fault.NoMemory)
+    → GivesBinaries told command host e → IsReadFault e → IfSome o (BinariesCause told command host)
+binaries_refused told command host e o end gives only = ends_with (λ f. BinariesCause told command host f) o (by_ask e) end (one_refused told command host e gives only) tt

@@ -3,24 +3,17 @@ use Rattle.std.proofs.Common.{◌≡◌, ◌⊎◌, inl, inr, ℕ, ℤ, zero, su
 use Rattle.std.proofs.Math.Seq.{take-length}
 use Rattle.std.proofs.lemmas.Bool.Decides.{nat_tests}
 use Rattle.std.specs.Prelude.{IfErr, nat_eq}
-use Rattle.audit_asked.specs.declared.faults.RunFault.{RunFault}
-use Rattle.audit_asked.specs.declared.faults.RunFault.TheVariants as fault
+use Rattle.audit_program.specs.declared.faults.RunFault.{RunFault}
+use Rattle.audit_program.specs.declared.faults.RunFault.TheVariants as fault
 use Rattle.audit_asked.specs.declared.runners.Started.{Started}
 use Rattle.audit_fix.specs.Steps.{StartsEach, StartsPart}
 use Rattle.audit_fix.specs.declared.plans.FixStep.{FixStep}
-use Rattle.audit_output.specs.Outputs.{IsPrintFault}
-use Rattle.audit_advisory.specs.declared.advisories.Advisory.{Advisory}
-use Rattle.audit_core.specs.declared.auditing.Audited.{Audited}
-use Rattle.audit_program.specs.Outputs.{IsPutBy, IsWhole, lines_behind, remedy_lines, remedy_lines_in}
-use Rattle.audit_program.specs.Finishes.{IsFinished, end_of}
-use Rattle.audit_program.specs.Makings.{IsMadeFor}
+use Rattle.audit_program.specs.Faults.{IsPrintFault}
+use Rattle.audit_program.specs.Outputs.{IsPutBy, IsWhole, lines_behind}
+use Rattle.audit_program.specs.Finishes.{Finish, IsFinished, end_of, lines_in}
 use Rattle.audit_program.specs.Statuses.{steps_of}
-use Rattle.audit_program.specs.declared.making.Made.{Made}
-use Rattle.audit_program.specs.declared.making.Made.TheVariants as made
-use Rattle.audit_program.specs.declared.tasks.Remedy.{Remedy}
-use Rattle.audit_program.specs.declared.tasks.Remedy.TheVariants.{Report, Fix, Plan, Baseline, WriteBaseline, Vendor}
 use Rattle.audit_program.specs.Steps.{AreStarted, FailedBy}
-use Rattle.audit_program.proofs.Faults.{print_case}
+use Rattle.audit_program.proofs.FaultCases.{print_case}
 
 -- no steps are started
 pub each_none : (before : List Started) → StartsEach [] [] before before
@@ -112,76 +105,22 @@ empty_either false = refl
 pub no_steps : (told : Type 0) (before : List Started) → AreStarted told [] before before [] None
 no_steps told before = all_started told [] before before [] None refl (λ here. each_none before) (record { none = λ is. refl; some = λ failed is. cc })
 
--- what is done isn't `fix`
-abbrev pub IsUnfixed : Remedy → Type 0
-IsUnfixed (Fix dry_run) = ⊥
-IsUnfixed remedy = Unit {0}
-
--- then there are no steps
-pub no_steps_of : (remedy : Remedy) (advisories : List Advisory) (audited : Audited) → IsUnfixed remedy → steps_of remedy advisories audited ≡ []
-no_steps_of Report advisories audited other = refl
-no_steps_of (Fix dry_run) advisories audited other = absurd other
-no_steps_of Plan advisories audited other = refl
-no_steps_of (Baseline path) advisories audited other = refl
-no_steps_of (WriteBaseline path) advisories audited other = refl
-no_steps_of (Vendor more) advisories audited other = refl
-
--- and no lines of `fix`
-no_remedy_lines : (remedy : Remedy) (advisories : List Advisory) (audited : Audited) (statuses : List (Option ℤ)) → IsUnfixed remedy → remedy_lines remedy advisories audited statuses ≡ []
-no_remedy_lines Report advisories audited statuses other = refl
-no_remedy_lines (Fix dry_run) advisories audited statuses other = absurd other
-no_remedy_lines Plan advisories audited statuses other = refl
-no_remedy_lines (Baseline path) advisories audited statuses other = refl
-no_remedy_lines (WriteBaseline path) advisories audited statuses other = refl
-no_remedy_lines (Vendor more) advisories audited statuses other = refl
-
-pub no_lines : (verdicts : Bool) (remedy : Remedy) (advisories : List Advisory) (audited : Audited) (statuses : List (Option ℤ)) → IsUnfixed remedy
-    → remedy_lines_in verdicts remedy advisories audited statuses ≡ []
-no_lines true remedy advisories audited statuses other = refl
-no_lines false remedy advisories audited statuses other = no_remedy_lines remedy advisories audited statuses other
-
--- something is made for another task than `fix`
-pub made_unfixed : (remedy : Remedy) (it : Made) → IsMadeFor remedy it → (it ≡ made.Nothing → ⊥) → IsUnfixed remedy
-made_unfixed Report it has some = tt
-made_unfixed Plan it has some = tt
-made_unfixed (Baseline path) it has some = tt
-made_unfixed (WriteBaseline path) it has some = tt
-made_unfixed (Vendor more) it has some = tt
-made_unfixed (Fix dry_run) made.Nothing has some = absurd (some refl)
-made_unfixed (Fix dry_run) (made.Planned items) has some = absurd has
-made_unfixed (Fix dry_run) (made.Unlisted found) has some = absurd has
-made_unfixed (Fix dry_run) made.Written has some = absurd has
-made_unfixed (Fix dry_run) (made.Vendored v) has some = absurd has
-
 -- nothing is started for it
 none_started : (told : Type 0) (before : List Started) (r : Result ℕ RunFault) → IfErr r IsPrintFault → AreStarted told [] before before [] (end_of r)
 none_started told before (Ok status) only = no_steps told before
 none_started told before (Err f) only = partly_started told [] before before f only (λ here. part_nothing [] before)
 
-pub unfixed_started : (told : Type 0) (remedy : Remedy) (advisories : List Advisory) (audited : Audited) (before : List Started) (r : Result ℕ RunFault) → IfErr r IsPrintFault → IsUnfixed remedy
-    → AreStarted told (steps_of remedy advisories audited) before before [] (end_of r)
-unfixed_started told remedy advisories audited before r only other =
-    let P : List FixStep → Type 0 = λ xs. AreStarted told xs before before [] (end_of r) in
-    subst P (sym (no_steps_of remedy advisories audited other)) (none_started told before r only)
-
--- no lines stand behind no steps
-pub behind_none : (remedy : Remedy) (advisories : List Advisory) (audited : Audited) (verdicts : Bool) (statuses : List (Option ℤ)) → IsUnfixed remedy
-    → lines_behind (steps_of remedy advisories audited) statuses (remedy_lines_in verdicts remedy advisories audited statuses) ≡ []
-behind_none remedy advisories audited verdicts statuses other =
-    let P : List ℕ → Type 0 = λ xs. lines_behind (steps_of remedy advisories audited) statuses xs ≡ [] in
-    subst P (sym (no_lines verdicts remedy advisories audited statuses other)) (empty_either (nat_eq (length statuses) (length (steps_of remedy advisories audited))))
-
--- nothing is put on err but what stands there
-pub unfixed_finished : (runner_tells err_tells : Type 0) (verdicts : Bool) (remedy : Remedy) (advisories : List Advisory) (audited : Audited) (starts : List Started) (text before now : List ℕ)
-    (r : Result ℕ RunFault) → IfErr r IsPrintFault → IsUnfixed remedy → (err_tells → IsPutBy before text (end_of r) now)
-    → IsFinished runner_tells err_tells (record { verdicts = verdicts; remedy = remedy; advisories = advisories; audited = audited }) starts starts text before now (end_of r)
-unfixed_finished runner_tells err_tells verdicts remedy advisories audited starts text before now r only other put = record {
+-- what is put on err is the text alone, where no lines stand behind it
+pub unfixed_finished : (runner_tells err_tells : Type 0) (f : Finish) (starts : List Started) (text before now : List ℕ) (r : Result ℕ RunFault)
+    → steps_of f.it f.advisories f.audited ≡ [] → lines_in f [] ≡ [] → IfErr r IsPrintFault → (err_tells → IsPutBy before text (end_of r) now)
+    → IsFinished runner_tells err_tells f starts starts text before now (end_of r)
+unfixed_finished runner_tells err_tells f starts text before now r no_steps no_lines only put = record {
   statuses = [];
-  started = unfixed_started runner_tells remedy advisories audited starts r only other;
+  started = let P : List FixStep → Type 0 = λ xs. AreStarted runner_tells xs starts starts [] (end_of r) in subst P (sym no_steps) (none_started runner_tells starts r only);
   put = λ told.
       let P : List ℕ → Type 0 = λ xs. IsPutBy before (text ++ xs) (end_of r) now in
       let Q : List ℕ → Type 0 = λ xs. IsPutBy before xs (end_of r) now in
-      subst P (sym (behind_none remedy advisories audited verdicts [] other)) (subst Q (sym (append-nil text)) (put told));
+      subst P (sym no_lines) (subst Q (sym (append-nil text)) (put told));
 }
 
 -- the same where a run ends with a fault, or for want of memory

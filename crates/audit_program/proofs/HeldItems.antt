@@ -2,9 +2,10 @@
 use Rattle.std.proofs.Common.{◌≡◌, List, Some, None, Result, Ok, Err, sym, subst, ◌∙◌}
 use Rattle.tame_sparse.specs.declared.network.Exchange.{Exchange}
 use Rattle.audit_asked.specs.declared.asking.Asked.{Asked}
-use Rattle.audit_asked.specs.declared.faults.RunFault.{RunFault}
+use Rattle.audit_program.specs.declared.faults.RunFault.{RunFault}
 use Rattle.audit_core.specs.Auditors.{auditor_of}
-use Rattle.audit_core.specs.Audits.{Moment}
+use Rattle.audit_core.specs.Checks.{checks_of}
+use Rattle.audit_core.specs.declared.checking.Checks.TheVariants.{Online}
 use Rattle.audit_core.specs.declared.auditing.Audited.{Audited}
 use Rattle.upgrade_plan.proofs.HeldPlanning.{planned_by_held}
 use Rattle.upgrade_plan.specs.HeldPlans.{ArePlannedByHeld}
@@ -12,9 +13,10 @@ use Rattle.upgrade_plan.specs.Plans.{IsPlanBy}
 use Rattle.upgrade_plan.specs.declared.plans.PlanItem.{PlanItem}
 use Rattle.audit_program.specs.HonestRuns.{IsHonestRun}
 use Rattle.audit_program.specs.Makings.{IsMade, IsReadOnly, Making, plan_in}
-use Rattle.audit_program.specs.Runs.{Ending, Hosts, IsGivenRun, Sinks, Starts, Telling}
-use Rattle.audit_program.specs.declared.making.Made.{Made}
-use Rattle.audit_program.specs.declared.making.Made.TheVariants as made
+use Rattle.audit_program.specs.TaskRuns.{Ending, IsGivenRun}
+use Rattle.audit_program.specs.Worlds.{Telling, World, moment_of}
+use Rattle.audit_program.specs.declared.makings.Made.{Made}
+use Rattle.audit_program.specs.declared.makings.Made.TheVariants as made
 use Rattle.audit_program.specs.declared.tasks.Remedy.{Remedy}
 use Rattle.audit_program.specs.declared.tasks.Remedy.TheVariants.{Report, Fix, Plan, Baseline, WriteBaseline, Vendor}
 use Rattle.audit_program.specs.declared.tasks.Task.{Task}
@@ -33,7 +35,8 @@ IsOfPlan m items =
 
 plan_made : (remedy : Remedy) (m : Making) (it : Result Made RunFault) (items : List PlanItem) → IsMade remedy m it → Some items ≡ plan_in it → IsOfPlan m items
 plan_made remedy m (Err f) items h is = some_none items is
-plan_made remedy m (Ok made.Nothing) items h is = some_none items is
+plan_made remedy m (Ok made.Report) items h is = some_none items is
+plan_made remedy m (Ok (made.Fix dry_run)) items h is = some_none items is
 plan_made remedy m (Ok (made.Unlisted found)) items h is = some_none items is
 plan_made remedy m (Ok made.Written) items h is = some_none items is
 plan_made remedy m (Ok (made.Vendored v)) items h is = some_none items is
@@ -45,17 +48,17 @@ plan_made (Baseline path) m (Ok (made.Planned others)) items h is = absurd h.0
 plan_made (WriteBaseline path) m (Ok (made.Planned others)) items h is = absurd h.0
 plan_made (Vendor more) m (Ok (made.Planned others)) items h is = absurd h.0
 
-pub held_items : (tells : Telling) (task : Task) (given : Asked) (began ended : Moment) (hosts : Hosts) (starts : Starts) (sinks : Sinks) (ending : Ending) (items : List PlanItem) (audited : Audited)
-    (added : List Exchange) → IsGivenRun tells task given began ended hosts starts sinks ending (Some items) audited → IsHonestRun tells.wire tells.disk given.config began ended added
+pub held_items : (tells : Telling) (task : Task) (given : Asked) (before now : World) (end : Ending) (items : List PlanItem) (audited : Audited) (added : List Exchange)
+    → IsGivenRun tells task given before now end audited → end.plan ≡ Some items → checks_of given.config ≡ Online → IsHonestRun tells before now added
     → ArePlannedByHeld given.advisories audited added items
-held_items tells task given began ended hosts starts sinks ending items audited added run honest =
-    let planned = plan_made task.remedy _ run.it items run.is_made run.is_plan in
-    planned_by_held tells.wire tells.disk (auditor_of given.config given.advisories) began run.left added given.text audited given.advisories ended.disk_faults items
+held_items tells task given before now end items audited added run is online honest =
+    let planned = plan_made task.remedy _ run.it items run.is_made (sym is ∙ run.is_end.plan) in
+    planned_by_held tells.wire tells.disk (auditor_of given.config given.advisories) (moment_of before) run.left added given.text audited given.advisories now.disk_faults items
     (record {
       wire_tells = honest.serving.wire_tells;
       disk_tells = honest.serving.disk_tells;
       audit = run.audit;
-      online = honest.online;
+      online = online;
       follow = sym planned.1.exchanges ∙ honest.follow;
       server = honest.serving.server;
       honest = honest.serving.honest;

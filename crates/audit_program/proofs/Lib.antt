@@ -1,12 +1,15 @@
+pub mod Alone
 pub mod Asking
-pub mod Commands
 pub mod Completing
 pub mod Ended
-pub mod Faults
+pub mod FaultCases
 pub mod Finishing
 pub mod HeldItems
+pub mod HeldVerdicts
 pub mod Leaving
 pub mod Made
+pub mod Nones
+pub mod Outsides
 pub mod Putting
 pub mod ReadSince
 pub mod Readings

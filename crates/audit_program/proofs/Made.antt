@@ -1,36 +1,31 @@
 -- What was made of an audit, by how it ended.
-use Rattle.std.proofs.Common.{◌≡◌, ◌≢◌, ◌⊎◌, ◌≤◌, inl, inr, ℕ, Bool, List, [], ◌∷◌, Option, Some, None, Ok, Err, refl, sym, subst, arith}
+use Rattle.std.proofs.Common.{◌≡◌, ◌≢◌, ◌⊎◌, ◌≤◌, inl, inr, ℕ, List, [], ◌∷◌, Option, Some, None, Err, refl, sym, subst, arith}
 use Rattle.std.specs.Prelude.{IfNone, IsSome}
 use Rattle.tame_names.specs.Standing.{Host}
 use Rattle.tame_names.specs.declared.host.FailedCall.{FailedCall}
 use Rattle.audit_words.specs.declared.commands.VendorCommand.{VendorCommand}
-use Rattle.audit_advisory.specs.declared.advisories.Advisory.{Advisory}
 use Rattle.audit_core.specs.declared.asking.Turn.{Turn}
-use Rattle.audit_core.specs.declared.auditing.Audited.{Audited}
 use Rattle.audit_core.specs.Turns.{Chains}
-use Rattle.audit_fix.specs.declared.plans.FixStep.{FixStep}
 use Rattle.audit_asked.specs.declared.runners.Started.{Started}
-use Rattle.audit_asked.specs.declared.faults.RunFault.{RunFault}
-use Rattle.audit_asked.specs.declared.faults.RunFault.TheVariants as fault
-use Rattle.vendor_faults.specs.declared.faults.VendorFault.{VendorFault}
-use Rattle.vendor_faults.specs.declared.faults.VendorFault.TheVariants as vendor_fault
+use Rattle.audit_program.specs.declared.faults.RunFault.{RunFault}
+use Rattle.audit_program.specs.declared.faults.RunFault.TheVariants as fault
+use Rattle.vendor_registry.specs.declared.faults.VendorFault.{VendorFault}
+use Rattle.vendor_registry.specs.declared.faults.VendorFault.TheVariants as vendor_fault
 use Rattle.audit_asked.specs.Calls.{AddsBy}
-use Rattle.audit_asked.specs.Refusals.{IsAskFault}
+use Rattle.audit_asked.specs.declared.faults.AskFault.{AskFault}
+use Rattle.audit_asked.specs.declared.faults.AskFault.TheVariants as ask
 use Rattle.audit_program.specs.Calls.{AddsFileCalls, AddsMakingCalls, AddsRegistryCalls, AddsRunCall, AddsTaskCalls}
 use Rattle.audit_program.specs.Tasks.{IsTaskCall}
 use Rattle.audit_program.specs.declared.tasks.Task.{Task}
 use Rattle.audit_program.specs.Finishes.{IsFinishFault}
-use Rattle.audit_program.specs.Makings.{IsMade, IsMadeFor, IsMakingFault, IsReadOnly, IsRegistryBegun, IsRegistryRefused, IsVendorEnd, Making}
-use Rattle.audit_program.specs.declared.making.Made.{Made}
-use Rattle.audit_program.specs.declared.making.Made.TheVariants as made
+use Rattle.audit_program.specs.Faults.{by_ask}
+use Rattle.audit_program.specs.Makings.{IsMade, IsMakingFault, IsReadOnly, IsVendorEnd, Making, vendoring_in}
+use Rattle.vendor_registry.specs.Vendoring.{IsRegistryRefused}
 use Rattle.audit_program.specs.declared.tasks.Remedy.{Remedy}
 use Rattle.audit_program.specs.declared.tasks.Remedy.TheVariants.{Report, Fix, Plan, Baseline, WriteBaseline, Vendor}
-use Rattle.audit_program.proofs.Faults.{finish_case, making_case}
-use Rattle.audit_program.specs.Outputs.{IsPutBy, lines_behind, remedy_lines_in}
-use Rattle.audit_program.specs.Statuses.{steps_of}
+use Rattle.audit_program.proofs.FaultCases.{finish_case, making_case}
 use Rattle.audit_program.specs.Steps.{AreStarted, FailedBy}
-use Rattle.audit_program.proofs.Finishing.{IsUnfixed, all_started, behind_none, each_none, no_steps_of}
-use Rattle.audit_program.proofs.Putting.{put_nothing}
+use Rattle.audit_program.proofs.Finishing.{all_started, each_none}
 
 -- the counts of the disk don't fall in turns
 pub chain_grows : (wire disk : ℕ) (ts : List Turn) (last_wire last_disk : ℕ) → Chains wire disk ts last_wire last_disk → disk ≤ last_disk
@@ -44,69 +39,25 @@ chain_grows wire disk (t ∷ ts) last_wire last_disk h =
 
 -- ---- a registry
 
-refused_as : (more : VendorCommand) (m : Making) (reason : VendorFault) (end : RunFault) → end ≡ fault.Vendor reason → IsRegistryRefused more m reason → IsReadOnly m
+refused_as : (more : VendorCommand) (m : Making) (reason : VendorFault) (end : RunFault) → IsRegistryRefused (vendoring_in more m) reason → IsReadOnly m
+    → (end ≡ fault.Vendor reason) × (reason ≢ vendor_fault.NoMemory) → IsMade (Vendor more) m (Err end)
+refused_as more m reason end refused read is = let P : RunFault → Type 0 = λ e. IsMade (Vendor more) m (Err e) in subst P (sym is.0) ((is.1, refused), read)
+
+pub registry_refused : (more : VendorCommand) (m : Making) (reason : VendorFault) (end : RunFault) → IsVendorEnd reason end → IsRegistryRefused (vendoring_in more m) reason → IsReadOnly m
     → IsMade (Vendor more) m (Err end)
-refused_as more m reason end is refused read = let P : RunFault → Type 0 = λ e. IsMade (Vendor more) m (Err e) in subst P (sym is) (refused, read)
-
-pub registry_refused : (more : VendorCommand) (m : Making) (reason : VendorFault) (end : RunFault) → IsVendorEnd reason end → (reason ≢ vendor_fault.NoMemory → IsRegistryRefused more m reason)
-    → IsRegistryBegun more m → IsReadOnly m → IsMade (Vendor more) m (Err end)
-registry_refused more m vendor_fault.NoMemory end is refused begun read = let P : RunFault → Type 0 = λ e. IsMade (Vendor more) m (Err e) in subst P (sym is) (begun, read)
-registry_refused more m (vendor_fault.Name n) end is refused begun read = refused_as more m (vendor_fault.Name n) end is.0 (refused is.1) read
-registry_refused more m (vendor_fault.Store n) end is refused begun read = refused_as more m (vendor_fault.Store n) end is.0 (refused is.1) read
-registry_refused more m (vendor_fault.Absent n) end is refused begun read = refused_as more m (vendor_fault.Absent n) end is.0 (refused is.1) read
-registry_refused more m (vendor_fault.Record n) end is refused begun read = refused_as more m (vendor_fault.Record n) end is.0 (refused is.1) read
-registry_refused more m (vendor_fault.NoVersion n) end is refused begun read = refused_as more m (vendor_fault.NoVersion n) end is.0 (refused is.1) read
-registry_refused more m (vendor_fault.NoCrate n) end is refused begun read = refused_as more m (vendor_fault.NoCrate n) end is.0 (refused is.1) read
-registry_refused more m (vendor_fault.TooLarge n len) end is refused begun read = refused_as more m (vendor_fault.TooLarge n len) end is.0 (refused is.1) read
-registry_refused more m (vendor_fault.Digest n found) end is refused begun read = refused_as more m (vendor_fault.Digest n found) end is.0 (refused is.1) read
-registry_refused more m (vendor_fault.NotEmpty count) end is refused begun read = refused_as more m (vendor_fault.NotEmpty count) end is.0 (refused is.1) read
-registry_refused more m vendor_fault.NotADirectory end is refused begun read = refused_as more m vendor_fault.NotADirectory end is.0 (refused is.1) read
-registry_refused more m (vendor_fault.File path) end is refused begun read = refused_as more m (vendor_fault.File path) end is.0 (refused is.1) read
-registry_refused more m (vendor_fault.ReadBack why) end is refused begun read = refused_as more m (vendor_fault.ReadBack why) end is.0 (refused is.1) read
-
--- ---- by the task
-
--- what was made is of the task's kind
-pub made_for : (remedy : Remedy) (m : Making) (it : Made) → IsMade remedy m (Ok it) → IsMadeFor remedy it
-made_for Report m made.Nothing h = tt
-made_for Report m (made.Planned items) h = let is = h.0 in cc (is)
-made_for Report m (made.Unlisted found) h = let is = h.0 in cc (is)
-made_for Report m made.Written h = let is = h.0 in cc (is)
-made_for Report m (made.Vendored v) h = let is = h.0 in cc (is)
-made_for (Fix dry_run) m made.Nothing h = tt
-made_for (Fix dry_run) m (made.Planned items) h = let is = h.0 in cc (is)
-made_for (Fix dry_run) m (made.Unlisted found) h = let is = h.0 in cc (is)
-made_for (Fix dry_run) m made.Written h = let is = h.0 in cc (is)
-made_for (Fix dry_run) m (made.Vendored v) h = let is = h.0 in cc (is)
-made_for Plan m made.Nothing h = absurd h.0
-made_for Plan m (made.Planned items) h = tt
-made_for Plan m (made.Unlisted found) h = absurd h.0
-made_for Plan m made.Written h = absurd h.0
-made_for Plan m (made.Vendored v) h = absurd h.0
-made_for (Baseline path) m made.Nothing h = absurd h.0
-made_for (Baseline path) m (made.Planned items) h = absurd h.0
-made_for (Baseline path) m (made.Unlisted found) h = tt
-made_for (Baseline path) m made.Written h = absurd h.0
-made_for (Baseline path) m (made.Vendored v) h = absurd h.0
-made_for (WriteBaseline path) m made.Nothing h = absurd h.0
-made_for (WriteBaseline path) m (made.Planned items) h = absurd h.0
-made_for (WriteBaseline path) m (made.Unlisted found) h = absurd h.0
-made_for (WriteBaseline path) m made.Written h = tt
-made_for (WriteBaseline path) m (made.Vendored v) h = absurd h.0
-made_for (Vendor more) m made.Nothing h = absurd h.0
-made_for (Vendor more) m (made.Planned items) h = absurd h.0
-made_for (Vendor more) m (made.Unlisted found) h = absurd h.0
-made_for (Vendor more) m made.Written h = absurd h.0
-made_for (Vendor more) m (made.Vendored v) h = tt
-
--- nothing that is made for `fix` can fail
-pub unmade_unfixed : (remedy : Remedy) (m : Making) (f : RunFault) → IsMade remedy m (Err f) → IsUnfixed remedy
-unmade_unfixed Report m f h = tt
-unmade_unfixed (Fix dry_run) m f h = let is = h.0 in cc (is)
-unmade_unfixed Plan m f h = tt
-unmade_unfixed (Baseline path) m f h = tt
-unmade_unfixed (WriteBaseline path) m f h = tt
-unmade_unfixed (Vendor more) m f h = tt
+registry_refused more m vendor_fault.NoMemory end is refused read = let P : RunFault → Type 0 = λ e. IsMade (Vendor more) m (Err e) in subst P (sym is) (refused, read)
+registry_refused more m (vendor_fault.Name n) end is refused read = refused_as more m (vendor_fault.Name n) end refused read is
+registry_refused more m (vendor_fault.Store n) end is refused read = refused_as more m (vendor_fault.Store n) end refused read is
+registry_refused more m (vendor_fault.Absent n) end is refused read = refused_as more m (vendor_fault.Absent n) end refused read is
+registry_refused more m (vendor_fault.Record n) end is refused read = refused_as more m (vendor_fault.Record n) end refused read is
+registry_refused more m (vendor_fault.NoVersion n) end is refused read = refused_as more m (vendor_fault.NoVersion n) end refused read is
+registry_refused more m (vendor_fault.NoCrate n) end is refused read = refused_as more m (vendor_fault.NoCrate n) end refused read is
+registry_refused more m (vendor_fault.TooLarge n len) end is refused read = refused_as more m (vendor_fault.TooLarge n len) end refused read is
+registry_refused more m (vendor_fault.Digest n found) end is refused read = refused_as more m (vendor_fault.Digest n found) end refused read is
+registry_refused more m (vendor_fault.NotEmpty count) end is refused read = refused_as more m (vendor_fault.NotEmpty count) end refused read is
+registry_refused more m vendor_fault.NotADirectory end is refused read = refused_as more m vendor_fault.NotADirectory end refused read is
+registry_refused more m (vendor_fault.File path) end is refused read = refused_as more m (vendor_fault.File path) end refused read is
+registry_refused more m (vendor_fault.ReadBack why) end is refused read = refused_as more m (vendor_fault.ReadBack why) end refused read is
 
 -- ---- failed calls, by how a run ends
 
@@ -199,19 +150,8 @@ unmade_failed remedy f only =
     making_case P remedy f only (λ told is. record { none = λ is. cc; some = λ failed is. cc }) (λ reason is other. record { none = λ is. cc; some = λ failed is. cc })
     (record { none = λ is. cc; some = λ failed is. cc })
 
-pub unmade_started : (told : Type 0) (remedy : Remedy) (advisories : List Advisory) (audited : Audited) (before : List Started) (f : RunFault) → IsMakingFault remedy f
-    → IsUnfixed remedy → AreStarted told (steps_of remedy advisories audited) before before [] (Some f)
-unmade_started told remedy advisories audited before f only other =
-    let P : List FixStep → Type 0 = λ xs. AreStarted told xs before before [] (Some f) in
-    subst P (sym (no_steps_of remedy advisories audited other))
-    (all_started told [] before before [] (Some f) refl (λ here. each_none before) (unmade_failed remedy f only))
-
--- and nothing put
-pub unmade_lines : (remedy : Remedy) (advisories : List Advisory) (audited : Audited) (verdicts : Bool) (before : List ℕ) (f : RunFault) → IsUnfixed remedy
-    → IsPutBy before (lines_behind (steps_of remedy advisories audited) [] (remedy_lines_in verdicts remedy advisories audited [])) (Some f) before
-unmade_lines remedy advisories audited verdicts before f other =
-    let P : List ℕ → Type 0 = λ xs. IsPutBy before xs (Some f) before in
-    subst P (sym (behind_none remedy advisories audited verdicts [] other)) (put_nothing before (Some f))
+pub unmade_started : (told : Type 0) (remedy : Remedy) (before : List Started) (f : RunFault) → IsMakingFault remedy f → AreStarted told [] before before [] (Some f)
+unmade_started told remedy before f only = all_started told [] before before [] (Some f) refl (λ here. each_none before) (unmade_failed remedy f only)
 
 -- ---- in asking, or in making
 
@@ -232,83 +172,67 @@ calls_made task host before now (Some (fault.Generate status)) h = inr h
 calls_made task host before now (Some (fault.Start failed)) h = inr h
 calls_made task host before now (Some fault.NoMemory) h = inr h
 
-calls_by : (named : Option (List ℕ)) (task : Task) (host : Host) (before now : List FailedCall) (f : RunFault) → IsAskFault named f → AddsBy (IsTaskCall task host) before now f → AddsTaskCalls task host before now (Some f)
-calls_by named task host before now (fault.Usage place) only h = inl h
-calls_by named task host before now (fault.Settings reason) only h = inl h
-calls_by named task host before now (fault.Missing path) only h = inl h
-calls_by named task host before now (fault.NotUtf8 path) only h = inl h
-calls_by named task host before now (fault.TooLarge path len) only h = inl h
-calls_by named task host before now (fault.File path) only h = inl h
-calls_by named task host before now (fault.Lockfile reason) only h = inl h
-calls_by named task host before now (fault.Advisory n reason) only h = inl h
-calls_by named task host before now (fault.Baseline line) only h = inl h
-calls_by named task host before now (fault.Vendor reason) only h = absurd only
-calls_by named task host before now fault.Print only h = inl h
-calls_by named task host before now (fault.Generate status) only h = inl h
-calls_by named task host before now (fault.Start failed) only h = inl h
-calls_by named task host before now fault.NoMemory only h = inl (inl h)
+calls_by : (task : Task) (host : Host) (before now : List FailedCall) (e : AskFault) → AddsBy (IsTaskCall task host) before now e → AddsTaskCalls task host before now (Some (by_ask e))
+calls_by task host before now (ask.Settings reason) h = inl h
+calls_by task host before now (ask.Missing path) h = inl h
+calls_by task host before now (ask.NotUtf8 path) h = inl h
+calls_by task host before now (ask.TooLarge path len) h = inl h
+calls_by task host before now (ask.File path) h = inl h
+calls_by task host before now (ask.Advisory n reason) h = inl h
+calls_by task host before now (ask.Baseline line) h = inl h
+calls_by task host before now (ask.Generate status) h = inl h
+calls_by task host before now ask.Start h = inl h
+calls_by task host before now ask.NoMemory h = inl (inl h)
 
-calls_memory : (task : Task) (host : Host) (before now : List FailedCall) (f : RunFault) → AddsBy (IsTaskCall task host) before now f → AddsTaskCalls task host before now (Some fault.NoMemory)
-calls_memory task host before now (fault.Usage place) h = inl (inl h)
-calls_memory task host before now (fault.Settings reason) h = inl (inl h)
-calls_memory task host before now (fault.Missing path) h = inl (inl h)
-calls_memory task host before now (fault.NotUtf8 path) h = inl (inl h)
-calls_memory task host before now (fault.TooLarge path len) h = inl (inl h)
-calls_memory task host before now (fault.File path) h = inl (inr (path, h.0, h.1, h.2))
-calls_memory task host before now (fault.Lockfile reason) h = inl (inl h)
-calls_memory task host before now (fault.Advisory n reason) h = inl (inl h)
-calls_memory task host before now (fault.Baseline line) h = inl (inl h)
-calls_memory task host before now (fault.Vendor reason) h = inl (inl h)
-calls_memory task host before now fault.Print h = inl (inl h)
-calls_memory task host before now (fault.Generate status) h = inl (inl h)
-calls_memory task host before now (fault.Start failed) h = inl (inl h)
-calls_memory task host before now fault.NoMemory h = inl (inl h)
+calls_memory : (task : Task) (host : Host) (before now : List FailedCall) (e : AskFault) → AddsBy (IsTaskCall task host) before now e → AddsTaskCalls task host before now (Some fault.NoMemory)
+calls_memory task host before now (ask.Settings reason) h = inl (inl h)
+calls_memory task host before now (ask.Missing path) h = inl (inl h)
+calls_memory task host before now (ask.NotUtf8 path) h = inl (inl h)
+calls_memory task host before now (ask.TooLarge path len) h = inl (inl h)
+calls_memory task host before now (ask.File path) h = inl (inr (path, h.0, h.1, h.2))
+calls_memory task host before now (ask.Advisory n reason) h = inl (inl h)
+calls_memory task host before now (ask.Baseline line) h = inl (inl h)
+calls_memory task host before now (ask.Generate status) h = inl (inl h)
+calls_memory task host before now ask.Start h = inl (inl h)
+calls_memory task host before now ask.NoMemory h = inl (inl h)
 
-pub calls_asked : (named : Option (List ℕ)) (task : Task) (host : Host) (before now : List FailedCall) (f : RunFault) (o : Option RunFault) → (o ≡ Some f) ⊎ (o ≡ Some fault.NoMemory) → IsAskFault named f
-    → AddsBy (IsTaskCall task host) before now f → AddsTaskCalls task host before now o
-calls_asked named task host before now f o (inl is) only h =
-    let P : Option RunFault → Type 0 = λ x. AddsTaskCalls task host before now x in subst P (sym is) (calls_by named task host before now f only h)
-calls_asked named task host before now f o (inr is) only h =
-    let P : Option RunFault → Type 0 = λ x. AddsTaskCalls task host before now x in subst P (sym is) (calls_memory task host before now f h)
+pub calls_asked : (task : Task) (host : Host) (before now : List FailedCall) (e : AskFault) (o : Option RunFault) → (o ≡ Some (by_ask e)) ⊎ (o ≡ Some fault.NoMemory)
+    → AddsBy (IsTaskCall task host) before now e → AddsTaskCalls task host before now o
+calls_asked task host before now e o (inl is) h =
+    let P : Option RunFault → Type 0 = λ x. AddsTaskCalls task host before now x in subst P (sym is) (calls_by task host before now e h)
+calls_asked task host before now e o (inr is) h =
+    let P : Option RunFault → Type 0 = λ x. AddsTaskCalls task host before now x in subst P (sym is) (calls_memory task host before now e h)
 
 -- ---- without an audit, in asking
 
-asked_by : (may : List ℕ → FailedCall → Type 0) (before now : List FailedCall) (f : RunFault) → AddsBy may before now f → AddsRunCall may before now (Some f)
-asked_by may before now (fault.Usage place) h = h
-asked_by may before now (fault.Settings reason) h = h
-asked_by may before now (fault.Missing path) h = h
-asked_by may before now (fault.NotUtf8 path) h = h
-asked_by may before now (fault.TooLarge path len) h = h
-asked_by may before now (fault.File path) h = h
-asked_by may before now (fault.Lockfile reason) h = h
-asked_by may before now (fault.Advisory n reason) h = h
-asked_by may before now (fault.Baseline line) h = h
-asked_by may before now (fault.Vendor reason) h = h
-asked_by may before now fault.Print h = h
-asked_by may before now (fault.Generate status) h = h
-asked_by may before now (fault.Start failed) h = h
-asked_by may before now fault.NoMemory h = inl h
+told_by : (may : List ℕ → FailedCall → Type 0) (before now : List FailedCall) (e : AskFault) → AddsBy may before now e → AddsRunCall may before now (Some (by_ask e))
+told_by may before now (ask.Settings reason) h = h
+told_by may before now (ask.Missing path) h = h
+told_by may before now (ask.NotUtf8 path) h = h
+told_by may before now (ask.TooLarge path len) h = h
+told_by may before now (ask.File path) h = h
+told_by may before now (ask.Advisory n reason) h = h
+told_by may before now (ask.Baseline line) h = h
+told_by may before now (ask.Generate status) h = h
+told_by may before now ask.Start h = h
+told_by may before now ask.NoMemory h = inl h
 
-asked_memory : (may : List ℕ → FailedCall → Type 0) (before now : List FailedCall) (f : RunFault) → AddsBy may before now f → AddsRunCall may before now (Some fault.NoMemory)
-asked_memory may before now (fault.Usage place) h = inl h
-asked_memory may before now (fault.Settings reason) h = inl h
-asked_memory may before now (fault.Missing path) h = inl h
-asked_memory may before now (fault.NotUtf8 path) h = inl h
-asked_memory may before now (fault.TooLarge path len) h = inl h
-asked_memory may before now (fault.File path) h = inr (path, h.0, h.1, h.2)
-asked_memory may before now (fault.Lockfile reason) h = inl h
-asked_memory may before now (fault.Advisory n reason) h = inl h
-asked_memory may before now (fault.Baseline line) h = inl h
-asked_memory may before now (fault.Vendor reason) h = inl h
-asked_memory may before now fault.Print h = inl h
-asked_memory may before now (fault.Generate status) h = inl h
-asked_memory may before now (fault.Start failed) h = inl h
-asked_memory may before now fault.NoMemory h = inl h
+told_memory : (may : List ℕ → FailedCall → Type 0) (before now : List FailedCall) (e : AskFault) → AddsBy may before now e → AddsRunCall may before now (Some fault.NoMemory)
+told_memory may before now (ask.Settings reason) h = inl h
+told_memory may before now (ask.Missing path) h = inl h
+told_memory may before now (ask.NotUtf8 path) h = inl h
+told_memory may before now (ask.TooLarge path len) h = inl h
+told_memory may before now (ask.File path) h = inr (path, h.0, h.1, h.2)
+told_memory may before now (ask.Advisory n reason) h = inl h
+told_memory may before now (ask.Baseline line) h = inl h
+told_memory may before now (ask.Generate status) h = inl h
+told_memory may before now ask.Start h = inl h
+told_memory may before now ask.NoMemory h = inl h
 
-pub asked_told : (may : List ℕ → FailedCall → Type 0) (before now : List FailedCall) (f : RunFault) (o : Option RunFault) → (o ≡ Some f) ⊎ (o ≡ Some fault.NoMemory) → AddsBy may before now f
+pub asked_told : (may : List ℕ → FailedCall → Type 0) (before now : List FailedCall) (e : AskFault) (o : Option RunFault) → (o ≡ Some (by_ask e)) ⊎ (o ≡ Some fault.NoMemory) → AddsBy may before now e
     → AddsRunCall may before now o
-asked_told may before now f o (inl is) h = let P : Option RunFault → Type 0 = λ x. AddsRunCall may before now x in subst P (sym is) (asked_by may before now f h)
-asked_told may before now f o (inr is) h = let P : Option RunFault → Type 0 = λ x. AddsRunCall may before now x in subst P (sym is) (asked_memory may before now f h)
+asked_told may before now e o (inl is) h = let P : Option RunFault → Type 0 = λ x. AddsRunCall may before now x in subst P (sym is) (told_by may before now e h)
+asked_told may before now e o (inr is) h = let P : Option RunFault → Type 0 = λ x. AddsRunCall may before now x in subst P (sym is) (told_memory may before now e h)
 
 -- once all that was asked for was given, none failed
 quiet_told : (may : List ℕ → FailedCall → Type 0) (before now : List FailedCall) (o : Option RunFault) → ((path : List ℕ) → o ≡ Some (fault.File path) → ⊥) → now ≡ before → AddsRunCall may before now o

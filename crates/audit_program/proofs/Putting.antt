@@ -1,16 +1,13 @@
 -- Texts that were put, whole or in part.
-use Rattle.std.proofs.Common.{◌≡◌, ◌⊎◌, inl, inr, ℕ, List, [], ◌++◌, length, Option, Some, Result, Ok, Err, sym, ap, subst, ◌∙◌, append_assoc, append-nil}
+use Rattle.std.proofs.Common.{◌≡◌, ◌⊎◌, inl, inr, ℕ, List, [], ◌++◌, length, Option, Some, sym, ap, subst, ◌∙◌, append_assoc, append-nil}
 use Rattle.std.proofs.Math.Seq.{take-length}
-use Rattle.std.specs.Prelude.{IfErr}
 use Rattle.tame_names.specs.Output.{AddsPrefix}
-use Rattle.audit_asked.specs.declared.faults.RunFault.{RunFault}
-use Rattle.audit_asked.specs.declared.faults.RunFault.TheVariants as fault
-use Rattle.audit_output.specs.Outputs.{IsPrintFault}
+use Rattle.audit_program.specs.declared.faults.RunFault.{RunFault}
+use Rattle.audit_program.specs.declared.faults.RunFault.TheVariants as fault
+use Rattle.audit_program.specs.Faults.{IsPrintFault}
 use Rattle.audit_report.proofs.Puts.{part_first, part_none, part_then}
-use Rattle.audit_report.specs.Outputs.{IsPut}
-use Rattle.audit_program.specs.Finishes.{end_of}
 use Rattle.audit_program.specs.Outputs.{IsPutBy, IsWhole}
-use Rattle.audit_program.proofs.Faults.{print_case}
+use Rattle.audit_program.proofs.FaultCases.{print_case}
 
 -- all of it is a part of it
 pub part_whole : (before text now : List ℕ) → now ≡ before ++ text → AddsPrefix before text now
@@ -33,11 +30,6 @@ put_part before text now f only part = record {
 -- want of memory asks for a part alone
 pub put_memory : (before text now : List ℕ) → AddsPrefix before text now → IsPutBy before text (Some fault.NoMemory) now
 put_memory before text now part = record { part = part; whole = λ no. absurd no }
-
--- a put by its answer
-pub put_by : (before text now : List ℕ) (r : Result Unit RunFault) → IfErr r IsPrintFault → IsPut before text now r → IsPutBy before text (end_of r) now
-put_by before text now (Ok done) only h = record { part = h.part; whole = λ w. h.whole }
-put_by before text now (Err f) only h = put_part before text now f only h.part
 
 -- the same for another reason
 pub put_for : (before text now : List ℕ) (one other : Option RunFault) → one ≡ other → IsPutBy before text one now → IsPutBy before text other now

@@ -12,12 +12,13 @@ use Rattle.audit_binaries.specs.declared.answers.BinaryFault.TheVariants as faul
 use Rattle.audit_settings.specs.declared.commands.AuditCommand.{AuditCommand}
 use Rattle.audit_asked.specs.Calls.{AddsBy}
 use Rattle.audit_asked.specs.ForBinaries.{IsForBinariesCall}
-use Rattle.audit_asked.specs.Refusals.{IsReadFault}
-use Rattle.audit_asked.specs.declared.faults.RunFault.{RunFault}
-use Rattle.audit_asked.specs.declared.faults.RunFault.TheVariants as run_fault
-use Rattle.audit_output.specs.Outputs.{IsPrintFault}
+use Rattle.audit_asked.specs.declared.faults.AskFault.{AskFault}
+use Rattle.audit_asked.specs.declared.faults.AskFault.TheVariants as ask
+use Rattle.audit_program.specs.declared.faults.RunFault.{RunFault}
+use Rattle.audit_program.specs.declared.faults.RunFault.TheVariants as run_fault
+use Rattle.audit_program.specs.Faults.{IsPrintFault, by_ask}
 use Rattle.audit_program.specs.Calls.{AddsBinCalls, AddsReadings, reading_of}
-use Rattle.audit_program.proofs.Faults.{print_case}
+use Rattle.audit_program.proofs.FaultCases.{print_case}
 
 -- at most one of a path
 abbrev AtMost : List ℕ → List FailedCall → List FailedCall → Type 0
@@ -96,45 +97,37 @@ of_none : (paths : List (List ℕ)) (before now : List FailedCall) → now ≡ b
 of_none paths before now is = let P : List FailedCall → Type 0 = λ x. AddsReadings paths before x in subst P (sym is) (none_added paths before)
 
 -- a fault of asking
-by_asking : (command : AuditCommand) (paths : List (List ℕ)) (host : Host) (before now : List FailedCall) (f : RunFault) → IsReadFault f → AddsBy (IsForBinariesCall command host) before now f
-    → AddsBinCalls command paths host before now (Some f)
-by_asking command paths host before now (run_fault.File path) only h = h
-by_asking command paths host before now run_fault.NoMemory only h = inr (of_none paths before now h)
-by_asking command paths host before now run_fault.Print only h = absurd only
-by_asking command paths host before now (run_fault.Usage place) only h = absurd only
-by_asking command paths host before now (run_fault.Settings reason) only h = h
-by_asking command paths host before now (run_fault.Missing path) only h = h
-by_asking command paths host before now (run_fault.NotUtf8 path) only h = h
-by_asking command paths host before now (run_fault.TooLarge path len) only h = h
-by_asking command paths host before now (run_fault.Lockfile reason) only h = absurd only
-by_asking command paths host before now (run_fault.Advisory n reason) only h = h
-by_asking command paths host before now (run_fault.Baseline line) only h = absurd only
-by_asking command paths host before now (run_fault.Vendor reason) only h = absurd only
-by_asking command paths host before now (run_fault.Generate status) only h = absurd only
-by_asking command paths host before now (run_fault.Start failed) only h = absurd only
+by_asking : (command : AuditCommand) (paths : List (List ℕ)) (host : Host) (before now : List FailedCall) (e : AskFault) → AddsBy (IsForBinariesCall command host) before now e
+    → AddsBinCalls command paths host before now (Some (by_ask e))
+by_asking command paths host before now (ask.Settings reason) h = h
+by_asking command paths host before now (ask.Missing path) h = h
+by_asking command paths host before now (ask.NotUtf8 path) h = h
+by_asking command paths host before now (ask.TooLarge path len) h = h
+by_asking command paths host before now (ask.File path) h = h
+by_asking command paths host before now (ask.Advisory n reason) h = h
+by_asking command paths host before now (ask.Baseline line) h = h
+by_asking command paths host before now (ask.Generate status) h = h
+by_asking command paths host before now ask.Start h = h
+by_asking command paths host before now ask.NoMemory h = inr (of_none paths before now h)
 
 -- the same where memory ran out behind it
-behind_asking : (command : AuditCommand) (paths : List (List ℕ)) (host : Host) (before now : List FailedCall) (f : RunFault) → IsReadFault f → AddsBy (IsForBinariesCall command host) before now f
+behind_asking : (command : AuditCommand) (paths : List (List ℕ)) (host : Host) (before now : List FailedCall) (e : AskFault) → AddsBy (IsForBinariesCall command host) before now e
     → AddsBinCalls command paths host before now (Some run_fault.NoMemory)
-behind_asking command paths host before now (run_fault.File path) only h = inl (path, h.0, h.1, h.2)
-behind_asking command paths host before now run_fault.NoMemory only h = inr (of_none paths before now h)
-behind_asking command paths host before now run_fault.Print only h = absurd only
-behind_asking command paths host before now (run_fault.Usage place) only h = absurd only
-behind_asking command paths host before now (run_fault.Settings reason) only h = inr (of_none paths before now h)
-behind_asking command paths host before now (run_fault.Missing path) only h = inr (of_none paths before now h)
-behind_asking command paths host before now (run_fault.NotUtf8 path) only h = inr (of_none paths before now h)
-behind_asking command paths host before now (run_fault.TooLarge path len) only h = inr (of_none paths before now h)
-behind_asking command paths host before now (run_fault.Lockfile reason) only h = absurd only
-behind_asking command paths host before now (run_fault.Advisory n reason) only h = inr (of_none paths before now h)
-behind_asking command paths host before now (run_fault.Baseline line) only h = absurd only
-behind_asking command paths host before now (run_fault.Vendor reason) only h = absurd only
-behind_asking command paths host before now (run_fault.Generate status) only h = absurd only
-behind_asking command paths host before now (run_fault.Start failed) only h = absurd only
+behind_asking command paths host before now (ask.Settings reason) h = inr (of_none paths before now h)
+behind_asking command paths host before now (ask.Missing path) h = inr (of_none paths before now h)
+behind_asking command paths host before now (ask.NotUtf8 path) h = inr (of_none paths before now h)
+behind_asking command paths host before now (ask.TooLarge path len) h = inr (of_none paths before now h)
+behind_asking command paths host before now (ask.File path) h = inl (path, h.0, h.1, h.2)
+behind_asking command paths host before now (ask.Advisory n reason) h = inr (of_none paths before now h)
+behind_asking command paths host before now (ask.Baseline line) h = inr (of_none paths before now h)
+behind_asking command paths host before now (ask.Generate status) h = inr (of_none paths before now h)
+behind_asking command paths host before now ask.Start h = inr (of_none paths before now h)
+behind_asking command paths host before now ask.NoMemory h = inr (of_none paths before now h)
 
-pub asking_calls : (command : AuditCommand) (paths : List (List ℕ)) (host : Host) (before now : List FailedCall) (f : RunFault) (o : Option RunFault) → (o ≡ Some f) ⊎ (o ≡ Some run_fault.NoMemory)
-    → IsReadFault f → AddsBy (IsForBinariesCall command host) before now f → AddsBinCalls command paths host before now o
-asking_calls command paths host before now f o (inl is) only h = let P : Option RunFault → Type 0 = λ x. AddsBinCalls command paths host before now x in subst P (sym is) (by_asking command paths host before now f only h)
-asking_calls command paths host before now f o (inr is) only h = let P : Option RunFault → Type 0 = λ x. AddsBinCalls command paths host before now x in subst P (sym is) (behind_asking command paths host before now f only h)
+pub asking_calls : (command : AuditCommand) (paths : List (List ℕ)) (host : Host) (before now : List FailedCall) (e : AskFault) (o : Option RunFault) → (o ≡ Some (by_ask e)) ⊎ (o ≡ Some run_fault.NoMemory)
+    → AddsBy (IsForBinariesCall command host) before now e → AddsBinCalls command paths host before now o
+asking_calls command paths host before now e o (inl is) h = let P : Option RunFault → Type 0 = λ x. AddsBinCalls command paths host before now x in subst P (sym is) (by_asking command paths host before now e h)
+asking_calls command paths host before now e o (inr is) h = let P : Option RunFault → Type 0 = λ x. AddsBinCalls command paths host before now x in subst P (sym is) (behind_asking command paths host before now e h)
 
 -- ---- with answers for all of them, or a part
 

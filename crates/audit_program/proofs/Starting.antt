@@ -3,38 +3,38 @@ use Rattle.std.proofs.Common.{◌≡◌, ◌⊎◌, inl, inr, ℕ, List, Bool, t
 use Rattle.std.specs.Prelude.{IfSome, IfNone, IsSome}
 use Rattle.tame_names.specs.Standing.{Host}
 use Rattle.audit_settings.specs.declared.commands.AuditCommand.{AuditCommand}
-use Rattle.audit_asked.specs.Refusals.{IsAskFault}
 use Rattle.audit_asked.specs.Starts.{RunStarts, RunStartsWhere, StartsAtMost}
 use Rattle.audit_asked.specs.declared.asking.Asked.{Asked}
-use Rattle.audit_asked.specs.declared.faults.RunFault.{RunFault}
-use Rattle.audit_asked.specs.declared.faults.RunFault.TheVariants as fault
+use Rattle.audit_asked.specs.declared.faults.AskFault.{AskFault}
+use Rattle.audit_asked.specs.declared.faults.AskFault.TheVariants as ask
+use Rattle.audit_program.specs.declared.faults.RunFault.{RunFault}
+use Rattle.audit_program.specs.declared.faults.RunFault.TheVariants as fault
 use Rattle.audit_asked.specs.declared.runners.Started.{Started}
 use Rattle.audit_program.specs.Calls.{StartsUnaudited, StartsWhere}
 use Rattle.audit_program.specs.Causes.{BinariesCause, IsAskedFault}
+use Rattle.audit_program.specs.Faults.{by_ask}
 use Rattle.audit_program.specs.declared.tasks.Task.{Task}
+use Rattle.audit_program.proofs.FaultCases.{not_read}
 
 -- ---- where asking failed
 
-fault_case : (before now : List Started) (f : RunFault) → StartsAtMost before now → RunStarts {T = Asked} before now (Err f) → StartsUnaudited before now (Some f)
-fault_case before now (fault.Generate status) most h = h
-fault_case before now (fault.Start failed) most h = h
-fault_case before now (fault.File path) most h = h
-fault_case before now fault.NoMemory most h = most
-fault_case before now (fault.Lockfile reason) most h = h
-fault_case before now fault.Print most h = h
-fault_case before now (fault.Usage place) most h = h
-fault_case before now (fault.Settings reason) most h = h
-fault_case before now (fault.Missing path) most h = h
-fault_case before now (fault.NotUtf8 path) most h = h
-fault_case before now (fault.TooLarge path len) most h = h
-fault_case before now (fault.Advisory n reason) most h = h
-fault_case before now (fault.Baseline line) most h = h
-fault_case before now (fault.Vendor reason) most h = h
+fault_case : (before now : List Started) (e : AskFault) → StartsAtMost before now → RunStarts {T = Asked} before now (Err e) → StartsUnaudited before now (Some (by_ask e))
+fault_case before now (ask.Settings reason) most h = h
+fault_case before now (ask.Missing path) most h = h
+fault_case before now (ask.NotUtf8 path) most h = h
+fault_case before now (ask.TooLarge path len) most h = h
+fault_case before now (ask.File path) most h = h
+fault_case before now (ask.Advisory n reason) most h = h
+fault_case before now (ask.Baseline line) most h = h
+fault_case before now (ask.Generate status) most h = h
+fault_case before now ask.Start most h = h
+fault_case before now ask.NoMemory most h = most
 
-pub failed_starts : (b : Bool) (before now : List Started) (f : RunFault) (o : Option RunFault) → (o ≡ Some f) ⊎ (o ≡ Some fault.NoMemory) → StartsAtMost before now → RunStartsWhere {T = Asked} b before now (Err f) → StartsWhere b before now o
-failed_starts true before now f o (inl is) most h = let P : Option RunFault → Type 0 = λ x. StartsUnaudited before now x in subst P (sym is) (fault_case before now f most h)
-failed_starts true before now f o (inr is) most h = let P : Option RunFault → Type 0 = λ x. StartsUnaudited before now x in subst P (sym is) most
-failed_starts false before now f o is most h = h
+pub failed_starts : (b : Bool) (before now : List Started) (e : AskFault) (o : Option RunFault) → (o ≡ Some (by_ask e)) ⊎ (o ≡ Some fault.NoMemory) → StartsAtMost before now → RunStartsWhere {T = Asked} b before now (Err e)
+    → StartsWhere b before now o
+failed_starts true before now e o (inl is) most h = let P : Option RunFault → Type 0 = λ x. StartsUnaudited before now x in subst P (sym is) (fault_case before now e most h)
+failed_starts true before now e o (inr is) most h = let P : Option RunFault → Type 0 = λ x. StartsUnaudited before now x in subst P (sym is) most
+failed_starts false before now e o is most h = h
 
 -- ---- where asking was accepted, and nothing was audited
 
@@ -66,9 +66,21 @@ unaudited_starts None b before mid now task given o h most cause some same =
     subst P (sym same) (given_starts b before mid task given o h most cause none)
 
 -- one start failed where asking ended so
-pub asked_one : (named : Option (List ℕ)) (f : RunFault) (o : Option RunFault) (n : ℕ) → (o ≡ Some f) ⊎ (o ≡ Some fault.NoMemory) → IsAskFault named f → o ≡ Some (fault.Start n) → n ≡ 1
-asked_one named f o n (inl is) only ended = let same : f ≡ fault.Start n = cc (is, ended) in subst (IsAskFault named) same only
-asked_one named f o n (inr is) only ended = cc (is, ended)
+one_failed : (e : AskFault) (failed : ℕ) → by_ask e ≡ fault.Start failed → failed ≡ 1
+one_failed (ask.Settings reason) failed is = cc (is)
+one_failed (ask.Missing path) failed is = cc (is)
+one_failed (ask.NotUtf8 path) failed is = cc (is)
+one_failed (ask.TooLarge path len) failed is = cc (is)
+one_failed (ask.File path) failed is = cc (is)
+one_failed (ask.Advisory n reason) failed is = cc (is)
+one_failed (ask.Baseline line) failed is = cc (is)
+one_failed (ask.Generate status) failed is = cc (is)
+one_failed ask.Start failed is = cc (is)
+one_failed ask.NoMemory failed is = cc (is)
+
+pub asked_one : (e : AskFault) (o : Option RunFault) (n : ℕ) → (o ≡ Some (by_ask e)) ⊎ (o ≡ Some fault.NoMemory) → o ≡ Some (fault.Start n) → n ≡ 1
+asked_one e o n (inl is) ended = let same : by_ask e ≡ fault.Start n = cc (is, ended) in one_failed e n same
+asked_one e o n (inr is) ended = cc (is, ended)
 
 pub audited_some : {T : Type 0} (o : Option T) (P : Type 0) → IsSome o → IfNone o P
 audited_some None P some = cc
@@ -76,7 +88,10 @@ audited_some (Some x) P some = tt
 
 -- nothing is started for binaries
 pub none_started : {X : Type 0} (told : Type 0) (command : AuditCommand) (host : Host) (o : Option RunFault) (n : ℕ) → IfSome o (BinariesCause told command host) → o ≡ Some (fault.Start n) → X
-none_started told command host o n cause ended = let P : Option RunFault → Type 0 = λ x. IfSome x (BinariesCause told command host) in absurd ((subst P ended cause).only)
+none_started told command host o n cause ended =
+    let P : Option RunFault → Type 0 = λ x. IfSome x (BinariesCause told command host) in
+    let refuses = subst P ended cause in
+    not_read (fault.Start n) refuses.asked refuses.is refuses.only refl
 
 -- nor where memory ran out at once
 pub memory_starts : (b : Bool) (before : List Started) (o : Option RunFault) → (o ≡ Some fault.NoMemory) ⊎ (o ≡ Some fault.NoMemory) → StartsWhere b before before o

@@ -1,23 +1,20 @@
 -- Which calls on the host failed in a run, and what was started (this project).
-use Rattle.std.specs.Prelude.{◌≡◌, ◌⊎◌, ◌++◌, ◌∷◌, [], ℕ, pos, List, Bool, true, false, Option, Some, None, Result, Ok}
+use Rattle.std.specs.Prelude.{◌≡◌, ◌⊎◌, ◌++◌, ◌∷◌, [], ℕ, pos, List, Bool, true, false, Option, Some, None, Ok}
 use Rattle.tame_names.specs.Standing.{Host}
 use Rattle.tame_names.specs.declared.host.FailedCall.{FailedCall}
 use Rattle.tame_names.specs.declared.host.FileCall.TheVariants as file_call
 use Rattle.audit_settings.specs.declared.commands.AuditCommand.{AuditCommand}
-use Rattle.audit_words.specs.declared.commands.Command.{Command}
-use Rattle.audit_words.specs.declared.commands.Command.TheVariants.{Bin}
-use Rattle.audit_words.specs.declared.commands.WordsFault.{WordsFault}
-use Rattle.audit_asked.specs.Asked.{generates}
 use Rattle.audit_asked.specs.Calls.{IsCallOn}
 use Rattle.audit_asked.specs.ForBinaries.{IsForBinariesCall}
-use Rattle.audit_asked.specs.Settings.{settled}
 use Rattle.audit_asked.specs.Starts.{AddsStart, StartsAtMost}
-use Rattle.audit_asked.specs.declared.faults.RunFault.{RunFault}
-use Rattle.audit_asked.specs.declared.faults.RunFault.TheVariants as fault
+use Rattle.audit_program.specs.declared.faults.RunFault.{RunFault}
+use Rattle.audit_program.specs.declared.faults.RunFault.TheVariants as fault
 use Rattle.audit_asked.specs.declared.runners.Started.{Started}
 use Rattle.tame_local.specs.Calls.{IsCallFor}
-use Rattle.vendor_faults.specs.declared.faults.VendorFault.TheVariants as vendor_fault
-use Rattle.audit_program.specs.Tasks.{IsTaskCall, task_of}
+use Rattle.vendor_registry.specs.declared.faults.VendorFault.TheVariants as vendor_fault
+use Rattle.audit_program.specs.Jobs.{Asking}
+use Rattle.audit_program.specs.Tasks.{IsTaskCall}
+use Rattle.audit_program.specs.declared.tasks.Job.TheVariants as job
 use Rattle.audit_program.specs.declared.tasks.Remedy.{Remedy}
 use Rattle.audit_program.specs.declared.tasks.Remedy.TheVariants.{Vendor, WriteBaseline}
 use Rattle.audit_program.specs.declared.tasks.Task.{Task}
@@ -86,7 +83,7 @@ AddsMakingCalls (WriteBaseline path) before now reason = AddsFileCalls path befo
 AddsMakingCalls (Vendor more) before now reason = AddsRegistryCalls before now reason
 AddsMakingCalls remedy before now reason = now ≡ before
 
--- ---- by the words
+-- ---- by what is asked for
 
 -- in asking, or in making; a registry is refused in making
 abbrev pub AddsTaskCalls : Task → Host → List FailedCall → List FailedCall → Option RunFault
@@ -97,31 +94,14 @@ AddsTaskCalls task host before now reason =
     AddsRunCall (IsTaskCall task host) before now reason
     ⊎ AddsMakingCalls task.remedy before now reason
 
-abbrev pub AddsOtherCalls : Result Command WordsFault → Host → List FailedCall → List FailedCall
-    → Option RunFault → Type 0
-AddsOtherCalls (Ok (Bin command more)) host before now reason =
+-- no other call fails but in audits of binaries
+abbrev pub AddsCalls : Asking → Host → List FailedCall → List FailedCall → Option RunFault
+    → Type 0
+AddsCalls (Ok (job.Lockfile task)) host before now reason =
+    AddsTaskCalls task host before now reason
+AddsCalls (Ok (job.Binaries command more)) host before now reason =
     AddsBinCalls command more.binary_paths host before now reason
-AddsOtherCalls _ host before now reason = now ≡ before
-
-abbrev pub AddsCallsBy : Option Task → Result Command WordsFault → Host → List FailedCall
-    → List FailedCall → Option RunFault → Type 0
-AddsCallsBy (Some task) words host before now reason = AddsTaskCalls task host before now reason
-AddsCallsBy None words host before now reason = AddsOtherCalls words host before now reason
-
-abbrev pub AddsCalls : Result Command WordsFault → Host → List FailedCall → List FailedCall
-    → Option RunFault → Type 0
-AddsCalls words host before now reason = AddsCallsBy (task_of words) words host before now reason
-
--- a lockfile is generated
-abbrev pub task_generates : Task → Host → Bool
-task_generates task host = generates task.command host (settled task.command host)
-
-abbrev pub generates_by : Option Task → Host → Bool
-generates_by (Some task) host = task_generates task host
-generates_by None host = false
-
-abbrev pub words_generate : Result Command WordsFault → Host → Bool
-words_generate words host = generates_by (task_of words) host
+AddsCalls _ host before now reason = now ≡ before
 
 -- ---- starts
 

@@ -1,16 +1,78 @@
--- What a command asks for, by what a run needs for it (this project).
-use Rattle.std.specs.Prelude.{◌≡◌, Some, Result, Ok}
+-- What the words ask for, by what a run needs for it (this project, after cargo-audit).
+use Rattle.std.specs.Prelude.{ℕ, List, Result, Ok, Err}
+use Rattle.std.specs.Option.{option_or}
+use Rattle.audit_settings.specs.declared.commands.AuditCommand.{AuditCommand}
+use Rattle.audit_words.specs.Reading.{command_of}
+use Rattle.audit_words.specs.declared.commands.BinCommand.{BinCommand}
 use Rattle.audit_words.specs.declared.commands.Command.{Command}
 use Rattle.audit_words.specs.declared.commands.Command.TheVariants as command
+use Rattle.audit_words.specs.declared.commands.FixCommand.{FixCommand}
 use Rattle.audit_words.specs.declared.commands.WordsFault.{WordsFault}
-use Rattle.audit_program.specs.Tasks.{task_of}
 use Rattle.audit_program.specs.declared.tasks.Job.{Job}
 use Rattle.audit_program.specs.declared.tasks.Job.TheVariants as job
+use Rattle.audit_program.specs.declared.tasks.Remedy.{Remedy}
+use Rattle.audit_program.specs.declared.tasks.Remedy.TheVariants.{Report, Fix, Plan, Baseline, WriteBaseline, Vendor}
+use Rattle.audit_program.specs.declared.tasks.Task.{Task}
 
--- help, the version, made packages, binaries, or else the audit of a lockfile of the words
-abbrev pub IsJobOf : Result Command WordsFault → Job → Type 0
-IsJobOf words job.Help = words ≡ Ok command.Help
-IsJobOf words job.Version = words ≡ Ok command.Version
-IsJobOf words (job.Generate n) = words ≡ Ok (command.Generate n)
-IsJobOf words (job.Binaries audit more) = words ≡ Ok (command.Bin audit more)
-IsJobOf words (job.Lockfile task) = task_of words ≡ Some task
+-- the audit that `fix` makes: a lockfile that is named behind it stands for that of `audit`
+abbrev pub fix_task : AuditCommand → FixCommand → Task
+fix_task audit more = record {
+  command = record audit { file = option_or more.file audit.file };
+  remedy = Fix more.dry_run;
+}
+
+abbrev pub lockfile_job : AuditCommand → Remedy → Job
+lockfile_job audit remedy = job.Lockfile (record { command = audit; remedy = remedy })
+
+-- a text, made packages, or audits of binaries; any other command asks for the audit of a lockfile,
+-- and for what is done with it
+abbrev pub job_of : Command → Job
+job_of command.Help = job.Help
+job_of command.Version = job.Version
+job_of (command.Generate n) = job.Generate n
+job_of (command.Bin audit more) = job.Binaries audit more
+job_of (command.Audit audit) = lockfile_job audit Report
+job_of (command.Fix audit more) = job.Lockfile (fix_task audit more)
+job_of (command.Plan audit) = lockfile_job audit Plan
+job_of (command.Baseline audit path) = lockfile_job audit (Baseline path)
+job_of (command.WriteBaseline audit path) = lockfile_job audit (WriteBaseline path)
+job_of (command.Vendor audit more) = lockfile_job audit (Vendor more)
+
+-- what is asked for, or the rule that the words break
+abbrev pub Asking : Type 0
+Asking = Result Job WordsFault
+
+abbrev pub asking_by : Result Command WordsFault → Asking
+asking_by (Ok it) = Ok (job_of it)
+asking_by (Err reason) = Err reason
+
+abbrev pub asking_of : List (List ℕ) → Asking
+asking_of words = asking_by (command_of words)
+
+-- ---- by what is asked for
+
+-- it is the audit of a lockfile, of which this is so
+abbrev pub OfTask : (Task → Type 0) → Asking → Type 0
+OfTask P (Ok (job.Lockfile task)) = P task
+OfTask P _ = ⊥
+
+-- where it is the audit of a lockfile, this is so of it
+abbrev pub IfTask : (Task → Type 0) → Asking → Type 0
+IfTask P (Ok (job.Lockfile task)) = P task
+IfTask P _ = Unit {0}
+
+-- it is audits of binaries, of which this is so
+abbrev pub OfBinaries : (AuditCommand → BinCommand → Type 0) → Asking → Type 0
+OfBinaries P (Ok (job.Binaries command more)) = P command more
+OfBinaries P _ = ⊥
+
+-- where it is audits of binaries, this is so of them
+abbrev pub IfBinaries : (AuditCommand → BinCommand → Type 0) → Asking → Type 0
+IfBinaries P (Ok (job.Binaries command more)) = P command more
+IfBinaries P _ = Unit {0}
+
+-- it needs nothing but the outputs
+abbrev pub NeedsNoHost : Asking → Type 0
+NeedsNoHost (Ok (job.Lockfile task)) = ⊥
+NeedsNoHost (Ok (job.Binaries command more)) = ⊥
+NeedsNoHost _ = Unit {0}

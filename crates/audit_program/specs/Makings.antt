@@ -1,21 +1,16 @@
 -- What a run makes of an audit before anything is put: a plan, the findings that a baseline
 -- doesn't list, a baseline, or a local registry (this project).
-use Rattle.std.specs.Prelude.{◌≡◌, ◌≢◌, ◌≤◌, ℕ, List, [], unwrap_or, Option, Some, None, true, IsTrue, IsOk, Result, Ok, Err}
+use Rattle.std.specs.Prelude.{◌≡◌, ◌≢◌, ◌≤◌, ℕ, List, [], unwrap_or, Option, Some, None, Result, Ok, Err}
 use Rattle.tame_names.specs.Changes.{Creates}
-use Rattle.tame_names.specs.Counts.{CountRose}
 use Rattle.tame_names.specs.Standing.{Host}
-use Rattle.tame_names.specs.declared.errors.Error.{Error}
 use Rattle.tame_cache.specs.Disk.{reads}
 use Rattle.tame_cache.specs.Kept.{Disk}
 use Rattle.tame_sparse.specs.Exchanges.{crates_io_index}
-use Rattle.tame_local.specs.Inserts.{StandsPlain}
-use Rattle.tame_local.specs.Refusals.{refused as refused_by}
-use Rattle.tame_local.specs.Registries.{registry_at}
 use Rattle.known_findings.specs.Baselines.{listed, written}
 use Rattle.known_findings.specs.declared.findings.Finding.{Finding}
 use Rattle.audit_advisory.specs.declared.advisories.Advisory.{Advisory}
-use Rattle.audit_asked.specs.declared.faults.RunFault.{RunFault}
-use Rattle.audit_asked.specs.declared.faults.RunFault.TheVariants as fault
+use Rattle.audit_program.specs.declared.faults.RunFault.{RunFault}
+use Rattle.audit_program.specs.declared.faults.RunFault.TheVariants as fault
 use Rattle.audit_core.specs.Audits.{Moment}
 use Rattle.audit_core.specs.declared.auditing.Audited.{Audited}
 use Rattle.audit_words.specs.declared.commands.VendorCommand.{VendorCommand}
@@ -23,17 +18,13 @@ use Rattle.baseline_gate.specs.Gates.{unlisted}
 use Rattle.baseline_gate.specs.Reports.{audit_findings}
 use Rattle.upgrade_plan.specs.Plans.{IsPlanBy}
 use Rattle.upgrade_plan.specs.declared.plans.PlanItem.{PlanItem}
-use Rattle.vendor_faults.specs.declared.faults.VendorFault.{VendorFault}
-use Rattle.vendor_faults.specs.declared.faults.VendorFault.TheVariants as vendor_fault
-use Rattle.vendor_registry.specs.Built.{IsBuilt, IsOccupied, IsStoppedBy, IsTakenFor, IsUnfinished, free_fault, is_behind}
-use Rattle.vendor_registry.specs.Checks.{Stock, all_checked, is_of_checks, is_of_package}
-use Rattle.vendor_registry.specs.Looked.{looked}
-use Rattle.vendor_registry.specs.Named.{AreVersioned, IsFolderPath}
-use Rattle.vendor_registry.specs.Vendored.{IsBare, IsVendored}
-use Rattle.vendor_registry.specs.declared.vendoring.Vendored.{Vendored}
+use Rattle.vendor_registry.specs.declared.faults.VendorFault.{VendorFault}
+use Rattle.vendor_registry.specs.declared.faults.VendorFault.TheVariants as vendor_fault
+use Rattle.vendor_registry.specs.Checks.{Stock}
+use Rattle.vendor_registry.specs.Vendoring.{IsRegistryMade, IsRegistryRefused, Vendoring, vendoring}
 use Rattle.audit_program.specs.Tasks.{MakesRegistry}
-use Rattle.audit_program.specs.declared.making.Made.{Made}
-use Rattle.audit_program.specs.declared.making.Made.TheVariants as made
+use Rattle.audit_program.specs.declared.makings.Made.{Made}
+use Rattle.audit_program.specs.declared.makings.Made.TheVariants as made
 use Rattle.audit_program.specs.declared.tasks.Remedy.{Remedy}
 use Rattle.audit_program.specs.declared.tasks.Remedy.TheVariants.{Report, Fix, Plan, Baseline, WriteBaseline, Vendor}
 
@@ -140,79 +131,31 @@ crates_io_stock files host crates = record {
 abbrev pub stock_in : VendorCommand → Making → Stock
 stock_in more m = crates_io_stock m.left.files m.host more.crates
 
--- the folder was empty or absent, and is vendored for the audit; nothing else of the host changed
-pub record IsRegistryMade (more : VendorCommand) (m : Making) (v : Vendored) : Type 0 where
-  pub vendored : m.files_tell → m.disk_tells → StandsPlain m.host.stands → IsBare m.host more.to
-      → IsVendored (stock_in more m) m.audited.lockfile more.to m.host_now v
-  pub free : m.files_tell → free_fault (m.host.stands more.to) ≡ None
-  pub built : m.files_tell → m.disk_tells
-      → IsBuilt (stock_in more m) m.audited.lockfile more.to m.host m.host_now
+-- how it is made of them: from the cache as the audit left it, in the folder of the words
+abbrev pub vendoring_in : VendorCommand → Making → Vendoring
+vendoring_in more m =
+    vendoring m.files_tell m.disk_tells (stock_in more m) m.audited.lockfile more.to m.host_now
+    m.left.disk_faults m.ended.disk_faults
 
--- nothing was written, or changes that make the registry were begun in their order
-abbrev pub IsRegistryBegun : VendorCommand → Making → Type 0
-IsRegistryBegun more m =
-    m.files_tell → m.disk_tells
-    → IsUnfinished (stock_in more m) m.audited.lockfile more.to m.host m.host_now
-
--- none was made: a package is refused exactly by the first condition of the table that holds, and
--- then nothing was written; an entry couldn't be read only where the disk failed in this making, and
--- then nothing was written either; a call failed at the first package that wasn't checked, or once
--- all were; the folder is refused by what stands there, once all packages were checked, with nothing
--- written, or by an index file that has come meanwhile; what was built never disagrees with its
--- index, and else has this reason
-pub record IsRegistryRefused (more : VendorCommand) (m : Making) (reason : VendorFault)
-    : Type 0 where
-  pub no_memory : reason ≢ vendor_fault.NoMemory
-  pub refused : m.files_tell → m.disk_tells → IsTrue (is_of_package reason)
-      → all_checked (stock_in more m) (looked m.audited.lockfile) ≡ Err reason
-  pub unwritten : m.files_tell → IsTrue (is_of_checks reason) → m.host_now ≡ m.host
-  pub store : (at : ℕ) → reason ≡ vendor_fault.Store at
-      → CountRose m.left.disk_faults m.ended.disk_faults
-  pub stopped : m.files_tell → m.disk_tells
-      → IsStoppedBy (stock_in more m) m.audited.lockfile reason
-  pub behind : m.files_tell → m.disk_tells → IsTrue (is_behind reason)
-      → IsOk (all_checked (stock_in more m) (looked m.audited.lockfile))
-  pub occupied : m.files_tell → IsOccupied (m.host.stands more.to) reason
-  pub not_empty : m.files_tell → m.disk_tells → IsBare m.host more.to → (n : ℕ)
-      → reason ≡ vendor_fault.NotEmpty n
-      → free_fault (m.host.stands more.to) ≡ Some (vendor_fault.NotEmpty n)
-  pub taken : m.files_tell → m.disk_tells → (n : ℕ) → reason ≡ vendor_fault.NotEmpty n
-      → free_fault (m.host.stands more.to) ≡ None
-      → IsTakenFor (stock_in more m) m.audited.lockfile more.to m.host
-  pub unmade : m.files_tell → free_fault (m.host.stands more.to) ≡ Some reason
-      → m.host_now ≡ m.host
-  pub begun : IsRegistryBegun more m
-  pub agrees : m.files_tell → m.disk_tells → StandsPlain m.host.stands → IsFolderPath more.to
-      → AreVersioned m.audited.lockfile → (why : Error) → reason ≢ vendor_fault.ReadBack why
-  pub read_back : m.files_tell → (why : Error) → reason ≡ vendor_fault.ReadBack why
-      → registry_at m.host_now more.to true ≡ Err (refused_by why)
-
+-- it was made; or there is none for a reason; or memory ran out
 abbrev pub IsVendorMade : VendorCommand → Making → Result Made RunFault → Type 0
-IsVendorMade more m (Ok (made.Vendored v)) = IsRegistryMade more m v
-IsVendorMade more m (Err (fault.Vendor reason)) = IsRegistryRefused more m reason
-IsVendorMade more m (Err fault.NoMemory) = IsRegistryBegun more m
+IsVendorMade more m (Ok (made.Vendored v)) = IsRegistryMade (vendoring_in more m) v
+IsVendorMade more m (Err (fault.Vendor reason)) =
+    (reason ≢ vendor_fault.NoMemory) × IsRegistryRefused (vendoring_in more m) reason
+IsVendorMade more m (Err fault.NoMemory) =
+    IsRegistryRefused (vendoring_in more m) vendor_fault.NoMemory
 IsVendorMade more m _ = ⊥
 
 -- ---- by what is to be done
 
--- nothing is made for a report or for `fix`
+-- nothing but what is to be printed is made for a report or for `fix`
 abbrev pub IsMade : Remedy → Making → Result Made RunFault → Type 0
-IsMade Report m r = (r ≡ Ok made.Nothing) × IsUncalled m × IsUnwritten m
-IsMade (Fix dry_run) m r = (r ≡ Ok made.Nothing) × IsUncalled m × IsUnwritten m
+IsMade Report m r = (r ≡ Ok made.Report) × IsUncalled m × IsUnwritten m
+IsMade (Fix dry_run) m r = (r ≡ Ok (made.Fix dry_run)) × IsUncalled m × IsUnwritten m
 IsMade Plan m r = IsPlanMade m r × IsReadOnly m × IsUnwritten m
 IsMade (Baseline path) m r = IsGateMade m r × IsUncalled m × IsUnwritten m
 IsMade (WriteBaseline path) m r = IsToldOf path r × IsUncalled m × IsFileMade path m r
 IsMade (Vendor more) m r = IsVendorMade more m r × IsReadOnly m
-
--- something is made for one kind of task alone, and nothing for a report and for `fix`
-abbrev pub IsMadeFor : Remedy → Made → Type 0
-IsMadeFor Report made.Nothing = Unit {0}
-IsMadeFor (Fix dry_run) made.Nothing = Unit {0}
-IsMadeFor Plan (made.Planned items) = Unit {0}
-IsMadeFor (Baseline path) (made.Unlisted found) = Unit {0}
-IsMadeFor (WriteBaseline path) made.Written = Unit {0}
-IsMadeFor (Vendor more) (made.Vendored v) = Unit {0}
-IsMadeFor remedy it = ⊥
 
 -- the plan, where one was made
 abbrev pub plan_in : Result Made RunFault → Option (List PlanItem)

@@ -1,56 +1,34 @@
 -- What a run puts on its two outputs (this project).
-use Rattle.std.specs.Prelude.{◌≡◌, ◌++◌, ℕ, ℤ, codes, decimal, nat_eq, List, [], length, Bool, true, false, Option, Some, None, if◌then◌else◌, Result, Ok, Err}
+use Rattle.std.specs.Prelude.{◌≡◌, ◌++◌, ℕ, ℤ, codes, decimal, nat_eq, List, [], length, Bool, Option, Some, None, if◌then◌else◌, Result, Ok, Err}
 use Rattle.tame_names.specs.Counts.{CountStayed}
 use Rattle.tame_names.specs.Output.{AddsPrefix}
 use Rattle.audit_advisory.specs.declared.advisories.Advisory.{Advisory}
-use Rattle.audit_words.specs.declared.commands.Command.{Command}
-use Rattle.audit_words.specs.declared.commands.Command.TheVariants as command
-use Rattle.audit_words.specs.declared.commands.WordsFault.{WordsFault}
 use Rattle.audit_words.specs.declared.texts.TheConstants.{HELP_TEXT}
-use Rattle.audit_asked.specs.Places.{place_of}
-use Rattle.audit_asked.specs.declared.faults.RunFault.{RunFault}
-use Rattle.audit_asked.specs.declared.faults.RunFault.TheVariants as fault
+use Rattle.audit_program.specs.declared.faults.RunFault.{RunFault}
+use Rattle.audit_program.specs.declared.faults.RunFault.TheVariants as fault
 use Rattle.known_findings.specs.Baselines.{written}
 use Rattle.audit_core.specs.declared.auditing.Audited.{Audited}
 use Rattle.audit_fix.specs.Lines.{fix_lines}
 use Rattle.audit_generator.specs.Summaries.{summary_for}
 use Rattle.audit_fix.specs.declared.plans.FixStep.{FixStep}
-use Rattle.audit_output.specs.FaultLines.{fault_line}
+use Rattle.audit_program.specs.FaultLines.{fault_line}
 use Rattle.audit_output.specs.Outputs.{Output}
 use Rattle.upgrade_plan.specs.Lines.{plan_lines}
 use Rattle.vendor_registry.specs.declared.vendoring.Vendored.{Vendored}
-use Rattle.audit_program.specs.Tasks.{task_of}
-use Rattle.audit_program.specs.declared.making.Made.{Made}
-use Rattle.audit_program.specs.declared.making.Made.TheVariants as made
-use Rattle.audit_program.specs.declared.tasks.Remedy.{Remedy}
-use Rattle.audit_program.specs.declared.tasks.Remedy.TheVariants.{Fix}
-use Rattle.audit_program.specs.declared.tasks.Task.{Task}
+use Rattle.audit_program.specs.Jobs.{Asking}
+use Rattle.audit_program.specs.declared.tasks.Job.TheVariants as job
+use Rattle.audit_program.specs.declared.makings.Made.{Made}
+use Rattle.audit_program.specs.declared.makings.Made.TheVariants as made
 
 -- ---- the output without an audit
 
--- the text for help or of the version, with a newline, and the lines for made packages; any other
--- words print nothing without an audit of what the host has
-abbrev pub plain_text : Result Command WordsFault → List ℕ
-plain_text (Ok command.Help) = HELP_TEXT.now ++ codes "\n"
-plain_text (Ok command.Version) = codes "cargo-audit 0.22.2\n"
-plain_text (Ok (command.Generate n)) = summary_for n
+-- the text for help or of the version, with a newline, and the lines for made packages; nothing else
+-- is printed without an audit of what the host has
+abbrev pub plain_text : Asking → List ℕ
+plain_text (Ok job.Help) = HELP_TEXT.now ++ codes "\n"
+plain_text (Ok job.Version) = codes "cargo-audit 0.22.2\n"
+plain_text (Ok (job.Generate n)) = summary_for n
 plain_text _ = []
-
--- the words are those for help, of the version or for made packages, or they break a rule
-abbrev pub NeedsNoHost : Result Command WordsFault → Type 0
-NeedsNoHost (Ok command.Help) = Unit {0}
-NeedsNoHost (Ok command.Version) = Unit {0}
-NeedsNoHost (Ok (command.Generate n)) = Unit {0}
-NeedsNoHost (Ok _) = ⊥
-NeedsNoHost (Err reason) = Unit {0}
-
--- the lockfile's place by the words, for a fault that tells it
-abbrev pub place_by : Option Task → List ℕ
-place_by (Some task) = place_of task.command.file
-place_by None = []
-
-abbrev pub words_place : Result Command WordsFault → List ℕ
-words_place words = place_by (task_of words)
 
 -- ---- the output of what was made of an audit
 
@@ -65,7 +43,8 @@ on_out text = record { out = text; err = [] }
 -- in place of what an audit puts: the lines of a plan, those of the findings that a baseline
 -- doesn't list, nothing of a baseline that was written, and the line of a registry
 abbrev pub made_output : Output → Audited → Made → Output
-made_output output audited made.Nothing = output
+made_output output audited made.Report = output
+made_output output audited (made.Fix dry_run) = output
 made_output output audited (made.Planned items) = on_out (plan_lines audited.lockfile items)
 made_output output audited (made.Unlisted found) = on_out (written found)
 made_output output audited made.Written = on_out []
@@ -78,17 +57,11 @@ output_by output audited (Err reason) = on_out []
 
 -- ---- the lines of `fix`
 
--- by the statuses that its steps ended with, none where a step couldn't be started
-abbrev pub remedy_lines : Remedy → List Advisory → Audited → List (Option ℤ) → List ℕ
-remedy_lines (Fix dry_run) advisories audited statuses =
-    fix_lines dry_run advisories audited.lockfile audited.report.vulnerabilities statuses
-remedy_lines remedy advisories audited statuses = []
-
--- none beside the lines of verdicts
-abbrev pub remedy_lines_in : Bool → Remedy → List Advisory → Audited → List (Option ℤ) → List ℕ
-remedy_lines_in true remedy advisories audited statuses = []
-remedy_lines_in false remedy advisories audited statuses =
-    remedy_lines remedy advisories audited statuses
+-- by the statuses that its steps ended with, none beside the lines of verdicts
+abbrev pub remedy_lines : Bool → Made → List Advisory → Audited → List (Option ℤ) → List ℕ
+remedy_lines verdicts (made.Fix dry_run) advisories audited statuses = if verdicts then []
+    else fix_lines dry_run advisories audited.lockfile audited.report.vulnerabilities statuses
+remedy_lines verdicts it advisories audited statuses = []
 
 -- they begin once each step was started: where there isn't a status for each, there are none
 abbrev pub lines_behind : List FixStep → List (Option ℤ) → List ℕ → List ℕ

@@ -1,137 +1,72 @@
--- A run that made an audit of a lockfile (this project).
-use Rattle.std.specs.Prelude.{◌≡◌, ◌⊎◌, ◌++◌, ℕ, ℤ, pos, List, Option, Some, None, Result, Ok, IfOk, IfErr, IfSome}
-use Rattle.tame_names.specs.Standing.{Host, IsInput, StaysButInput}
-use Rattle.audit_words.specs.Reading.{command_of}
-use Rattle.audit_asked.specs.Places.{place_of}
-use Rattle.audit_asked.specs.Starts.{RunStartsWhere, StartsAtMost}
-use Rattle.audit_asked.specs.declared.asking.Asked.{Asked}
-use Rattle.audit_asked.specs.declared.faults.RunFault.{RunFault}
-use Rattle.audit_asked.specs.declared.faults.RunFault.TheVariants as fault
-use Rattle.audit_asked.specs.declared.runners.Started.{Started}
-use Rattle.audit_core.specs.Auditors.{auditor_of}
-use Rattle.audit_core.specs.Audits.{IsAuditOf, Moment}
-use Rattle.audit_core.specs.declared.auditing.Audited.{Audited}
-use Rattle.audit_output.specs.Outputs.{Output, output_of, shown_of}
-use Rattle.upgrade_plan.specs.declared.plans.PlanItem.{PlanItem}
-use Rattle.audit_program.specs.Calls.{task_generates}
-use Rattle.audit_program.specs.Finishes.{IsFinishFault}
-use Rattle.audit_program.specs.Makings.{IsMade, making, plan_in}
-use Rattle.audit_program.specs.Outputs.{IsEnded, IsPutBy, lines_behind, output_by, remedy_lines_in}
-use Rattle.audit_program.specs.Statuses.{made_status, steps_of}
-use Rattle.audit_program.specs.Steps.{AreStarted}
-use Rattle.audit_program.specs.Tasks.{task_asked, task_of}
-use Rattle.audit_program.specs.declared.making.Made.{Made}
-use Rattle.audit_program.specs.declared.tasks.Task.{Task}
+-- A run of the program: what it answers and what it leaves, by what its words ask for (this project).
+use Rattle.std.specs.Prelude.{◌≡◌, ◌⊎◌, Some, Ok, IfSome, IfNone}
+use Rattle.audit_core.specs.Turns.{StaysKept}
+use Rattle.audit_generator.specs.Moments.{IsGenerated}
+use Rattle.audit_generator.specs.declared.generating.Generated.{Generated}
+use Rattle.audit_program.specs.BinaryRuns.{AreBinariesRun, ArePartlyRun}
+use Rattle.audit_program.specs.Causes.{CauseOf, HasCauses}
+use Rattle.audit_program.specs.Completes.{AllStayed, IsComplete, IsReady}
+use Rattle.audit_program.specs.Jobs.{Asking, IfBinaries, OfBinaries, OfTask}
+use Rattle.audit_program.specs.Leaves.{Leaves}
+use Rattle.audit_program.specs.Outcomes.{EndsBy, HasAudits}
+use Rattle.audit_program.specs.TaskRuns.{IsTaskRun, ending}
+use Rattle.audit_program.specs.Unaudited.{HasFailedCalls, IsUnaudited, IsUnmade}
+use Rattle.audit_program.specs.Worlds.{Telling, Uncalled, World}
+use Rattle.audit_program.specs.declared.outcomes.Outcome.{Outcome}
+use Rattle.audit_program.specs.declared.faults.RunFault.TheVariants as fault
+use Rattle.audit_program.specs.declared.tasks.Job.TheVariants as job
 
--- what is told: by the host's files and its runner, the wire, the disk, and the two outputs
-pub record Telling : Type 1 where
-  pub files : Type 0
-  pub runner : Type 0
-  pub wire : Type 0
-  pub disk : Type 0
-  pub out : Type 0
-  pub err : Type 0
+-- these are the two audits of so many made packages
+abbrev pub IsGeneratedRun : Asking → Generated → Type 0
+IsGeneratedRun (Ok (job.Generate n)) made = IsGenerated n made
+IsGeneratedRun _ made = ⊥
 
--- what the host had, and has
-pub record Hosts : Type 0 where
-  pub before : Host
-  pub now : Host
+-- the audits of a run
+pub record AreAudits (tells : Telling) (asking : Asking) (same : Uncalled) (before now : World)
+    (outcome : Outcome) : Type 0 where
+  -- of a lockfile: of what the host has, by the settings and advisories there, on the lockfile's
+  -- text; what it says (the headline, what was asked and named, the verdicts, what is kept, and its
+  -- causes); what is made of it: a plan, what a baseline doesn't list, a baseline or a registry, or
+  -- why it couldn't be made; what of its output was put, which steps were started, and the status
+  pub audited : IfSome outcome.audited (λ a. OfTask (λ task. IsTaskRun tells task before now
+      (ending outcome.fault outcome.status outcome.plan) a) asking)
+  -- of binaries: of what stands at the paths and is decoded, each with what it says, one after the
+  -- other, and all together; what of their output was put, and the status
+  pub binaries : IfSome outcome.binaries (λ b. OfBinaries (λ command more.
+      AreBinariesRun tells command more before now
+      (ending outcome.fault outcome.status outcome.plan) b) asking)
+  -- the same of a part of them, where memory ran out before all were answered
+  pub partly : IfBinaries (λ command more. outcome.fault ≡ Some fault.NoMemory
+      → IfNone outcome.binaries ((same.wire × same.disk)
+      ⊎ ArePartlyRun tells command more before now)) asking
+  -- the two of made packages, over a server that is made too and one cache
+  pub generated : IfSome outcome.generated (IsGeneratedRun asking)
 
--- what the two outputs held and hold, and how often err failed
-pub record Sinks : Type 0 where
-  pub out_before : List ℕ
-  pub out_now : List ℕ
-  pub err_before : List ℕ
-  pub err_now : List ℕ
-  pub err_faults : ℕ
-  pub err_faults_now : ℕ
-
--- the starts of programs before the run, and after it
-pub record Starts : Type 0 where
-  pub before : List Started
-  pub now : List Started
-
--- how a run ended: with what fault, and with what status
-pub record Ending : Type 0 where
-  pub fault : Option RunFault
-  pub status : ℕ
-
--- the lockfile was generated where that was to be; over a runner that starts nothing, as the
--- program's, no run has an audit where one is to be generated
-abbrev pub IsLockfileGenerated : Task → Host → List Started → List Started → Type 0
-IsLockfileGenerated task host before now =
-    RunStartsWhere {T = Unit {0}} (task_generates task host) before now (Ok tt)
-
--- the text for out, and that for err without the lines of `fix`, by what was made of the audit
-abbrev pub task_output : Task → Asked → Audited → Result Made RunFault → Output
-task_output task given audited it =
-    output_by (output_of task.command.verdicts (shown_of given) given.place audited) audited it
-
--- the lines of `fix`
-abbrev pub task_lines : Task → Asked → Audited → List (Option ℤ) → List ℕ
-task_lines task given audited statuses =
-    lines_behind (steps_of task.remedy given.advisories audited) statuses
-    (remedy_lines_in task.command.verdicts task.remedy given.advisories audited statuses)
-
--- the fault with which a run ends that couldn't make what it was to, which is want of memory where
--- none was left to tell it; once it was made, a put failed, steps couldn't be started, or memory
--- ran out; and the status of a run that ends without a fault
-pub record IsEndBy (task : Task) (given : Asked) (audited : Audited) (it : Result Made RunFault)
-    (ending : Ending) : Type 0 where
-  pub unmade : IfErr it (λ reason. (ending.fault ≡ Some reason)
-      ⊎ (ending.fault ≡ Some fault.NoMemory))
-  pub made : IfOk it (λ what. IfSome ending.fault IsFinishFault)
-  pub status : IfOk it (λ what. ending.fault ≡ None
-      → ending.status ≡ made_status task.remedy given.advisories audited what)
-
--- once it has what it asked for: the audit is that by an auditor of the settings and advisories
--- that were asked for, of the lockfile's text; then what is to be made of it was made, as the audit
--- left the cache; its output was put, and then the lines of `fix`, whose steps were started
-pub record IsGivenRun (tells : Telling) (task : Task) (given : Asked) (began ended : Moment)
-    (hosts : Hosts) (starts : Starts) (sinks : Sinks) (ending : Ending)
-    (plan : Option (List PlanItem)) (audited : Audited) : Type 0 where
-  pub left : Moment
-  pub audit : IsAuditOf (auditor_of given.config given.advisories) tells.wire tells.disk
-      began left given.text audited
-  -- what was made of it, or why it couldn't be
-  pub it : Result Made RunFault
-  pub is_made : IsMade task.remedy (making tells.files tells.disk given.advisories given.baseline
-      audited left ended hosts.before hosts.now) it
-  pub is_plan : plan ≡ plan_in it
-  pub statuses : List (Option ℤ)
-  pub started : AreStarted tells.runner (steps_of task.remedy given.advisories audited)
-      starts.before starts.now statuses ending.fault
-  pub out : tells.out → IsPutBy sinks.out_before (task_output task given audited it).out
-      ending.fault sinks.out_now
-  pub err : tells.err → IsEnded (place_of task.command.file) sinks.err_before
-      ((task_output task given audited it).err ++ task_lines task given audited statuses)
-      ending.fault sinks.err_now sinks.err_faults sinks.err_faults_now
-  -- where a step was started, the whole text for out stands there
-  pub shown : (starts.now ≡ starts.before)
-      ⊎ (tells.out → sinks.out_now ≡ sinks.out_before ++ (task_output task given audited it).out)
-  pub is_end : IsEndBy task given audited it ending
-
--- the audit of a run: what the host has gives what was asked, of which nothing but standard input
--- is used up; the steps stand behind the start that generates a lockfile
-pub record IsRunOf (tells : Telling) (task : Task) (hosts : Hosts) (began ended : Moment)
-    (starts : Starts) (sinks : Sinks) (ending : Ending) (plan : Option (List PlanItem))
-    (audited : Audited) : Type 0 where
-  pub given : Asked
-  pub gives : tells.files → task_asked task hosts.before (pos 0) ≡ Ok given
-  pub there : Host
-  pub is_there : tells.files → StaysButInput (IsInput (place_of task.command.file))
-      hosts.before there
-  pub generated : List Started
-  pub at_most : tells.runner → StartsAtMost starts.before generated
-  pub is_generated : tells.files → tells.runner
-      → IsLockfileGenerated task hosts.before starts.before generated
-  pub run : IsGivenRun tells task given began ended
-      (record { before = there; now = hosts.now })
-      (record { before = generated; now = starts.now }) sinks ending plan audited
-
--- and the words are those of this audit
-abbrev pub IsRun : Telling → List (List ℕ) → Hosts → Moment → Moment → Starts → Sinks → Ending
-    → Option (List PlanItem) → Audited → Type 0
-IsRun tells words hosts began ended starts sinks ending plan audited =
-    (task : Task) × (task_of (command_of words) ≡ Some task)
-    × IsRunOf tells task hosts began ended starts sinks ending plan audited
+-- a run, from what is outside before it to what is outside behind it
+pub record IsRun (tells : Telling) (asking : Asking) (same : Uncalled) (before now : World)
+    (outcome : Outcome) : Type 0 where
+  -- the audits: what each says, what is made of it, what of its output was put, which steps were
+  -- started, and the status
+  pub audits : AreAudits tells asking same before now outcome
+  -- where there is an audit
+  pub has : HasAudits asking outcome
+  -- the status of a fault, and where a text alone is printed; the fault of words that break a rule
+  pub ends : EndsBy asking outcome
+  -- why it has a fault, and which counts rose then
+  pub causes : HasCauses (CauseOf tells.files asking before.host) before now outcome.fault
+  -- a run that has all that it asks for, and of which no call on host or outputs fails, ends without
+  -- a fault but want of memory, or that a registry couldn't be made
+  pub complete : tells.files → IsReady asking before.host → AllStayed before now
+      → IsComplete outcome.fault
+  -- without an audit of a lockfile: what was started, and what stays of what the host has
+  pub unaudited : IfNone outcome.audited (IsUnaudited tells asking before now outcome.fault)
+  -- without an audit of what the host has: what is put, and what stays
+  pub unmade : IfNone outcome.audited (IfNone outcome.binaries
+      (IsUnmade tells asking same before now outcome.fault))
+  -- which calls on the host failed; without an audit it was one of asking
+  pub failed : tells.files → HasFailedCalls tells.runner asking before now outcome
+  -- however it ends, a kept disk is kept at every moment where the exchanges were honest
+  pub kept : tells.wire → tells.disk
+      → StaysKept before.exchanges now.exchanges before.files now.files
+  -- however it ends, what it leaves of what is outside, by the words and what the host had
+  pub leaves : Leaves tells asking same before now

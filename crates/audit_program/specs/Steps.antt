@@ -1,7 +1,7 @@
 -- The steps of `fix` as a run started them (this project).
 use Rattle.std.specs.Prelude.{◌≡◌, ◌<◌, ℕ, ℤ, List, length, Option, Some, None}
-use Rattle.audit_asked.specs.declared.faults.RunFault.{RunFault}
-use Rattle.audit_asked.specs.declared.faults.RunFault.TheVariants as fault
+use Rattle.audit_program.specs.declared.faults.RunFault.{RunFault}
+use Rattle.audit_program.specs.declared.faults.RunFault.TheVariants as fault
 use Rattle.audit_asked.specs.declared.runners.Started.{Started}
 use Rattle.audit_fix.specs.Steps.{StartsEach, StartsPart, failed_starts}
 use Rattle.audit_fix.specs.declared.plans.FixStep.{FixStep}

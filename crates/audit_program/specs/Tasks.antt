@@ -1,63 +1,21 @@
--- Which audit of a lockfile the words ask for, and what is done with it (this project, after
--- cargo-audit).
-use Rattle.std.specs.Prelude.{ℕ, ℤ, List, Option, Some, None, Result, Ok}
-use Rattle.std.specs.Option.{option_or}
+-- What an audit of a lockfile asks for, and what is done with it (this project).
+use Rattle.std.specs.Prelude.{◌≡◌, ℕ, ℤ, List, [], Bool, false, Option, Some, None, Result, Ok}
 use Rattle.tame_names.specs.Standing.{Host}
 use Rattle.tame_names.specs.declared.host.FailedCall.{FailedCall}
-use Rattle.audit_settings.specs.declared.commands.AuditCommand.{AuditCommand}
-use Rattle.audit_words.specs.declared.commands.Command.{Command}
-use Rattle.audit_words.specs.declared.commands.Command.TheVariants as command
-use Rattle.audit_words.specs.declared.commands.FixCommand.{FixCommand}
-use Rattle.audit_words.specs.declared.commands.WordsFault.{WordsFault}
-use Rattle.audit_asked.specs.Asked.{IsAskedCall, asked}
+use Rattle.audit_settings.specs.declared.configs.AuditConfig.{AuditConfig}
+use Rattle.audit_asked.specs.Asked.{IsAskedCall, IsOrderedCall, asked, generates}
+use Rattle.audit_asked.specs.Places.{place_of}
 use Rattle.audit_asked.specs.Refusals.{Refused}
+use Rattle.audit_asked.specs.Settings.{settled}
 use Rattle.audit_asked.specs.declared.asking.Asked.{Asked}
+use Rattle.audit_asked.specs.declared.runners.Started.{Started}
+use Rattle.audit_program.specs.Jobs.{Asking, OfTask}
+use Rattle.audit_program.specs.declared.tasks.Job.TheVariants as job
 use Rattle.audit_program.specs.declared.tasks.Remedy.{Remedy}
-use Rattle.audit_program.specs.declared.tasks.Remedy.TheVariants.{Report, Fix, Plan, Baseline, WriteBaseline, Vendor}
+use Rattle.audit_program.specs.declared.tasks.Remedy.TheVariants.{Plan, Baseline, WriteBaseline, Vendor}
 use Rattle.audit_program.specs.declared.tasks.Task.{Task}
 
--- ---- by the words
-
--- the audit that `fix` makes: a lockfile that is named behind it stands for that of `audit`
-abbrev pub fix_command : AuditCommand → FixCommand → AuditCommand
-fix_command audit more = record audit { file = option_or more.file audit.file }
-
-abbrev pub fix_task : AuditCommand → FixCommand → Task
-fix_task audit more =
-    record { command = fix_command audit more; remedy = Fix more.dry_run }
-
--- of `audit`, with a baseline or without one, of `fix`, `plan` and `vendor`; any other words ask
--- for none
-abbrev pub task_of : Result Command WordsFault → Option Task
-task_of (Ok (command.Audit audit)) = Some (record { command = audit; remedy = Report })
-task_of (Ok (command.Fix audit more)) = Some (fix_task audit more)
-task_of (Ok (command.Plan audit)) = Some (record { command = audit; remedy = Plan })
-task_of (Ok (command.Baseline audit path)) =
-    Some (record { command = audit; remedy = Baseline path })
-task_of (Ok (command.WriteBaseline audit path)) =
-    Some (record { command = audit; remedy = WriteBaseline path })
-task_of (Ok (command.Vendor audit more)) = Some (record { command = audit; remedy = Vendor more })
-task_of _ = None
-
--- audits of binaries
-abbrev pub AsksForBinaries : Result Command WordsFault → Type 0
-AsksForBinaries (Ok (command.Bin audit more)) = Unit {0}
-AsksForBinaries _ = ⊥
-
--- the options of `audit`, which stand in front of `bin` too
-abbrev pub binaries_options : Result Command WordsFault → Option AuditCommand
-binaries_options (Ok (command.Bin audit more)) = Some audit
-binaries_options _ = None
-
-abbrev pub options_by : Option Task → Option AuditCommand → Option AuditCommand
-options_by (Some task) other = Some task.command
-options_by None other = other
-
--- the options of `audit` that the words have
-abbrev pub options_of : Result Command WordsFault → Option AuditCommand
-options_of words = options_by (task_of words) (binaries_options words)
-
--- ---- what a task asks for
+-- ---- what it asks for
 
 -- the baseline that is named
 abbrev pub baseline_path : Remedy → Option (List ℕ)
@@ -72,6 +30,36 @@ task_asked task host status = asked task.command (baseline_path task.remedy) hos
 abbrev pub IsTaskCall : Task → Host → List ℕ → FailedCall → Type 0
 IsTaskCall task host told call =
     IsAskedCall task.command (baseline_path task.remedy) host told call
+
+-- the same with what was started until then: nothing before the lockfile's place is known, and
+-- behind it the start that generates a lockfile, where one has to be generated
+abbrev pub IsOrderedTaskCall : Task → Host → List Started → List Started → List ℕ → FailedCall
+    → Type 0
+IsOrderedTaskCall task host before now told call =
+    IsOrderedCall task.command (baseline_path task.remedy) host before now told call
+
+-- a lockfile is generated
+abbrev pub task_generates : Task → Host → Bool
+task_generates task host = generates task.command host (settled task.command host)
+
+-- the lockfile's path by the words
+abbrev pub task_place : Task → List ℕ
+task_place task = place_of task.command.file
+
+-- the same of all that may be asked for
+abbrev pub asking_generates : Asking → Host → Bool
+asking_generates (Ok (job.Lockfile task)) host = task_generates task host
+asking_generates _ host = false
+
+abbrev pub asking_place : Asking → List ℕ
+asking_place (Ok (job.Lockfile task)) = task_place task
+asking_place _ = []
+
+-- the settings under the options of `audit`, of lockfiles and of binaries
+abbrev pub Settles : Asking → Host → AuditConfig → Type 0
+Settles (Ok (job.Lockfile task)) host config = settled task.command host ≡ Ok config
+Settles (Ok (job.Binaries command more)) host config = settled command host ≡ Ok config
+Settles _ host config = ⊥
 
 -- ---- what is done with the audit
 
@@ -92,10 +80,6 @@ abbrev pub MakesRegistry : Remedy → Type 0
 MakesRegistry (Vendor more) = Unit {0}
 MakesRegistry _ = ⊥
 
--- the words ask for an audit with which this is done
-abbrev pub IsWith : (Remedy → Type 0) → Option Task → Type 0
-IsWith P (Some task) = P task.remedy
-IsWith P None = ⊥
-
-abbrev pub AsksWith : (Remedy → Type 0) → Result Command WordsFault → Type 0
-AsksWith P words = IsWith P (task_of words)
+-- an audit is asked for with which this is done
+abbrev pub AsksWith : (Remedy → Type 0) → Asking → Type 0
+AsksWith P asking = OfTask (λ task. P task.remedy) asking

@@ -1,29 +1,49 @@
 -- What a run does that has no audit (this project).
-use Rattle.std.specs.Prelude.{◌≡◌, ◌≢◌, ℕ, List, [], Bool, Option, Some}
+use Rattle.std.specs.Prelude.{◌≡◌, ◌≢◌, ℕ, [], Option, Some, IfNone}
 use Rattle.tame_names.specs.Standing.{IsInput, StaysButInput}
 use Rattle.audit_asked.specs.Starts.{StartsAtMost}
-use Rattle.audit_asked.specs.declared.faults.RunFault.{RunFault}
-use Rattle.audit_asked.specs.declared.faults.RunFault.TheVariants as fault
-use Rattle.audit_program.specs.Calls.{StartsWhere}
-use Rattle.audit_program.specs.Outputs.{IsEnded, IsPutBy}
-use Rattle.audit_program.specs.Runs.{Hosts, Sinks, Starts, Telling}
+use Rattle.audit_program.specs.Calls.{AddsCalls, AddsRunCall, StartsWhere}
+use Rattle.audit_program.specs.Jobs.{Asking, IfTask}
+use Rattle.audit_program.specs.Outputs.{IsEnded, IsPutBy, plain_text}
+use Rattle.audit_program.specs.Tasks.{IsOrderedTaskCall, IsTaskCall, asking_generates, asking_place}
+use Rattle.audit_program.specs.Worlds.{Telling, Uncalled, World}
+use Rattle.audit_program.specs.declared.outcomes.Outcome.{Outcome}
+use Rattle.audit_program.specs.declared.faults.RunFault.{RunFault}
+use Rattle.audit_program.specs.declared.faults.RunFault.TheVariants as fault
+use Rattle.audit_program.specs.declared.tasks.Task.{Task}
 
 -- without an audit of a lockfile: at most the start that generates one, as it ended, and one start
 -- failed where that is the fault; and what the host has stays, but for standard input where it is
 -- the lockfile
-pub record IsUnaudited (tells : Telling) (place : List ℕ) (generates : Bool) (hosts : Hosts)
-    (starts : Starts) (reason : Option RunFault) : Type 0 where
-  pub started : tells.files → tells.runner
-      → StartsWhere generates starts.before starts.now reason
-  pub at_most : tells.runner → StartsAtMost starts.before starts.now
-  pub one_start : (failed : ℕ) → reason ≡ Some (fault.Start failed) → failed ≡ 1
-  pub files : tells.files → StaysButInput (IsInput place) hosts.before hosts.now
-
--- without any audit of what the host has: this text is put, and the fault's line; and but for want
--- of memory all that is outside stays as it was
-pub record IsUnmade (tells : Telling) (text place : List ℕ) (stays : Type 0) (sinks : Sinks)
+pub record IsUnaudited (tells : Telling) (asking : Asking) (before now : World)
     (reason : Option RunFault) : Type 0 where
-  pub out : tells.out → IsPutBy sinks.out_before text reason sinks.out_now
-  pub err : tells.err → IsEnded place sinks.err_before [] reason sinks.err_now
-      sinks.err_faults sinks.err_faults_now
-  pub early : reason ≢ Some fault.NoMemory → stays
+  pub started : tells.files → tells.runner
+      → StartsWhere (asking_generates asking before.host) before.starts now.starts reason
+  pub at_most : tells.runner → StartsAtMost before.starts now.starts
+  pub one_start : (failed : ℕ) → reason ≡ Some (fault.Start failed) → failed ≡ 1
+  pub files : tells.files → StaysButInput (IsInput (asking_place asking)) before.host now.host
+
+-- without any audit of what the host has: the text that is asked for is put, as the lines for made
+-- packages are, and the fault's line; and but for want of memory all that is outside stays
+pub record IsUnmade (tells : Telling) (asking : Asking) (same : Uncalled) (before now : World)
+    (reason : Option RunFault) : Type 0 where
+  pub out : tells.out → IsPutBy before.out (plain_text asking) reason now.out
+  pub err : tells.err → IsEnded (asking_place asking) before.err [] reason now.err
+      before.err_faults now.err_faults
+  pub early : reason ≢ Some fault.NoMemory → same.wire × same.disk × same.decoder
+
+-- ---- calls on the host that failed
+
+-- one of asking; and of what was started until then the runner tells
+pub record HasFailedAsking (told : Type 0) (task : Task) (before now : World)
+    (reason : Option RunFault) : Type 0 where
+  pub call : AddsRunCall (IsTaskCall task before.host) before.failed now.failed reason
+  pub ordered : told → AddsRunCall (IsOrderedTaskCall task before.host before.starts now.starts)
+      before.failed now.failed reason
+
+-- by what is asked for; without an audit of a lockfile it was one of asking
+pub record HasFailedCalls (told : Type 0) (asking : Asking) (before now : World)
+    (outcome : Outcome) : Type 0 where
+  pub calls : AddsCalls asking before.host before.failed now.failed outcome.fault
+  pub unaudited : IfTask (λ task. IfNone outcome.audited
+      (HasFailedAsking told task before now outcome.fault)) asking

@@ -9,9 +9,9 @@ ghost use Rattle.audit_core.specs.Checks.{asked_of};
 ghost use Rattle.audit_core.specs.Turns.{StaysKept};
 ghost use Rattle.audit_program.specs.Causes.{IsAuditFault};
 ghost use Rattle.audit_core.specs.Leaves.{AsksOnly, CallsBy, holding};
-ghost use Rattle.audit_program.specs.Moments.{moment};
+ghost use Rattle.audit_program.specs.Worlds.{moment};
 
-use audit_asked::RunFault;
+use crate::faults::RunFault;
 use audit_core::{AuditError, Audited, Auditor};
 use std::alloc::Global;
 use tame_cache::CacheDisk;

@@ -1,17 +1,15 @@
 //! Runs of `generate`: two audits of made packages.
-ghost use Rattle.std.specs.Prelude.{◌≡◌, ◌⊎◌, ◌≤◌, [], ℕ, Err, Some, None, IsSome, IfSome, IfErr};
+ghost use Rattle.std.specs.Prelude.{◌≡◌, ◌⊎◌, ◌≤◌, Err, Some, None, IsSome, IfSome};
 ghost use Rattle.tame_names.specs.Counts.{CountRose};
 ghost use Rattle.audit_generator.specs.Moments.{IsGenerated};
 ghost use Rattle.audit_generator.specs.Summaries.{summary_for};
-ghost use Rattle.audit_output.specs.Outputs.{IsPrintFault};
 ghost use Rattle.audit_report.specs.Outputs.{IsPut};
-ghost use Rattle.audit_program.specs.Outputs.{IsEnded, IsPutBy};
-ghost use Rattle.audit_program.specs.Statuses.{fault_status};
+ghost use Rattle.audit_program.specs.Outcomes.{PutsAlone};
 
-use crate::ending::{Outcome, failed};
-use audit_asked::RunFault;
+use crate::faults::RunFault;
+use crate::outcomes::{Outcome, failed};
 use audit_generator::{Generated, generate, summary_text};
-use audit_output::put_text;
+use audit_output::{PrintFault, put_text};
 use std::alloc::Global;
 use tame_names::Sink;
 
@@ -21,17 +19,36 @@ fn put_summary<O: Sink>(
     n: u64,
     made: &Generated,
     out: &mut O,
-) -> Result<(), RunFault>
+) -> Result<(), PrintFault>
     requires { IsGenerated n made.now }
     ensures put { O.tells
         → IsPut (O.holds out.old) (summary_for n) (O.holds out.new) result }
     ensures later { O.faults out.old ≤ O.faults out.new }
-    ensures failed { result ≡ Err RunFault.Print → CountRose (O.faults out.old) (O.faults out.new) }
-    ensures only { IfErr result IsPrintFault }
+    ensures failed { result ≡ Err PrintFault.Put → CountRose (O.faults out.old) (O.faults out.new) }
 {
     match summary_text(alloc, n, made) {
         Ok(text) => put_text(out, text.as_str().as_bytes()),
-        Err(_) => Err(RunFault::NoMemory),
+        Err(_) => Err(PrintFault::NoMemory),
+    }
+}
+
+/// Prints the lines that sum two audits up.
+fn tell_generated<O: Sink, E: Sink>(
+    alloc: Global,
+    n: u64,
+    made: &Generated,
+    out: &mut O,
+    err: &mut E,
+) -> Outcome
+    requires { IsGenerated n made.now }
+    ensures alone { PutsAlone O.tells E.tells (summary_for n)
+        (O.holds out.old) (O.holds out.new) (O.faults out.old) (O.faults out.new)
+        (E.holds err.old) (E.holds err.new) (E.faults err.old) (E.faults err.new) result }
+    ensures generated { result.generated ≡ None }
+{
+    match put_summary(alloc, n, made, out) {
+        Ok(()) => Outcome::of_status(0),
+        Err(fault) => failed(alloc, err, "", RunFault::from(fault)),
     }
 }
 
@@ -41,30 +58,12 @@ pub fn run_generated<O: Sink, E: Sink>(alloc: Global, n: u64, out: &mut O, err: 
     ensures generated { IfSome result.generated (IsGenerated n) }
     ensures has_generated { (result.fault ≡ None) ⊎ (result.fault ≡ Some RunFault.Print)
         → IsSome result.generated }
-    ensures audited { result.audited ≡ None }
-    ensures binaries { result.binaries ≡ None }
-    ensures plan { result.plan ≡ None }
-    ensures fault { IfSome result.fault IsPrintFault }
-    ensures rose { result.fault ≡ Some RunFault.Print
-        → CountRose (O.faults out.old) (O.faults out.new) }
-    ensures status { (f : RunFault) → result.fault ≡ Some f → result.status ≡ fault_status f }
-    ensures none { result.fault ≡ None → result.status ≡ 0 }
-    ensures out { O.tells → IsPutBy (O.holds out.old) (summary_for n) result.fault
-        (O.holds out.new) }
-    ensures err { E.tells → IsEnded [] (E.holds err.old) [] result.fault (E.holds err.new)
-        (E.faults err.old) (E.faults err.new) }
+    ensures alone { PutsAlone O.tells E.tells (summary_for n)
+        (O.holds out.old) (O.holds out.new) (O.faults out.old) (O.faults out.new)
+        (E.holds err.old) (E.holds err.new) (E.faults err.old) (E.faults err.new) result }
 {
-    let Ok(made) = generate(alloc, n) else {
-        return failed(alloc, err, "", RunFault::NoMemory);
-    };
-    match put_summary(alloc, n, &made, out) {
-        Ok(()) => Outcome {
-            generated: Some(made),
-            ..Outcome::of_status(0)
-        },
-        Err(fault) => Outcome {
-            generated: Some(made),
-            ..failed(alloc, err, "", fault)
-        },
+    match generate(alloc, n) {
+        Ok(made) => tell_generated(alloc, n, &made, out, err).with_generated(made),
+        Err(_) => failed(alloc, err, "", RunFault::NoMemory),
     }
 }

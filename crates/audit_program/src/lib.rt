@@ -18,20 +18,26 @@
 
 mod auditing;
 mod binary_runs;
-mod ending;
-mod fixing;
+mod fault_lines;
+mod faults;
+mod finishes;
+mod fix_runs;
 mod generating;
 mod laws;
-mod making;
+mod makings;
+mod outcomes;
 mod running;
 mod task_runs;
 mod tasks;
-mod telling;
 
-pub use audit_asked::RunFault;
 pub use audit_words::{
     BinCommand, CONFIG_FILE, Command, FixCommand, VERSION, VendorCommand, WordsFault, read_words,
 };
-pub use ending::Outcome;
-pub use laws::plans_of_runs_tell_what_the_server_held;
+pub use fault_lines::fault_line;
+pub use faults::RunFault;
+pub use laws::{
+    nothing_is_asked_without_a_lockfile, nothing_is_called_where_checks_are_off,
+    plans_of_runs_tell_what_the_server_held, runs_match_the_server, texts_need_no_host,
+};
+pub use outcomes::Outcome;
 pub use running::run;

@@ -1,12 +1,9 @@
 //! The audits of lockfiles that words ask for, and what is done with them.
 ghost use Rattle.std.specs.Prelude.{◌≡◌, ◌≢◌, map, Ok, Err, IfOk, IfErr, option_map, string_bytes};
-ghost use Rattle.audit_asked.specs.Places.{place_of};
-ghost use Rattle.audit_words.specs.Reading.{command_of};
-ghost use Rattle.audit_words.specs.declared.commands.WordsFault.{WordsFault};
 ghost use Rattle.audit_words.specs.declared.commands.WordsFault.TheVariants as WordsFault;
-ghost use Rattle.audit_program.specs.Jobs.{IsJobOf};
-ghost use Rattle.audit_program.specs.Tasks.{baseline_path};
-ghost use Rattle.audit_program.specs.Tasks as spec;
+ghost use Rattle.audit_program.specs.Jobs.{asking_of};
+ghost use Rattle.audit_program.specs.Jobs as spec;
+ghost use Rattle.audit_program.specs.Tasks.{baseline_path, task_place};
 
 use audit_settings::AuditCommand;
 use audit_words::{BinCommand, Command, FixCommand, VendorCommand, WordsFault, read_words};
@@ -42,7 +39,7 @@ pub struct Task {
 impl Task {
     /// The lockfile's path by the words.
     pub fn place(&self) -> &str
-        ensures { result.now ≡ place_of self.now.command.file }
+        ensures { result.now ≡ task_place self.now }
     {
         match &self.command.file {
             Some(path) => path.as_str(),
@@ -93,7 +90,7 @@ pub enum Job {
 
 /// What a command asks for.
 fn job_of(command: Command) -> Job
-    ensures { IsJobOf (Ok command) result }
+    ensures { result ≡ spec.job_of command }
 {
     let (command, remedy) = match command {
         Command::Help => return Job::Help,
@@ -112,11 +109,9 @@ fn job_of(command: Command) -> Job
 
 /// What the words ask for.
 pub fn read_job(alloc: Global, words: &[String]) -> Result<Job, WordsFault>
-    ensures ok { IfOk result (IsJobOf (command_of (map string_bytes words.now))) }
+    ensures ok { IfOk result (λ job. asking_of (map string_bytes words.now) ≡ Ok job) }
     ensures refused { IfErr result (λ e. e ≢ WordsFault.NoMemory
-        → command_of (map string_bytes words.now) ≡ Err e) }
-    ensures usage { IfOk result (λ _. (e : WordsFault)
-        → command_of (map string_bytes words.now) ≡ Err e → ⊥) }
+        → asking_of (map string_bytes words.now) ≡ Err e) }
 {
     Ok(job_of(read_words(alloc, words)?))
 }

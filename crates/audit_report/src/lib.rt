@@ -10,6 +10,21 @@
 //! Version:   0.9.1
 //! Title:     Deep input
 //! ```
+//!
+//! ```ignore
+//! // crates/uses/src/audits.rt: print_audit
+//! let mut presenter = Presenter::new(alloc, config)?;
+//! presenter.before_report(alloc, err, "Cargo.lock", &audited.lockfile)?;
+//! presenter.print_report(
+//!     alloc,
+//!     out,
+//!     err,
+//!     &audited.report,
+//!     database,
+//!     &audited.lockfile,
+//!     None,
+//! )
+//! ```
 #![tactic(auto)]
 
 mod affected;

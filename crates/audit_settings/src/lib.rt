@@ -5,9 +5,10 @@
 //! Stands on `tame_names`, `toml_tables`, and the settings of a report of `audit_advisory`.
 //!
 //! ```ignore
-//! let config = AuditConfig::from_toml(alloc, "[advisories]\nignore = [\"RUSTSEC-2099-0001\"]")?;
-//! let config = command.override_config(alloc, config)?;
-//! let settings = config.report_settings(alloc)?;
+//! // crates/uses/src/audits.rt: offline_settings
+//! let mut config = AuditConfig::from_toml(alloc, text)?;
+//! config.yanked.update_index = false;
+//! Ok(config)
 //! ```
 #![tactic(auto)]
 

@@ -4,6 +4,7 @@ use crate::starting::StartFault;
 use audit_core::AuditCommand;
 use audit_edges::StdFiles;
 use audit_program::{Command, WordsFault, read_words};
+use std::fs;
 use tame_location::LockOptions;
 use tame_names::{Error, FileLock, join};
 
@@ -54,6 +55,15 @@ fn cache_use(rt: &HostRuntime, words: &[String]) -> Result<CacheUse, StartFault>
     }
 }
 
+/// Whether a plain file or nothing is at a path. No link is followed; where the look fails, the
+/// lock's own calls tell.
+fn is_plain(rt: &HostRuntime, path: &str) -> bool {
+    match fs::symlink_metadata(rt, path) {
+        Ok(found) => found.is_file(),
+        Err(_) => true,
+    }
+}
+
 fn tell_waiting(rt: &HostRuntime) {
     let _ = eprintln!(rt; "Blocking waiting for file lock on cache folder");
 }
@@ -61,7 +71,8 @@ fn tell_waiting(rt: &HostRuntime) {
 /// The lock of the cache folder: held exclusively where the words ask for an audit that may write
 /// the cache, with others where it only reads it. Where another run holds it, this waits and says
 /// so. No lock where there is no use for one, or where none can be had: in a folder that may not be
-/// written, or on a file system without locks.
+/// written, on a file system without locks, or where a link, a folder or another thing that is no
+/// plain file stands in the place of the lock's file.
 pub fn cache_lock(
     rt: &HostRuntime,
     words: &[String],
@@ -75,6 +86,9 @@ pub fn cache_lock(
         CacheUse::Reads => LockOptions::new(path.as_str()),
         CacheUse::Writes => LockOptions::new(path.as_str()).exclusive(false),
     };
+    if !is_plain(rt, path.as_str()) {
+        return Ok(FileLock::unlocked());
+    }
     let mut files = StdFiles::new(rt);
     let held = options.lock(rt.alloc(), &mut files, |_: &str| {
         tell_waiting(rt);

@@ -5,7 +5,7 @@ use crate::host::{Failing, Host};
 use crate::play::{Pair, World};
 use crate::standing::{made, said};
 use crate::steps::{Act, Step};
-use crate::ways::{Way, has_way_above, way_to};
+use crate::ways::{Way, below, has_way_above, way_to};
 use audit_edges::FileCacheDisk;
 use std::alloc::{AllocError, Global};
 use std::os::unix::fs::symlink;
@@ -206,7 +206,7 @@ impl<'a> Disks<'a> {
             };
             symlink(rt, target, place.as_str())?;
         }
-        self.nothing()
+        Ok(Pair::nothing(rt.alloc()))
     }
 
     fn note_folder(&mut self, number: usize) {
@@ -215,15 +215,6 @@ impl<'a> Disks<'a> {
                 *folder = true;
             }
         }
-    }
-
-    fn nothing(&self) -> io::Result<Pair> {
-        let alloc = self.host.rt.alloc();
-        Ok(Pair {
-            memory: String::new(alloc),
-            real: String::new(alloc),
-            known: false,
-        })
     }
 
     /// What stands at the places, as the disk in memory tells it.
@@ -270,15 +261,10 @@ fn may_fail(step: &Step) -> bool {
 
 fn failing_of(step: &Step) -> Failing {
     match step.act {
-        _ if !may_fail(step) => Failing::None,
+        _ if !may_fail(step) => step.interrupt(),
         Act::Sync => Failing::Syncs,
         _ => Failing::All,
     }
-}
-
-fn below(host: &Host, folder: &str, path: &str) -> io::Result<String> {
-    let folder = host.place(folder)?;
-    Ok(format!(in host.rt.alloc(); "{folder}/{path}")?)
 }
 
 fn is_folder(host: &Host, folder: &str, path: &str) -> io::Result<bool> {
@@ -301,7 +287,7 @@ impl<'a> World for Disks<'a> {
             Act::Again => {
                 self.open_anew();
                 let _ = self.pass_over()?;
-                self.nothing()
+                Ok(Pair::nothing(alloc))
             }
             Act::LayFile | Act::LayFolder | Act::LayLink => {
                 let _ = self.pass_over()?;

@@ -1,4 +1,5 @@
 //! The host's files below a folder, whose calls may be made to fail or to be short.
+use crate::turning::Turn;
 use std::alloc::Global;
 use std::cell::Cell;
 use std::fs::{self, File, Metadata, OpenFile, OpenOptions};
@@ -13,12 +14,20 @@ pub enum Failing {
     /// The syncs alone.
     Syncs,
     All,
+    /// All but the first.
+    Later,
+    /// The first is interrupted, and no other one fails.
+    Interrupted,
 }
 
 /// What befalls the calls of a host, and what it has but for files.
 #[derive(Drop)]
 pub struct Plan {
     pub failing: Cell<Failing>,
+    /// How many calls were made since it was said which fail.
+    pub calls: Cell<u64>,
+    /// What changes before one of the calls that name a path.
+    pub turn: Cell<Turn>,
     /// The most bytes that one call reads or writes.
     pub most: usize,
     /// That the system syncs what it is asked to; it takes long, and nothing shows it.
@@ -32,18 +41,22 @@ pub struct Plan {
 }
 
 impl Plan {
-    /// A denied permission, where all calls fail.
+    /// Counts a call, and fails where it is to fail.
     fn call(&self) -> io::Result<()> {
+        let before = self.calls.get();
+        self.calls.set(before.saturating_add(1));
         match self.failing.get() {
             Failing::All => Err(io::Error::from(ErrorKind::PermissionDenied)),
+            Failing::Later if before > 0 => Err(io::Error::from(ErrorKind::PermissionDenied)),
+            Failing::Interrupted if before == 0 => Err(io::Error::from(ErrorKind::Interrupted)),
             _ => Ok(()),
         }
     }
 
     fn sync_call(&self) -> io::Result<()> {
         match self.failing.get() {
-            Failing::None => Ok(()),
-            _ => Err(io::Error::from(ErrorKind::Other)),
+            Failing::Syncs => Err(io::Error::from(ErrorKind::Other)),
+            _ => self.call(),
         }
     }
 }
@@ -68,11 +81,13 @@ impl<'a> Host<'a> {
 
     /// Begins a call whose calls on the system fail so.
     pub fn begin(&self, failing: Failing) {
+        self.plan.calls.set(0);
         self.plan.failing.set(failing);
     }
 
     /// Where a path of a call leads, unless it fails.
     pub fn called(&self, path: &str) -> io::Result<String> {
+        self.come_nearer()?;
         self.plan.call()?;
         self.place(path)
     }

@@ -117,6 +117,18 @@ fn is_failing(step: &Step, path: &str) -> bool {
     }
 }
 
+/// What befalls the calls on the system of a step. The input is read by none that can be made
+/// again.
+fn failing_of(step: &Step, path: &str) -> Failing {
+    if is_failing(step, path) {
+        return Failing::All;
+    }
+    match step.act {
+        Act::ReadInput => Failing::None,
+        _ => step.interrupt(),
+    }
+}
+
 /// The numbers of the calls in memory that are to fail: of each step one, and behind it two for
 /// each place that is compared.
 pub fn failing(alloc: Global, paths: &[String], steps: &[Step]) -> io::Result<Items<u64>> {
@@ -228,9 +240,7 @@ impl<'a> World for Hosts<'a> {
             limit: step.amount,
             bytes: bytes.as_slice(),
         };
-        if is_failing(step, path.as_str()) {
-            self.host.begin(Failing::All);
-        }
+        self.host.begin(failing_of(step, path.as_str()));
         let pair = match step.act {
             Act::ReadInput => self.read_input(&call),
             _ => self.ask(&call),

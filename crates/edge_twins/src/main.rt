@@ -1,12 +1,16 @@
 //! Random calls, each made on an object in memory and on its real twin. Answers, counts of faults
 //! and what stands afterwards have to be the same.
 //!
-//! Words: the seed, how many sequences, and the number of the first one; without words 1, 3000
-//! and 0. Each sequence begins in a folder of its own, below one that is made in the current
+//! Words: the seed, how many sequences, the number of the first one, and the kind where it is one
+//! alone (`hosts`, `disks`, `wires`, `outputs`, `audits`); without words 1, 4000, 0 and all kinds.
+//! Each sequence begins in a folder of its own, below one that is made in the current
 //! folder and removed at the end. Prints what was compared, with how many steps the two are known
 //! to differ in, so that the real one was asked alone and had to refuse. At the first other
 //! difference it prints the number of the sequence, its shortest part that still differs and both
 //! answers, and ends with status 1.
+//!
+//! `tell FOLDER` and the same numbers make calls of a cache in that folder, one below it for each
+//! number, and tell each call before it is made and its answer behind it; nothing is compared.
 //!
 //! What stands before the first call, which paths there are and how they are written, where input
 //! and current folder come from, how many bytes a call of the system takes and which calls fail
@@ -14,6 +18,7 @@
 //! `disks`.
 #![tactic(auto)]
 
+mod audits;
 mod chance;
 mod disk_calls;
 mod disks;
@@ -25,14 +30,24 @@ mod making;
 mod places;
 mod play;
 mod playing;
+mod recording;
 mod sequences;
+mod serving;
+mod sinks;
 mod standing;
 mod steps;
 mod surroundings;
+mod telling;
+mod turning;
+mod turns;
 mod ways;
+mod wires;
 
 use crate::play::Count;
-use crate::sequences::{Sequence, TWINS, Twins, first_difference, sequence_of, shortened};
+use crate::sequences::{
+    Sequence, TWINS, Twins, first_difference, sequence_of, shortened, twins_named,
+};
+use crate::telling::tell_calls;
 use std::io::ErrorKind;
 use std::process::ExitCode;
 use std::{env, fs, io};
@@ -51,7 +66,7 @@ fn tell(rt: &HostRuntime, base: &str, sequence: &Sequence) -> io::Result<()> {
     short.tell(rt, base)
 }
 
-fn count_of(counts: &mut [Count; 2], twins: Twins) -> Option<&mut Count> {
+fn count_of(counts: &mut [Count; 5], twins: Twins) -> Option<&mut Count> {
     for ((other, _), count) in TWINS.iter().zip(counts.iter_mut()) {
         if *other == twins {
             return Some(count);
@@ -60,7 +75,7 @@ fn count_of(counts: &mut [Count; 2], twins: Twins) -> Option<&mut Count> {
     None
 }
 
-fn tell_counts(rt: &HostRuntime, counts: &[Count; 2]) -> io::Result<()> {
+fn tell_counts(rt: &HostRuntime, counts: &[Count; 5]) -> io::Result<()> {
     for ((_, word), count) in TWINS.iter().zip(counts.iter()) {
         println!(rt;
             "{word}: {} sequences, {} steps, {} of them known to differ",
@@ -70,16 +85,42 @@ fn tell_counts(rt: &HostRuntime, counts: &[Count; 2]) -> io::Result<()> {
     println!(rt; "0 differences")
 }
 
+/// Which sequences are played.
+#[derive(Clone, Copy)]
+struct Numbers {
+    seed: u64,
+    count: u64,
+    first: u64,
+    only: Option<Twins>,
+}
+
+impl Numbers {
+    /// As the words say, from one on.
+    fn read(rt: &HostRuntime, from: usize) -> io::Result<Numbers> {
+        let mut words = env::args(rt)?.skip(from);
+        Ok(Numbers {
+            seed: number(words.next(), 1),
+            count: number(words.next(), 4000),
+            first: number(words.next(), 0),
+            only: match words.next() {
+                Some(word) => twins_named(word.as_str()),
+                None => None,
+            },
+        })
+    }
+
+    fn end(&self) -> u64 {
+        self.first.saturating_add(self.count)
+    }
+}
+
 /// Compares sequences. Whether none differs.
 fn compare(rt: &HostRuntime, base: &str) -> io::Result<bool> {
-    let mut words = env::args(rt)?.skip(1);
-    let seed = number(words.next(), 1);
-    let sequences = number(words.next(), 3000);
-    let first = number(words.next(), 0);
-    let mut counts = [Count::none(); 2];
-    println!(rt; "{sequences} sequences by the seed {seed}")?;
-    for number in first..first.saturating_add(sequences) {
-        let sequence = sequence_of(rt.alloc(), seed, number)?;
+    let numbers = Numbers::read(rt, 1)?;
+    let mut counts = [Count::none(); 5];
+    println!(rt; "{} sequences by the seed {}", numbers.count, numbers.seed)?;
+    for number in numbers.first..numbers.end() {
+        let sequence = sequence_of(rt.alloc(), numbers.seed, number, numbers.only)?;
         let Some(count) = count_of(&mut counts, sequence.twins) else {
             continue;
         };
@@ -111,7 +152,24 @@ fn compare_in(rt: &HostRuntime, folder: &str) -> io::Result<bool> {
     compare(rt, base.as_str())
 }
 
+/// Tells the calls of sequences in a folder.
+fn tell_all(rt: &HostRuntime, folder: &str) -> io::Result<bool> {
+    let numbers = Numbers::read(rt, 3)?;
+    for number in numbers.first..numbers.end() {
+        let cache = format!(in rt.alloc(); "{folder}/{number}")?;
+        println!(rt; "cache {cache}")?;
+        tell_calls(rt, cache.as_str(), numbers.seed, number)?;
+    }
+    Ok(true)
+}
+
 fn run(rt: &HostRuntime) -> io::Result<bool> {
+    let mut words = env::args(rt)?.skip(1);
+    if let (Some(word), Some(folder)) = (words.next(), words.next()) {
+        if word.as_str() == "tell" {
+            return tell_all(rt, folder.as_str());
+        }
+    }
     let folder = new_folder(rt)?;
     let compared = compare_in(rt, folder.as_str());
     fs::remove_dir_all(rt, folder.as_str())?;

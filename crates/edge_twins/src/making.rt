@@ -171,3 +171,109 @@ pub fn disk_steps(alloc: Global, chance: &mut Chance) -> Result<Vec<Step>, Alloc
     }
     Ok(steps)
 }
+
+const WIRE_CALLS: [Act; 18] = [
+    Act::LayFile,
+    Act::LayFile,
+    Act::LayTag,
+    Act::LayTag,
+    Act::LayTag,
+    Act::LayFolder,
+    Act::LayLink,
+    Act::Remove,
+    Act::Ask,
+    Act::Ask,
+    Act::Ask,
+    Act::Ask,
+    Act::Ask,
+    Act::Ask,
+    Act::AskTurned,
+    Act::AskTurned,
+    Act::AskTurned,
+    Act::Again,
+];
+
+/// The steps of a wire. Most are for a few places, and a mirror changes at two of them.
+pub fn wire_steps(alloc: Global, chance: &mut Chance) -> Result<Vec<Step>, AllocError> {
+    let mut steps = steps_among(alloc, chance, &WIRE_CALLS, 21)?;
+    for step in steps.iter_mut() {
+        match step.act {
+            Act::LayLink => step.place = 8,
+            Act::LayFile | Act::LayTag | Act::LayFolder | Act::Remove => step.place %= 6,
+            Act::AskTurned => step.place %= 2,
+            _ if step.fill % 4 != 0 => step.place %= 3,
+            _ => {}
+        }
+    }
+    Ok(steps)
+}
+
+/// The steps of an output.
+pub fn sink_steps(alloc: Global, chance: &mut Chance) -> Result<Vec<Step>, AllocError> {
+    steps_among(alloc, chance, &[Act::Put], 1)
+}
+
+const AUDIT_CALLS: [Act; 16] = [
+    Act::LayFile,
+    Act::LayFile,
+    Act::LayFile,
+    Act::LayTag,
+    Act::LayTag,
+    Act::LayEntry,
+    Act::Audit,
+    Act::Audit,
+    Act::Audit,
+    Act::Audit,
+    Act::Audit,
+    Act::Audit,
+    Act::Fetch,
+    Act::Store,
+    Act::Store,
+    Act::Again,
+];
+
+/// The steps of an audit. Every second one is for one crate.
+pub fn audit_steps(alloc: Global, chance: &mut Chance) -> Result<Vec<Step>, AllocError> {
+    let mut steps = steps_among(alloc, chance, &AUDIT_CALLS, 4)?;
+    for step in steps.iter_mut() {
+        if step.fill % 2 == 0 {
+            step.place = 0;
+        }
+    }
+    Ok(steps)
+}
+
+const TOLD_CALLS: [Act; 10] = [
+    Act::Store,
+    Act::Store,
+    Act::Store,
+    Act::Store,
+    Act::Store,
+    Act::Write,
+    Act::Write,
+    Act::Cut,
+    Act::Sync,
+    Act::Again,
+];
+
+/// Calls that are told: first an entry is stored, and calls of their own are on its file.
+pub fn told_steps(alloc: Global, chance: &mut Chance) -> Result<Vec<Step>, AllocError> {
+    let mut steps = steps_among(alloc, chance, &TOLD_CALLS, 4)?;
+    let mut is_first = true;
+    for step in steps.iter_mut() {
+        if is_first {
+            step.act = Act::Store;
+            step.fill = 9;
+        }
+        if is_first || step.act != Act::Store {
+            step.place = 0;
+        }
+        match step.act {
+            Act::Write => step.amount %= 2,
+            Act::Cut => step.amount = step.amount % 50 + 1,
+            _ => {}
+        }
+        is_first = false;
+    }
+    Ok(steps)
+}

@@ -12,6 +12,17 @@ pub struct Pair {
     pub known: bool,
 }
 
+impl Pair {
+    /// Nothing to be told.
+    pub fn nothing(alloc: Global) -> Pair {
+        Pair {
+            memory: String::new(alloc),
+            real: String::new(alloc),
+            known: false,
+        }
+    }
+}
+
 /// Both objects of a kind, and what they stand on.
 pub trait World {
     /// Does a step on both, and answers what they tell of it.

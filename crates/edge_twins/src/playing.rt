@@ -1,4 +1,5 @@
 //! What sequences are played on.
+use crate::audits::{audits_of, index_at, krate_paths};
 use crate::chance::{Chance, contents};
 use crate::disks::{Disks, disk_failing, disk_paths};
 use crate::host::{Failing, Host, Plan};
@@ -6,14 +7,18 @@ use crate::hosts::{Hosts, failing, lay, lay_aside, stated, variables};
 use crate::places::{Spelling, paths_of, spelled};
 use crate::play::{Count, Difference, play};
 use crate::sequences::{Sequence, Twins};
-use crate::standing::made;
+use crate::serving::Mirror;
+use crate::sinks::{Outlet, Sinks, opened_outlet, sink_failing};
+use crate::standing::{made, said};
 use crate::steps::{Step, is_laying};
-use audit_edges::{FileCacheDisk, StdFiles};
+use crate::turning::{MIRROR, UNTURNED};
+use crate::wires::Wires;
+use audit_edges::{FileCacheDisk, MirrorWire, StdFiles, StdSink};
 use std::alloc::{AllocError, Global};
 use std::cell::Cell;
 use std::{env, fs, io};
 use tame_cache::MemCacheDisk;
-use tame_names::{Items, MemFiles, Text};
+use tame_names::{Items, MemFiles, MemSink, Text};
 
 /// What a host has but for files, by a number.
 pub fn plan_of(alloc: Global, variant: u64) -> Result<Plan, AllocError> {
@@ -27,6 +32,8 @@ pub fn plan_of(alloc: Global, variant: u64) -> Result<Plan, AllocError> {
     };
     Ok(Plan {
         failing: Cell::new(Failing::None),
+        calls: Cell::new(0),
+        turn: Cell::new(UNTURNED),
         most: chance.among(&[1000, 4096, 8191, 1000000]) as usize,
         syncs: chance.below(32) == 0,
         input: contents(alloc, input, variant)?,
@@ -136,6 +143,76 @@ fn play_disks(
     play(&mut disks, steps, count)
 }
 
+/// The folder of a mirror, as it is written.
+fn mirror_folder(host: &Host, variant: u64) -> io::Result<String> {
+    let alloc = host.rt.alloc();
+    match variant % 3 {
+        0 => said(alloc, MIRROR),
+        1 => Ok(format!(in alloc; "./{MIRROR}/")?),
+        _ => Ok(format!(in alloc; "{}/{MIRROR}", whole_base(host)?)?),
+    }
+}
+
+fn play_wires(
+    host: &Host,
+    sequence: &Sequence,
+    count: &mut Count,
+) -> io::Result<Option<Difference>> {
+    let folder = mirror_folder(host, sequence.variant)?;
+    let mut paths = disk_paths(host.rt.alloc())?;
+    paths.push(said(host.rt.alloc(), "k.etag")?)?;
+    if sequence.variant % 5 > 0 {
+        fs::create_dir_all(host.rt, host.place("mirror/a")?.as_str())?;
+    }
+    let mut wires = Wires {
+        mirror: Mirror {
+            host,
+            folder: folder.as_str(),
+            paths: paths.get(..8).unwrap_or(&[]),
+        },
+        paths: paths.as_slice(),
+        real: MirrorWire::new(host, folder.as_str()),
+    };
+    play(&mut wires, sequence.steps.as_slice(), count)
+}
+
+fn play_sinks(
+    host: &Host,
+    sequence: &Sequence,
+    count: &mut Count,
+) -> io::Result<Option<Difference>> {
+    let alloc = host.rt.alloc();
+    let steps = sequence.steps.as_slice();
+    let outlet = Outlet::of(sequence.variant);
+    let mut sinks = Sinks {
+        host,
+        outlet,
+        memory: MemSink::new(alloc, sink_failing(alloc, outlet, steps)?),
+        real: StdSink::new(opened_outlet(host, outlet)?),
+    };
+    play(&mut sinks, steps, count)
+}
+
+fn play_audits(
+    host: &Host,
+    sequence: &Sequence,
+    count: &mut Count,
+) -> io::Result<Option<Difference>> {
+    let alloc = host.rt.alloc();
+    let folder = mirror_folder(host, sequence.variant)?;
+    let paths = krate_paths(alloc)?;
+    let index = index_at(
+        alloc,
+        if sequence.variant % 2 == 0 {
+            ""
+        } else {
+            "index"
+        },
+    )?;
+    let mut audits = audits_of(host, folder.as_str(), paths.as_slice(), index);
+    play(&mut audits, sequence.steps.as_slice(), count)
+}
+
 /// Plays a sequence up to its first difference.
 pub fn played(
     host: &Host,
@@ -145,5 +222,8 @@ pub fn played(
     match sequence.twins {
         Twins::Hosts => play_hosts(host, sequence, count),
         Twins::Disks => play_disks(host, sequence, count),
+        Twins::Wires => play_wires(host, sequence, count),
+        Twins::Sinks => play_sinks(host, sequence, count),
+        Twins::Audits => play_audits(host, sequence, count),
     }
 }

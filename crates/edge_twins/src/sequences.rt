@@ -1,7 +1,7 @@
 //! Sequences by number, the first difference of one, and the shortest part of it that differs.
 use crate::chance::Chance;
 use crate::host::Host;
-use crate::making::{disk_steps, host_steps};
+use crate::making::{audit_steps, disk_steps, host_steps, sink_steps, wire_steps};
 use crate::play::{Count, Difference, without};
 use crate::playing::{plan_of, played};
 use crate::steps::{Step, step_line};
@@ -13,12 +13,21 @@ use std::{fs, io};
 pub enum Twins {
     Hosts,
     Disks,
+    Wires,
+    Sinks,
+    Audits,
 }
 
 /// All of them, with what is told of them, in the order of their counts.
-pub const TWINS: [(Twins, &str); 2] = [
+pub const TWINS: [(Twins, &str); 5] = [
     (Twins::Hosts, "hosts: MemFiles and StdFiles"),
     (Twins::Disks, "disks: MemCacheDisk and FileCacheDisk"),
+    (Twins::Wires, "wires: ServeWire and MemWire, and MirrorWire"),
+    (Twins::Sinks, "outputs: MemSink and StdSink"),
+    (
+        Twins::Audits,
+        "audits: an index over those in memory, and over a mirror and real files",
+    ),
 ];
 
 /// A sequence: what it compares, its steps, and the number that its surroundings come from.
@@ -31,20 +40,45 @@ pub struct Sequence {
 
 /// What the sequence of a number compares.
 fn twins_of(number: u64) -> Twins {
-    match number % 10 {
-        0..=4 => Twins::Hosts,
-        _ => Twins::Disks,
+    match number % 20 {
+        0 | 2 | 4 | 6 | 8 => Twins::Hosts,
+        10 | 12 | 14 | 16 | 18 => Twins::Disks,
+        1 | 3 | 5 | 7 | 9 => Twins::Wires,
+        11 => Twins::Sinks,
+        _ => Twins::Audits,
     }
 }
 
-/// The sequence of a number, of those that a seed gives.
-pub fn sequence_of(alloc: Global, seed: u64, number: u64) -> Result<Sequence, AllocError> {
-    let mut chance = Chance::of(seed.wrapping_mul(1000003).wrapping_add(number));
+/// What a word names, as the text of it begins.
+pub fn twins_named(word: &str) -> Option<Twins> {
+    for (twins, text) in TWINS {
+        if text.split_once(':').unwrap_or((text, "")).0 == word {
+            return Some(twins);
+        }
+    }
+    None
+}
+
+/// The sequence of a number, of those that a seed gives: of all kinds, or of one. Of all kinds two
+/// numbers that follow each other have the same choices, and compare different things.
+pub fn sequence_of(
+    alloc: Global,
+    seed: u64,
+    number: u64,
+    only: Option<Twins>,
+) -> Result<Sequence, AllocError> {
+    let (twins, place) = match only {
+        Some(twins) => (twins, number),
+        None => (twins_of(number), number / 2),
+    };
+    let mut chance = Chance::of(seed.wrapping_mul(1000003).wrapping_add(place));
     let variant = chance.number();
-    let twins = twins_of(number);
     let steps = match twins {
         Twins::Hosts => host_steps(alloc, &mut chance)?,
         Twins::Disks => disk_steps(alloc, &mut chance)?,
+        Twins::Wires => wire_steps(alloc, &mut chance)?,
+        Twins::Sinks => sink_steps(alloc, &mut chance)?,
+        Twins::Audits => audit_steps(alloc, &mut chance)?,
     };
     Ok(Sequence {
         twins,

@@ -1,4 +1,5 @@
 //! The steps of a sequence.
+use crate::host::Failing;
 use std::alloc::{AllocError, Global};
 
 /// What a step does.
@@ -26,6 +27,19 @@ pub enum Act {
     Cut,
     Sync,
     Again,
+    // what becomes of a mirror
+    LayTag,
+    Remove,
+    // exchanges, and exchanges while the mirror changes
+    Ask,
+    AskTurned,
+    // an output
+    Put,
+    // the cache of an index
+    LayEntry,
+    Audit,
+    Fetch,
+    Store,
 }
 
 /// A step: what it does, and by which place, number, bytes and failure. Each act takes what it
@@ -45,6 +59,17 @@ pub struct Step {
     pub fill: u64,
     /// That its calls on the system fail.
     pub fails: bool,
+}
+
+impl Step {
+    /// What befalls the calls on the system of a step that doesn't fail.
+    pub fn interrupt(&self) -> Failing {
+        if self.fill % 11 == 0 {
+            Failing::Interrupted
+        } else {
+            Failing::None
+        }
+    }
 }
 
 fn act_word(act: Act) -> &'static str {
@@ -68,6 +93,15 @@ fn act_word(act: Act) -> &'static str {
         Act::Cut => "cut",
         Act::Sync => "sync",
         Act::Again => "open anew",
+        Act::LayTag => "lay a tag",
+        Act::Remove => "remove",
+        Act::Ask => "ask",
+        Act::AskTurned => "ask while it changes",
+        Act::Put => "put",
+        Act::LayEntry => "lay an entry",
+        Act::Audit => "audit",
+        Act::Fetch => "read an entry",
+        Act::Store => "write an entry",
     }
 }
 

@@ -75,3 +75,9 @@ pub fn has_way_above(host: &Host, folder: &str, path: &str) -> io::Result<bool> 
     }
     Ok(true)
 }
+
+/// Where a path below a folder leads.
+pub fn below(host: &Host, folder: &str, path: &str) -> io::Result<String> {
+    let folder = host.place(folder)?;
+    Ok(format!(in host.rt.alloc(); "{folder}/{path}")?)
+}

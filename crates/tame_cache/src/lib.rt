@@ -6,9 +6,15 @@
 //! caller brings, of which `MemCacheDisk` is one in memory that fails and crashes as it is told.
 //!
 //! ```ignore
-//! let cache = IndexCache::at_path(Text::of(alloc, "index")?);
-//! cache.write_to_cache(alloc, name, CacheWrite::Remote(lines), &revision, &lock, &mut disk)?;
-//! let entry = cache.read_cache_file(alloc, name, &lock, &mut disk)?;
+//! // crates/uses/src/indexes.rt: newest_kept
+//! let lock = FileLock::unlocked();
+//! match cache.read_cache_file(alloc, name, &lock, disk)? {
+//!     Some(entry) => {
+//!         let krate = entry.deserialize(alloc)?;
+//!         Ok(newest_of(alloc, &krate)?)
+//!     }
+//!     None => Ok(None),
+//! }
 //! ```
 #![tactic(auto)]
 

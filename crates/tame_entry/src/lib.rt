@@ -9,14 +9,10 @@
 //! `serde_json`, `json`, `semver`, `hex` and `memchr`.
 //!
 //! ```ignore
+//! // crates/uses/src/indexes.rt: entry_of_body
 //! let lines = JsonLines::validate(body)?;
-//! let revision = Revision::Http(HttpRevision::Etag("x"));
-//! let index = "sparse+https://index.crates.io/";
-//! let file = CacheWrite::Remote(lines).entry(alloc, index, &revision)?;
-//! let krate = match ValidCacheEntry::read(file.as_slice(), index) {
-//!     Ok(entry) => entry.to_krate(alloc, None)?,
-//!     Err(fault) => return Err(fault.into()),
-//! };
+//! let revision = Revision::Http(HttpRevision::Etag(tag));
+//! Ok(CacheWrite::Remote(lines).entry(alloc, index, &revision)?)
 //! ```
 #![tactic(auto)]
 

@@ -2,6 +2,7 @@
 use Rattle.std.proofs.Common.{◌≡◌, ℕ, ◌<◌, List, [], ◌∷◌, ◌++◌, length, codes, IsUtf8, IsTrue, is_none, Bool, true, false, cond, All, Option, Some, None, Result, Ok, Err, refl, sym, ap, ◌∙◌, inl, inr, subst, lit<}
 use Rattle.std.specs.Prelude.{unwrap_or}
 use Rattle.std.specs.Cmp.Lexicographic.{slice_cmp}
+use Rattle.std.specs.Option.{ok_or}
 use Rattle.std.specs.Ordering.{nat_cmp}
 use Rattle.std.proofs.lemmas.List.Elements.{All-head, All-nil, All-tail}
 use Rattle.std.proofs.lemmas.Map.Views.{All-insert_key}
@@ -13,7 +14,7 @@ use Rattle.tame_names.specs.declared.host.Listed.{Listed}
 use Rattle.tame_local.specs.CrateFiles.{Lacks, crate_file}
 use Rattle.tame_local.specs.Digests.{has_digest}
 use Rattle.tame_local.specs.Inserts.{HasNoCrate, IsEmptyRegistry, StandsPlain}
-use Rattle.tame_local.specs.Refusals.{NoVersion, OtherDigest, Refusal, and_then, or_refusal}
+use Rattle.tame_local.specs.Refusals.{NoVersion, OtherDigest, LocalRefusal, and_then}
 use Rattle.tame_local.specs.Registries.{bytes_at, crate_file_name, crate_file_names, crates_folder, digest_checked, file_checked, file_if_parts, files_checked, folder_at, index_file, index_of, located_checked, named_unless, records_at, records_in, registry_at, sum_at, sum_in, validated, with_name}
 use Rattle.tame_local.proofs.Agreeing.{AllSound, HasFile, IsSound, Sound, file_of}
 use Rattle.tame_local.proofs.Dashes.{gives_back}
@@ -59,7 +60,7 @@ start_sound r host place plain empty = record {
 
 -- ---- validation
 
-digest_case : (t : Bool) (one other : Result Unit Refusal) → t ≡ true → cond t one other ≡ one
+digest_case : (t : Bool) (one other : Result Unit LocalRefusal) → t ≡ true → cond t one other ≡ one
 digest_case t one other h = rw h refl
 
 located : (host : Host) (r name version : List ℕ) → IsPlace r → (f : HasFile r host.stands name version)
@@ -72,7 +73,7 @@ located host r name version place f =
     ap (λ p. bytes_at p (host.stands p)) (file_is r name place f.utf8 f.named) ∙ ap (bytes_at (file_of r name)) f.index in
     let records : records_at host index ≡ Ok f.agrees.records = ap (and_then records_in) body ∙ f.agrees.read in
     let sum : sum_at host (index_of r) (name, version) ≡ Ok f.agrees.sum =
-    ap (and_then (λ records. or_refusal (NoVersion name version) (sum_in version records))) records ∙ ap (or_refusal (NoVersion name version)) f.agrees.found in
+    ap (and_then (λ records. ok_or (sum_in version records) (NoVersion name version))) records ∙ ap (λ found. ok_or found (NoVersion name version)) f.agrees.found in
     ap (and_then (λ sum. and_then (digest_checked (name, version) sum) (bytes_at path (host.stands path)))) sum
     ∙ ap (and_then (digest_checked (name, version) f.agrees.sum)) bytes
     ∙ digest_case (has_digest f.bytes f.agrees.sum.0) (Ok tt) (Err (OtherDigest name version)) f.agrees.digest
@@ -114,7 +115,7 @@ registry_valid host r place sound =
     ∙ ap (λ s. and_then (λ entries. files_checked host (index_of r) r (crate_file_names [] entries)) (folder_at r s)) sound.folder
     ∙ all_valid host r (crate_file_names [] sound.entries) (names_valid host r [] sound.entries place (All-nil (IsValid host r)) sound.all)
 
-folder_case : (r : List ℕ) (path : List ℕ) (s : Standing) (done : Result Unit Refusal) → is_folder s ≡ true → done ≡ Ok tt
+folder_case : (r : List ℕ) (path : List ℕ) (s : Standing) (done : Result Unit LocalRefusal) → is_folder s ≡ true → done ≡ Ok tt
     → and_then (λ entries. and_then (λ done. Ok r) done) (folder_at path s) ≡ Ok r
 folder_case r path Nothing done h g = cc
 folder_case r path (File bs) done h g = cc

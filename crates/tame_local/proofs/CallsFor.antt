@@ -6,7 +6,7 @@ use Rattle.tame_names.specs.declared.host.FailedCall.{FailedCall}
 use Rattle.tame_names.specs.declared.host.FileCall.{FileCall}
 use Rattle.tame_records.specs.declared.versions.IndexVersion.{IndexVersion}
 use Rattle.tame_sparse.specs.Git.{first_name}
-use Rattle.tame_local.specs.Builders.{Change, Creates, Makes, inserted}
+use Rattle.tame_local.specs.Builders.{HostChange, Creates, Makes, inserted}
 use Rattle.tame_local.specs.Calls.{IsCallFor, IsCallIfParts, IsCallOn, IsCreateCall, IsCreatesCall, IsFilesCall, IsFreeCall, IsInsertCall, IsListingCall, IsRegistryCall, IsValidateCall, IsWriteCall}
 use Rattle.tame_local.specs.CrateFiles.{components}
 use Rattle.tame_local.specs.Registries.{index_file, index_of}
@@ -45,13 +45,13 @@ pub create_for : (host : Host) (registry told : List ℕ) (call : FailedCall) �
 create_for host registry told call (inl h) = free_for host registry told call h
 create_for host registry told call (inr h) = inl (ap (λ c. c.path) h.1.1 ∙ sym (ap Some h.1.0))
 
-creates_for : (changes : List Change) (told : List ℕ) (call : FailedCall) → IsCreatesCall changes told call → IsCallFor told call
+creates_for : (changes : List HostChange) (told : List ℕ) (call : FailedCall) → IsCreatesCall changes told call → IsCallFor told call
 creates_for [] told call h = absurd h
 creates_for (Makes folder ∷ changes) told call h = creates_for changes told call h
 creates_for (Creates path bytes ∷ changes) told call (inl h) = on_for _ path told call h
 creates_for (Creates path bytes ∷ changes) told call (inr h) = creates_for changes told call h
 
-write_for : (file : List ℕ) (changes : List Change) (told : List ℕ) (call : FailedCall) → IsWriteCall file changes told call → IsCallFor told call
+write_for : (file : List ℕ) (changes : List HostChange) (told : List ℕ) (call : FailedCall) → IsWriteCall file changes told call → IsCallFor told call
 write_for file changes told call (inl h) = inr (ap (λ c. c.path) h.1 ∙ ap (λ p. Some (unwrap_or (parent p) [])) (sym h.0))
 write_for file changes told call (inr h) = creates_for changes told call h
 

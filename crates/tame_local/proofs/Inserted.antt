@@ -17,13 +17,13 @@ use Rattle.tame_local.proofs.Standings.{file_stays, folders_nothing, ways_elsewh
 use Rattle.tame_local.specs.Builders.{absent_at, after, crates_made, insertable, written}
 use Rattle.tame_local.specs.CrateFiles.{Lacks, crate_file}
 use Rattle.tame_local.specs.Inserts.{AreInserts, AreOfCrate, Insert, IsInsert, StayValid, after_insert, after_inserts}
-use Rattle.tame_local.specs.Refusals.{Refusal, and_then}
+use Rattle.tame_local.specs.Refusals.{LocalRefusal, and_then}
 use Rattle.tame_local.specs.Registries.{index_file, index_of, named_unless, records_in}
 use Rattle.tame_local.specs.declared.digests.ValidKrate.{ValidKrate}
 
 -- ---- what an insert asks for
 
-named_case : (o : Option NameRefusal) (rest : Result Unit Refusal) → and_then (λ named. rest) (named_unless o) ≡ Ok tt → (is_none o ≡ true) × (rest ≡ Ok tt)
+named_case : (o : Option NameRefusal) (rest : Result Unit LocalRefusal) → and_then (λ named. rest) (named_unless o) ≡ Ok tt → (is_none o ≡ true) × (rest ≡ Ok tt)
 named_case None rest h = (refl, h)
 named_case (Some why) rest h = cc
 

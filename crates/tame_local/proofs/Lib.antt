@@ -1,9 +1,9 @@
 mod Begun
 mod Kept
+pub mod Walked
 pub mod Dashes
 mod Pieces
 mod FileDigests
-pub mod Widened
 pub mod CallsFor
 pub mod RegistryPaths
 pub mod Standings

@@ -7,7 +7,8 @@ use Rattle.std.proofs.lemmas.Bool.{false≢true}
 use Rattle.std.proofs.lemmas.Str.{chars-IsAscii, encodes-IsAscii}
 use Rattle.tame_names.proofs.Ascii.{name-IsAscii, none_found}
 use Rattle.tame_names.proofs.Relative.{path_relative}
-use Rattle.tame_local.specs.CrateFiles.{components, crate_file, dash_from, ending, parted, stem_components}
+use Rattle.tame_local.specs.CrateFiles.{Lacks, components, crate_file, dash_of, ending, parted, stem_components}
+use Rattle.tame_local.proofs.Walked.{dash_from, walk_finds}
 use Rattle.std.proofs.Math.Dec.{eqb-suc-zero}
 use Rattle.std.proofs.lemmas.Bool.{false_from_ne_true}
 use Rattle.std.proofs.lemmas.Bool.Decides.{nat_tests}
@@ -16,7 +17,6 @@ use Rattle.std.proofs.lemmas.Slice.Eq.{bytes_eq-Decides}
 use Rattle.tame_names.specs.Names.{HasCharacter, HasLength, first_invalid, is_name, is_name_char, prefix, relative_path, separator}
 use Rattle.tame_names.specs.Paths.{begins_with_slash, cut_at_last, ends_with_slash, file_name, is_same, join, parent, parent_of_plain, plain_path}
 use Rattle.tame_names.specs.Pieces.{without_end}
-use Rattle.tame_local.specs.CrateFiles.{Lacks}
 
 no_and : (t : Bool) → (t && false) ≡ false
 no_and true = refl
@@ -222,9 +222,12 @@ no_dash : (last : Option ℕ) (at : ℕ) (bs : List ℕ) → Lacks 46 bs → das
 no_dash last at [] h = refl
 no_dash last at (b ∷ bs) h = rw h.0 (no_dash (cond (b == 45) (Some at) last) (suc at) bs h.1)
 
+no_dash_of : (bs : List ℕ) → Lacks 46 bs → dash_of bs ≡ None
+no_dash_of bs h = sym (walk_finds bs) ∙ no_dash None 0 bs h
+
 pub undotted_no_file : (bs : List ℕ) → Lacks 46 bs → components bs ≡ None
 undotted_no_file bs h = stem_case (ends_with nat_eq bs ending)
   where
     stem_case : (t : Bool) → option_and_then stem_components (cond t (Some (take (length bs - 6) bs)) None) ≡ None
     stem_case false = refl
-    stem_case true = ap (option_map (parted (take (length bs - 6) bs))) (no_dash None 0 (take (length bs - 6) bs) (lacks_part 46 (length bs - 6) bs h))
+    stem_case true = ap (option_map (parted (take (length bs - 6) bs))) (no_dash_of (take (length bs - 6) bs) (lacks_part 46 (length bs - 6) bs h))

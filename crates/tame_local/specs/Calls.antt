@@ -15,7 +15,7 @@ use Rattle.tame_names.specs.declared.host.Listed.{Listed}
 use Rattle.tame_records.specs.declared.checksums.Chksum.{Chksum}
 use Rattle.tame_records.specs.declared.versions.IndexVersion.{IndexVersion}
 use Rattle.tame_sparse.specs.Git.{first_name}
-use Rattle.tame_local.specs.Builders.{Change, Makes, Creates, free_at, insertable, inserted}
+use Rattle.tame_local.specs.Builders.{HostChange, Makes, Creates, free_at, insertable, inserted}
 use Rattle.tame_local.specs.CrateFiles.{components}
 use Rattle.tame_local.specs.Registries.{crate_file_names, crates_folder, file_checked, index_file, index_of, sum_at}
 use Rattle.tame_local.specs.declared.digests.ValidKrate.{ValidKrate}
@@ -121,14 +121,14 @@ IsCreateCall host registry told call =
     × IsFolderCall (index_of registry) (index_of registry) told call)
 
 -- the making of one of the files that changes make
-abbrev pub IsCreatesCall : List Change → List ℕ → FailedCall → Type 0
+abbrev pub IsCreatesCall : List HostChange → List ℕ → FailedCall → Type 0
 IsCreatesCall [] told call = ⊥
 IsCreatesCall (Makes folder ∷ changes) told call = IsCreatesCall changes told call
 IsCreatesCall (Creates path bytes ∷ changes) told call =
     IsCallOn file_call.Create path told call ⊎ IsCreatesCall changes told call
 
 -- the making of the folder of an index file, or of one of the files of its changes
-abbrev pub IsWriteCall : List ℕ → List Change → List ℕ → FailedCall → Type 0
+abbrev pub IsWriteCall : List ℕ → List HostChange → List ℕ → FailedCall → Type 0
 IsWriteCall file changes told call =
     IsFolderCall (unwrap_or (parent file) []) file told call ⊎ IsCreatesCall changes told call
 

@@ -6,7 +6,8 @@ use Rattle.tame_names.specs.declared.errors.Error.TheVariants as error
 use Rattle.tame_names.specs.declared.errors.IoKind.TheVariants as io_kind
 use Rattle.tame_names.specs.declared.host.FailedCall.{FailedCall}
 use Rattle.tame_names.specs.declared.host.FileCall.TheVariants as file_call
-use Rattle.tame_location.specs.Homes.{AddsHomeCall, IsHomeCall, IsTold}
+use Rattle.tame_location.specs.Calls as home_calls
+use Rattle.tame_location.specs.Homes.{IsHomeCall, IsTold}
 use Rattle.tame_location.specs.IndexUrls.{is_sparse}
 use Rattle.tame_location.specs.declared.index_urls.IndexUrl.{IndexUrl}
 use Rattle.tame_location.specs.declared.index_urls.IndexUrl.TheVariants as url
@@ -23,44 +24,44 @@ use Rattle.tame_local.specs.declared.combos.ComboIndexCache.{ComboIndexCache}
 use Rattle.tame_local.specs.declared.combos.ComboIndexCache.TheVariants as combo
 
 -- the file of a crate is in the cache of an index, below this path, or in an index at this path
-pub data Kept : Type 0 where
-  InCache : (root url : List ℕ) → Kept
-  InIndex : (index : List ℕ) → Kept
+pub data EntryPlace : Type 0 where
+  InCache : (root url : List ℕ) → EntryPlace
+  InIndex : (index : List ℕ) → EntryPlace
 
-abbrev pub kept_in : ComboIndexCache → Kept
+abbrev pub kept_in : ComboIndexCache → EntryPlace
 kept_in (combo.Git index) = InCache index.cache.path index.cache.index
 kept_in (combo.Sparse index) = InCache index.cache.path index.cache.index
 kept_in (combo.Local index) = InIndex index.path
 kept_in (combo.LocalRegistry registry) = InIndex registry.index.path
 
 -- the path of a crate's file
-abbrev pub file_of : Kept → List ℕ → Option (List ℕ)
+abbrev pub file_of : EntryPlace → List ℕ → Option (List ℕ)
 file_of (InCache root url) name = cache_file_of root name
 file_of (InIndex index) name = Some (index_file index name)
 
 -- its path in a cache; none where it is in an index
-abbrev pub cached_file_of : Kept → List ℕ → Option (List ℕ)
+abbrev pub cached_file_of : EntryPlace → List ℕ → Option (List ℕ)
 cached_file_of (InCache root url) name = cache_file_of root name
 cached_file_of (InIndex index) name = None
 
 -- what a cache hands out of it, where the disk tells it
-abbrev pub IsCached : Kept → File → Option IndexEntry → Type 0
+abbrev pub IsCached : EntryPlace → File → Option IndexEntry → Type 0
 IsCached (InCache root url) file entry = HandsOut url entry file
 IsCached (InIndex index) file entry = Unit {0}
 
 -- what an index hands out of it, where the host tells what it has
-abbrev pub IsIndexed : Kept → List ℕ → Host → Option IndexEntry → Type 0
+abbrev pub IsIndexed : EntryPlace → List ℕ → Host → Option IndexEntry → Type 0
 IsIndexed (InCache root url) name host entry = Unit {0}
 IsIndexed (InIndex index) name host entry = HandsOutFile entry (host.stands (index_file index name))
 
 -- a failed read of a cache, or of the crate's file of an index
-abbrev pub IsCombinedError : Kept → List ℕ → Error → Type 0
+abbrev pub IsCombinedError : EntryPlace → List ℕ → Error → Type 0
 IsCombinedError (InCache root url) name e =
     (e ≡ error.NoMemory) ⊎ (e ≡ error.Io io_kind.Failed)
 IsCombinedError (InIndex index) name e = IsFailedAt (index_file index name) e
 
 -- the reading of the crate's file of an index; in a cache the files aren't called
-abbrev pub IsEntryCall : Kept → List ℕ → List ℕ → FailedCall → Type 0
+abbrev pub IsEntryCall : EntryPlace → List ℕ → List ℕ → FailedCall → Type 0
 IsEntryCall (InCache root url) name told call = ⊥
 IsEntryCall (InIndex index) name told call =
     IsCallOn file_call.Read (index_file index name) told call
@@ -116,4 +117,5 @@ abbrev pub AddsOpenCall : {T : Type 0} → IndexKind → Host → List FailedCal
     → Result T Error → Type 0
 AddsOpenCall (OfFolder path) host before now result =
     AddsFailed (IsCallOn file_call.Kind (index_of path)) before now result
-AddsOpenCall kind host before now result = AddsHomeCall (IsHomeCall host) before now result
+AddsOpenCall kind host before now result =
+    home_calls.AddsFailed (IsHomeCall host) before now result

@@ -1,10 +1,12 @@
 -- The names of crate files: `<name>-<version>.crate` (Cargo Book, "Source Replacement", local
 -- registry sources).
 use Rattle.std.specs.Prelude.{◌≡◌, ℕ, suc, ◌-◌, codes, nat_eq, List, [], ◌∷◌, ◌++◌, length, take, drop, false, Option, Some, None, IsTrue, is_ok, option_and_then, option_map, ◌==◌, if◌then◌else◌}
-use Rattle.std.specs.List.{ends_with}
+use Rattle.std.specs.List.{ends_with, position_or_len}
+use Rattle.std.specs.Path.{rfind_below}
 use Rattle.std.specs.Str.{IsUtf8}
 use Rattle.semver.specs.Parse.{version_parts}
 use Rattle.tame_names.specs.Names.{is_name}
+use Rattle.tame_location.specs.Urls.{has_byte}
 
 -- this byte isn't among these
 abbrev pub Lacks : ℕ → List ℕ → Type 0
@@ -23,19 +25,17 @@ crate_file name version = name ++ 45 ∷ (version ++ ending)
 abbrev pub stem_of : List ℕ → Option (List ℕ)
 stem_of file = if ends_with nat_eq file ending then Some (take (length file - 6) file) else None
 
--- the place of the last `-` in front of the first `.`, for a text that begins at a place, and the
--- last one in front of it; none without a `.`
-abbrev pub dash_from : Option ℕ → ℕ → List ℕ → Option ℕ
-dash_from last at [] = None
-dash_from last at (b ∷ bs) =
-    if b == 46 then last else dash_from (if b == 45 then Some at else last) (suc at) bs
+-- the place of the last `-` in front of the first `.`; none without a `.`
+abbrev pub dash_of : List ℕ → Option ℕ
+dash_of text =
+    if has_byte 46 text then rfind_below 45 text (position_or_len (λ b. b == 46) text) else None
 
 -- a text without the byte at a place: what stands in front of it, and what behind
 abbrev pub parted : List ℕ → ℕ → List ℕ × List ℕ
 parted text at = (take at text, drop (suc at) text)
 
 abbrev pub stem_components : List ℕ → Option (List ℕ × List ℕ)
-stem_components stem = option_map (parted stem) (dash_from None 0 stem)
+stem_components stem = option_map (parted stem) (dash_of stem)
 
 -- name and version of a crate file: what stands in front of the ending, parted at the last `-` in
 -- front of the first `.`

@@ -4,6 +4,7 @@ use Rattle.std.specs.Prelude.{◌≡◌, ℕ, codes, List, [], ◌∷◌, Bool, 
 use Rattle.std.specs.BTreeMap.{BTreeMap, get_by_text}
 use Rattle.std.specs.BTreeSet.{insert_key}
 use Rattle.std.specs.Cmp.Lexicographic.{slice_cmp}
+use Rattle.std.specs.Option.{ok_or}
 use Rattle.std.specs.Ordering.{nat_cmp}
 use Rattle.std.specs.declared.alloc.Global.{Global}
 use Rattle.tame_names.specs.Names.{refusal_of, NameRefusal, relative_path, separator}
@@ -20,7 +21,7 @@ use Rattle.tame_entry.specs.declared.index_entries.IndexEntry.{IndexEntry}
 use Rattle.tame_entry.specs.declared.index_entries.IndexEntry.TheVariants.{Local}
 use Rattle.tame_local.specs.CrateFiles.{components}
 use Rattle.tame_local.specs.Digests.{has_digest}
-use Rattle.tame_local.specs.Refusals.{Refusal, NotAName, NotThere, NotAFolder, NoVersion, OtherDigest, Unsaid, and_then, or_refusal, refused}
+use Rattle.tame_local.specs.Refusals.{LocalRefusal, NotAName, NotThere, NotAFolder, NoVersion, OtherDigest, Unsaid, and_then, refused}
 
 -- ---- places
 
@@ -39,19 +40,19 @@ crates_folder index = unwrap_or (parent index) index
 -- ---- folders
 
 -- what has to be a folder
-abbrev pub folder_at : List ℕ → Standing → Result (List Listed) Refusal
+abbrev pub folder_at : List ℕ → Standing → Result (List Listed) LocalRefusal
 folder_at path Nothing = Err (NotThere path)
 folder_at path (Folder entries) = Ok entries
 folder_at path standing = Err (NotAFolder path)
 
 -- the folder `index` of a path where it is there, and the path itself where it is absent
-abbrev pub index_or_root : List ℕ → Standing → Result (List ℕ) Refusal
+abbrev pub index_or_root : List ℕ → Standing → Result (List ℕ) LocalRefusal
 index_or_root root Nothing = Ok root
 index_or_root root (Folder entries) = Ok (index_of root)
 index_or_root root standing = Err (NotAFolder (index_of root))
 
 -- the folder of a local index: a path whose last part is `index`, or what stands for it
-abbrev pub index_at : Host → List ℕ → Result (List ℕ) Refusal
+abbrev pub index_at : Host → List ℕ → Result (List ℕ) LocalRefusal
 index_at host root =
     if bytes_eq (file_name root) (codes "index") then Ok root
     else index_or_root root (host.stands (index_of root))
@@ -65,21 +66,21 @@ HandsOutFile (Some (Local bytes)) standing = standing ≡ File bytes
 HandsOutFile (Some entry) standing = ⊥
 
 -- the bytes of a file that has to be there
-abbrev pub bytes_at : List ℕ → Standing → Result (List ℕ) Refusal
+abbrev pub bytes_at : List ℕ → Standing → Result (List ℕ) LocalRefusal
 bytes_at path Nothing = Err (NotThere path)
 bytes_at path (File bytes) = Ok bytes
 bytes_at path standing = Err Unsaid
 
-abbrev pub records_unless : Option Error → List ℕ → Result (List IndexVersion) Refusal
+abbrev pub records_unless : Option Error → List ℕ → Result (List IndexVersion) LocalRefusal
 records_unless (Some why) body = Err (refused why)
 records_unless None body = Ok (unwrap_or (records_of (lines body)) [])
 
 -- the records of the lines of an index file, or why it has none
-abbrev pub records_in : List ℕ → Result (List IndexVersion) Refusal
+abbrev pub records_in : List ℕ → Result (List IndexVersion) LocalRefusal
 records_in body = records_unless (unread body) body
 
 -- the records of the index file at a path, which has to be there
-abbrev pub records_at : Host → List ℕ → Result (List IndexVersion) Refusal
+abbrev pub records_at : Host → List ℕ → Result (List IndexVersion) LocalRefusal
 records_at host path = and_then records_in (bytes_at path (host.stands path))
 
 -- the first record of a version
@@ -118,66 +119,66 @@ crate_file_names names (entry ∷ entries) =
 
 -- ---- a registry that agrees with its index
 
-abbrev pub named_unless : Option NameRefusal → Result Unit Refusal
+abbrev pub named_unless : Option NameRefusal → Result Unit LocalRefusal
 named_unless (Some why) = Err (NotAName why)
 named_unless None = Ok tt
 
 -- this is the name of a crate
-abbrev pub name_checked : List ℕ → Result Unit Refusal
+abbrev pub name_checked : List ℕ → Result Unit LocalRefusal
 name_checked name = named_unless (refusal_of name)
 
 -- the checksum of a name and a version: that of the first record of its index file with that
 -- version
-abbrev pub sum_at : Host → List ℕ → List ℕ × List ℕ → Result Chksum Refusal
+abbrev pub sum_at : Host → List ℕ → List ℕ × List ℕ → Result Chksum LocalRefusal
 sum_at host index parts =
-    and_then (λ records. or_refusal (NoVersion parts.0 parts.1) (sum_in parts.1 records))
+    and_then (λ records. ok_or (sum_in parts.1 records) (NoVersion parts.0 parts.1))
     (records_at host (index_file index parts.0))
 
 -- bytes have this digest
-abbrev pub digest_checked : List ℕ × List ℕ → Chksum → List ℕ → Result Unit Refusal
+abbrev pub digest_checked : List ℕ × List ℕ → Chksum → List ℕ → Result Unit LocalRefusal
 digest_checked parts sum bytes =
     if has_digest bytes sum.0 then Ok tt else Err (OtherDigest parts.0 parts.1)
 
 -- the file at a path agrees with the record of a name and a version
-abbrev pub located_checked : Host → List ℕ → List ℕ → List ℕ × List ℕ → Result Unit Refusal
+abbrev pub located_checked : Host → List ℕ → List ℕ → List ℕ × List ℕ → Result Unit LocalRefusal
 located_checked host index path parts =
     and_then (λ sum. and_then (digest_checked parts sum) (bytes_at path (host.stands path)))
     (sum_at host index parts)
 
 -- the file of a name and a version agrees with the index
 abbrev pub parts_checked : Host → List ℕ → List ℕ → List ℕ → List ℕ × List ℕ
-    → Result Unit Refusal
+    → Result Unit LocalRefusal
 parts_checked host index folder file parts =
     and_then (λ named. located_checked host index (join folder file) parts) (name_checked parts.0)
 
 abbrev pub file_if_parts : Host → List ℕ → List ℕ → List ℕ → Option (List ℕ × List ℕ)
-    → Result Unit Refusal
+    → Result Unit LocalRefusal
 file_if_parts host index folder file None = Ok tt
 file_if_parts host index folder file (Some parts) = parts_checked host index folder file parts
 
-abbrev pub file_checked : Host → List ℕ → List ℕ → List ℕ → Result Unit Refusal
+abbrev pub file_checked : Host → List ℕ → List ℕ → List ℕ → Result Unit LocalRefusal
 file_checked host index folder file =
     file_if_parts host index folder file (components file)
 
 -- each of these files, one after the other
-abbrev pub files_checked : Host → List ℕ → List ℕ → List (List ℕ) → Result Unit Refusal
+abbrev pub files_checked : Host → List ℕ → List ℕ → List (List ℕ) → Result Unit LocalRefusal
 files_checked host index folder [] = Ok tt
 files_checked host index folder (file ∷ files) =
     and_then (λ done. files_checked host index folder files) (file_checked host index folder file)
 
 -- every crate file beside an index has the digest of its record, or this is the first reason why
 -- not
-abbrev pub validated : Host → List ℕ → Result Unit Refusal
+abbrev pub validated : Host → List ℕ → Result Unit LocalRefusal
 validated host index =
     and_then (λ entries. files_checked host index (crates_folder index)
     (crate_file_names [] entries))
     (folder_at (crates_folder index) (host.stands (crates_folder index)))
 
-abbrev pub validated_if : Bool → Host → List ℕ → Result Unit Refusal
+abbrev pub validated_if : Bool → Host → List ℕ → Result Unit LocalRefusal
 validated_if validate host index = if validate then validated host index else Ok tt
 
 -- the index of a registry, which agrees with it where that is asked for
-abbrev pub registry_at : Host → List ℕ → Bool → Result (List ℕ) Refusal
+abbrev pub registry_at : Host → List ℕ → Bool → Result (List ℕ) LocalRefusal
 registry_at host registry validate =
     and_then (λ entries. and_then (λ done. Ok (index_of registry))
     (validated_if validate host (index_of registry)))

@@ -4,8 +4,12 @@ ghost use Rattle.tame_names.specs.Counts.{CountRose};
 ghost use Rattle.tame_names.specs.KrateNames.{text_of};
 ghost use Rattle.tame_cache.specs.Disk.{reads};
 ghost use Rattle.tame_local.specs.Combos as spec;
-ghost use Rattle.tame_local.specs.Calls.{AddsFailed};
-ghost use Rattle.tame_local.specs.Combos.{AddsOpenCall, InCache, InIndex, IsCached, IsCombinedError, IsEntryCall, IsIndexed, IsOpenError, IsOpened, cached_file_of, file_of, kept_in, kind_of};
+ghost use Rattle.tame_names.specs.declared.host.FileCall.TheVariants as FileCall;
+ghost use Rattle.tame_location.specs.declared.locations.IndexLocation.{IndexLocation};
+ghost use Rattle.tame_local.specs.Calls.{AddsFailed, HasFileCause, IsCallOn};
+ghost use Rattle.tame_local.specs.Refusals.{IsNoFolderAt};
+ghost use Rattle.tame_local.specs.Registries.{index_of};
+ghost use Rattle.tame_local.specs.Combos.{AddsOpenCall, InCache, InIndex, IsCached, IsCombinedError, IsEntryCall, IsIndexed, IsOpenError, IsOpened, OfFolder, cached_file_of, file_of, kept_in, kind_of};
 
 use crate::indexes::LocalIndex;
 use crate::registries::LocalRegistry;
@@ -39,6 +43,25 @@ fn local_path<'a>(url: &'a IndexUrl<'_>) -> Option<&'a Text>
     }
 }
 
+/// The index in the folder of a path.
+fn folder_index<F: Files>(
+    alloc: Global,
+    files: &mut F,
+    path: &Text,
+) -> Result<ComboIndexCache, Error>
+    ensures opened { F.tells → (ident : ℕ → List ℕ → ℕ) (location : IndexLocation)
+        → IsOpened ident location (F.host files.old) (OfFolder path.now) result }
+    ensures only { IfErr result (IsNoFolderAt (index_of path.now)) }
+    ensures cause { HasFileCause (F.faults files.old) (F.faults files.new) result }
+    ensures failed { F.tells → AddsFailed (IsCallOn FileCall.Kind (index_of path.now))
+        (F.failed files.old) (F.failed files.new) result }
+    ensures same { F.tells → F.host files.new ≡ F.host files.old }
+{
+    let path = path.try_clone(alloc)?;
+    let index = LocalIndex::open(alloc, files, path)?;
+    Ok(ComboIndexCache::Local(index))
+}
+
 impl ComboIndexCache {
     /// The cache of the index at a location, by its url: in the folder of a local path, else of a
     /// sparse index or of one in a git repository. Errors are those of `LocalIndex::open`,
@@ -63,8 +86,7 @@ impl ComboIndexCache {
         ensures same { F.tells → F.host files.new ≡ F.host files.old }
     {
         if let Some(path) = local_path(&location.url) {
-            let path = path.try_clone(alloc)?;
-            return Ok(ComboIndexCache::Local(LocalIndex::open(alloc, files, path)?));
+            return folder_index(alloc, files, path);
         }
         if location.url.is_sparse() {
             let index = SparseIndex::new(alloc, files, ident, location)?;

@@ -6,9 +6,13 @@
 //! the caches of `tame_sparse`, and on `sha2` and `bytes`.
 //!
 //! ```ignore
-//! let builder = LocalRegistryBuilder::create(alloc, &mut files, path)?;
-//! builder.insert(alloc, &mut files, &krate, &[ValidKrate::validate(alloc, bytes, version)?])?;
-//! let registry = builder.finalize(alloc, &mut files, true)?;
+//! // crates/uses/src/indexes.rt: versions_in
+//! let index = LocalIndex::open(alloc, files, Text::of(alloc, registry)?)?;
+//! let lock = FileLock::unlocked();
+//! match index.krate(alloc, files, name, &lock)? {
+//!     Some(entry) => Ok(Some(entry.deserialize(alloc)?)),
+//!     None => Ok(None),
+//! }
 //! ```
 #![tactic(auto)]
 

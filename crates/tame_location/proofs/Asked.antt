@@ -9,47 +9,47 @@ use Rattle.tame_names.specs.declared.errors.Error.{Error}
 use Rattle.tame_names.specs.declared.errors.Error.TheVariants as error
 use Rattle.tame_names.specs.declared.errors.IoKind.TheVariants as io
 use Rattle.tame_names.specs.declared.host.FailedCall.{FailedCall}
-use Rattle.tame_location.specs.Calls.{AddsFailed, read_call}
+use Rattle.tame_location.specs.Calls.{AddsBy, AddsFailed, read_call}
 use Rattle.tame_location.specs.Settings.{answer_at, first_answer, or_next, reads, unless_answered}
 
 -- ---- among more calls
 
 module _ (may wide : FailedCall → Type 0) (more : (call : FailedCall) → may call → wide call) (before now : List FailedCall) where
-  pub wider_err : (T U : Type 0) (e : Error) → AddsFailed {T = T} may before now (Err e) → AddsFailed {T = U} wide before now (Err e)
-  wider_err T U (error.Cache x) h = h
-  wider_err T U (error.NonUtf8Path x) h = h
-  wider_err T U (error.NonUtf8EnvVar x) h = h
-  wider_err T U (error.InvalidKrateName x) h = h
-  wider_err T U (error.UnknownRegistry x) h = h
-  wider_err T U (error.Io io.Failed) h = (h.0, h.1, h.2, more h.0 h.3)
-  wider_err T U (error.Io io.NotFound) h = h
-  wider_err T U (error.Io io.NotADirectory) h = h
-  wider_err T U (error.Io (io.AlreadyExists n)) h = h
-  wider_err T U (error.Io io.UnexpectedEof) h = h
-  wider_err T U (error.Io io.InvalidData) h = h
-  wider_err T U (error.Io io.NoHome) h = h
-  wider_err T U (error.IoPath io.Failed path) h = (h.0, more (read_call path) h.1)
-  wider_err T U (error.IoPath io.NotFound path) h = h
-  wider_err T U (error.IoPath io.NotADirectory path) h = h
-  wider_err T U (error.IoPath (io.AlreadyExists n) path) h = h
-  wider_err T U (error.IoPath io.UnexpectedEof path) h = h
-  wider_err T U (error.IoPath io.InvalidData path) h = h
-  wider_err T U (error.IoPath io.NoHome path) h = h
-  wider_err T U (error.InvalidUrl x) h = h
-  wider_err T U (error.Json line) h = h
-  wider_err T U error.Toml h = h
-  wider_err T U error.NoCrateVersions h = h
-  wider_err T U (error.Http x) h = h
-  wider_err T U error.Semver h = h
-  wider_err T U (error.Lock x) h = h
-  wider_err T U (error.InvalidJsonLines x) h = h
-  wider_err T U (error.Local x) h = h
-  wider_err T U error.NoCargoVersion h = h
-  wider_err T U error.NoMemory h = h
+  pub wider_err : (e : Error) → AddsBy may before now e → AddsBy wide before now e
+  wider_err (error.Cache x) h = h
+  wider_err (error.NonUtf8Path x) h = h
+  wider_err (error.NonUtf8EnvVar x) h = h
+  wider_err (error.InvalidKrateName x) h = h
+  wider_err (error.UnknownRegistry x) h = h
+  wider_err (error.Io io.Failed) h = (h.0, h.1, h.2, more h.0 h.3)
+  wider_err (error.Io io.NotFound) h = h
+  wider_err (error.Io io.NotADirectory) h = h
+  wider_err (error.Io (io.AlreadyExists n)) h = h
+  wider_err (error.Io io.UnexpectedEof) h = h
+  wider_err (error.Io io.InvalidData) h = h
+  wider_err (error.Io io.NoHome) h = h
+  wider_err (error.IoPath io.Failed path) h = (h.0, more (read_call path) h.1)
+  wider_err (error.IoPath io.NotFound path) h = h
+  wider_err (error.IoPath io.NotADirectory path) h = h
+  wider_err (error.IoPath (io.AlreadyExists n) path) h = h
+  wider_err (error.IoPath io.UnexpectedEof path) h = h
+  wider_err (error.IoPath io.InvalidData path) h = h
+  wider_err (error.IoPath io.NoHome path) h = h
+  wider_err (error.InvalidUrl x) h = h
+  wider_err (error.Json line) h = h
+  wider_err error.Toml h = h
+  wider_err error.NoCrateVersions h = h
+  wider_err (error.Http x) h = h
+  wider_err error.Semver h = h
+  wider_err (error.Lock x) h = h
+  wider_err (error.InvalidJsonLines x) h = h
+  wider_err (error.Local x) h = h
+  wider_err error.NoCargoVersion h = h
+  wider_err error.NoMemory h = h
 
   pub wider : (T : Type 0) (r : Result T Error) → AddsFailed may before now r → AddsFailed wide before now r
   wider T (Ok a) h = h
-  wider T (Err e) h = wider_err T T e h
+  wider T (Err e) h = wider_err e h
 
 -- ---- the walk over files
 

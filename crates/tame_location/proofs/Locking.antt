@@ -6,16 +6,16 @@ use Rattle.tame_names.specs.declared.host.LockTakeFault.{LockTakeFault}
 use Rattle.tame_names.specs.declared.host.OpenedLock.{OpenedLock}
 use Rattle.tame_names.specs.declared.locks.FileLock.{FileLock}
 use Rattle.tame_names.specs.declared.locks.LockState.{LockState}
-use Rattle.tame_location.specs.Locks.{AreTries, GoesOn, IsHeld, IsLeft, IsTakenAt, IsTaking, Moment, Takes, TellsHeld, TellsLock, TellsTaken, answer_of, is_exclusive}
-use Rattle.tame_location.specs.declared.locks.Refusal.{Refusal}
-use Rattle.tame_location.specs.declared.locks.Refusal.TheVariants as refusal
+use Rattle.tame_location.specs.Locks.{AreTries, GoesOn, IsHeld, IsLeft, IsTakenAt, IsTaking, LockMoment, Takes, TellsHeld, TellsLock, TellsTaken, answer_of, is_exclusive}
+use Rattle.tame_location.specs.declared.locks.LockRefusal.{LockRefusal}
+use Rattle.tame_location.specs.declared.locks.LockRefusal.TheVariants as refusal
 
 -- one try more is left in front of the tries that are left
 one-more : (times number : ℕ) → number < times → suc (times - (number + 1)) ≡ times - number
 one-more times number low = omega (arith, low)
 
 -- a try in front of those that are left
-pub try-on : (times number : ℕ) (path : List ℕ) (exclusive : Bool) (before middle now : Moment) (told why : Option LockTakeFault) (r : Result Unit LockError)
+pub try-on : (times number : ℕ) (path : List ℕ) (exclusive : Bool) (before middle now : LockMoment) (told why : Option LockTakeFault) (r : Result Unit LockError)
     → number < times → told ≡ why → Takes path exclusive false told before middle
     → GoesOn (AreTries (times - (number + 1)) path exclusive middle now r) why middle now r
     → AreTries (times - number) path exclusive before now r
@@ -25,19 +25,19 @@ try-on times number path exclusive before middle now told why r low is takes goe
     subst P (one-more times number low) (why, middle, subst T is takes, goes)
 
 -- an answer tells what the held lock tells
-pub answered : (path : List ℕ) (holds : Result LockState LockError → Type 0) (x : Result FileLock Refusal) → TellsHeld holds x → TellsLock path holds (answer_of path x)
+pub answered : (path : List ℕ) (holds : Result LockState LockError → Type 0) (x : Result FileLock LockRefusal) → TellsHeld holds x → TellsLock path holds (answer_of path x)
 answered path holds (Ok held) h = h
 answered path holds (Err (refusal.Lock e)) h = (refl, h)
 answered path holds (Err refusal.NoMemory) h = tt
 
 -- a taking of the same path, in the same way
-pub taken-as : (p path : List ℕ) (e alone block : Bool) (m n : Moment) (r : Result Unit LockError)
+pub taken-as : (p path : List ℕ) (e alone block : Bool) (m n : LockMoment) (r : Result Unit LockError)
     → p ≡ path → e ≡ alone → IsTaking p e block m n r → IsTaking path alone block m n r
 taken-as p path e alone block m n r is same t =
     subst (λ q. IsTaking q alone block m n r) is (subst (λ a. IsTaking p a block m n r) same t)
 
 -- a refused taking of what was opened: the lock is refused likewise
-pub refused-as : (p path : List ℕ) (e : Bool) (s : LockState) (opening : Moment → Moment → Result LockState LockError → Type 0) (m n k : Moment) (why : Refusal)
+pub refused-as : (p path : List ℕ) (e : Bool) (s : LockState) (opening : LockMoment → LockMoment → Result LockState LockError → Type 0) (m n k : LockMoment) (why : LockRefusal)
     → p ≡ path → e ≡ is_exclusive s → opening m n (Ok s) → TellsTaken (IsTaking p e false n k) (Err why)
     → TellsHeld (IsHeld opening (λ alone. IsTaking path alone false) m k) (Err why)
 refused-as p path e s opening m n k (refusal.Lock x) is same opened t =

@@ -1,5 +1,6 @@
 -- Calls on the host that fail, and what a failed one does (this project).
-use Rattle.std.specs.Prelude.{◌≡◌, ◌≢◌, ◌++◌, ◌∷◌, [], ℕ, List, Option, Some, None, Result, Ok, Err, IfErr}
+use Rattle.std.specs.Prelude.{◌≡◌, ◌≢◌, ◌≤◌, ◌++◌, ◌∷◌, [], ℕ, List, Option, Some, None, Result, Ok, Err, IfErr}
+use Rattle.tame_names.specs.Counts.{CountRose}
 use Rattle.tame_names.specs.declared.errors.Error.{Error}
 use Rattle.tame_names.specs.declared.errors.Error.TheVariants as error
 use Rattle.tame_names.specs.declared.errors.IoKind.TheVariants as io
@@ -40,12 +41,23 @@ IsTold _ = Unit {0}
 abbrev pub HadMemory : {T : Type 0} → Result T Error → Type 0
 HadMemory result = IfErr result (λ e. e ≢ error.NoMemory)
 
--- a failed answer is that of a call that may be asked, which was added to the failed ones; any
--- other answer added none
+-- an error that is a failed call's is that of one that may be asked, which was added to the failed
+-- ones; any other added none
+abbrev pub AddsBy : (FailedCall → Type 0) → List FailedCall → List FailedCall → Error → Type 0
+AddsBy may before now (error.IoPath io.Failed path) =
+    (now ≡ before ++ read_call path ∷ []) × may (read_call path)
+AddsBy may before now (error.Io io.Failed) = (call : FailedCall)
+    × (now ≡ before ++ call ∷ []) × (error_of call ≡ error.Io io.Failed) × may call
+AddsBy may before now _ = now ≡ before
+
+-- and so of an answer
 abbrev pub AddsFailed : {T : Type 0} → (FailedCall → Type 0) → List FailedCall → List FailedCall
     → Result T Error → Type 0
-AddsFailed may before now (Err (error.IoPath io.Failed path)) =
-    (now ≡ before ++ read_call path ∷ []) × may (read_call path)
-AddsFailed may before now (Err (error.Io io.Failed)) = (call : FailedCall)
-    × (now ≡ before ++ call ∷ []) × (error_of call ≡ error.Io io.Failed) × may call
-AddsFailed may before now _ = now ≡ before
+AddsFailed may before now (Ok a) = now ≡ before
+AddsFailed may before now (Err e) = AddsBy may before now e
+
+-- the count never falls, and a failed call raised it
+pub record HasCallCause {T : Type 0} (before now : ℕ) (result : Result T Error) : Type 0 where
+  pub later : before ≤ now
+  pub read : (path : List ℕ) → result ≡ Err (error.IoPath io.Failed path) → CountRose before now
+  pub asked : result ≡ Err (error.Io io.Failed) → CountRose before now

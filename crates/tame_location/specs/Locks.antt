@@ -19,25 +19,25 @@ use Rattle.tame_names.specs.declared.locks.FileLock.{FileLock}
 use Rattle.tame_names.specs.declared.locks.LockState.{LockState}
 use Rattle.tame_names.specs.declared.locks.LockState.TheVariants as state
 use Rattle.tame_location.specs.Folders.{root_of}
-use Rattle.tame_location.specs.declared.locks.Refusal.{Refusal}
-use Rattle.tame_location.specs.declared.locks.Refusal.TheVariants as refusal
+use Rattle.tame_location.specs.declared.locks.LockRefusal.{LockRefusal}
+use Rattle.tame_location.specs.declared.locks.LockRefusal.TheVariants as refusal
 
 -- ---- steps
 
 -- a host at a moment: what it was asked of locks up to then, what it has, and how often a call
 -- failed
-pub record Moment : Type 0 where
+pub record LockMoment : Type 0 where
   pub locks : Locks
   pub host : Host
   pub faults : ℕ
 
-abbrev pub moment : Locks → Host → ℕ → Moment
-moment locks host faults = record { locks = locks; host = host; faults = faults }
+abbrev pub lock_moment : Locks → Host → ℕ → LockMoment
+lock_moment locks host faults = record { locks = locks; host = host; faults = faults }
 
 -- an opening of the file, and why it was refused, if it was: it is a step, a failed one was
 -- counted, and an exclusive one that wasn't refused, or failed, may have made an empty file
 pub record Opens (path : List ℕ) (exclusive : Bool) (why : Option LockOpenFault)
-    (before now : Moment) : Type 0 where
+    (before now : LockMoment) : Type 0 where
   pub step : now.locks.steps ≡ before.locks.steps ++ open_step path exclusive why ∷ []
   pub cause : HasLockCause (why ≡ Some open_fault.Failed) before.faults now.faults
   pub made : MayMake exclusive path before.host now.host
@@ -45,7 +45,7 @@ pub record Opens (path : List ℕ) (exclusive : Bool) (why : Option LockOpenFaul
 
 -- a taking of its lock, and why it was refused, if it was
 pub record Takes (path : List ℕ) (exclusive block : Bool) (why : Option LockTakeFault)
-    (before now : Moment) : Type 0 where
+    (before now : LockMoment) : Type 0 where
   pub step : now.locks.steps ≡ before.locks.steps ++ take_step path exclusive block why ∷ []
   pub cause : HasLockCause (why ≡ Some take_fault.Failed) before.faults now.faults
   pub same : now.host ≡ before.host
@@ -62,17 +62,17 @@ by_shared None = Ok state.Shared
 by_shared (Some why) = Err (refused_open why)
 
 -- a shared opening
-abbrev pub IsShared : List ℕ → Moment → Moment → Result LockState LockError → Type 0
+abbrev pub IsShared : List ℕ → LockMoment → LockMoment → Result LockState LockError → Type 0
 IsShared path before now result =
     (why : Option LockOpenFault) × Opens path false why before now × (result ≡ by_shared why)
 
 -- what follows an exclusive opening that was denied: a shared one, where that may take its place
-abbrev pub FallsBack : Bool → List ℕ → Moment → Moment → Result LockState LockError → Type 0
+abbrev pub FallsBack : Bool → List ℕ → LockMoment → LockMoment → Result LockState LockError → Type 0
 FallsBack true path before now result = IsShared path before now result
 FallsBack false path before now result = (result ≡ Err error.Readonly) × (now ≡ before)
 
 -- what follows an exclusive opening once the folder is made
-abbrev pub Follows : Bool → List ℕ → Option LockOpenFault → Moment → Moment
+abbrev pub Follows : Bool → List ℕ → Option LockOpenFault → LockMoment → LockMoment
     → Result LockState LockError → Type 0
 Follows fallback path None before now result = (result ≡ Ok state.Exclusive) × (now ≡ before)
 Follows fallback path (Some open_fault.Denied) before now result =
@@ -83,9 +83,9 @@ Follows fallback path (Some open_fault.Failed) before now result =
     (result ≡ Err error.Open) × (now ≡ before)
 
 -- an exclusive opening once the folder is made
-abbrev pub IsAgain : Bool → List ℕ → Moment → Moment → Result LockState LockError → Type 0
+abbrev pub IsAgain : Bool → List ℕ → LockMoment → LockMoment → Result LockState LockError → Type 0
 IsAgain fallback path before now result = (why : Option LockOpenFault)
-    × (middle : Moment) × Opens path true why before middle
+    × (middle : LockMoment) × Opens path true why before middle
     × Follows fallback path why middle now result
 
 -- all folders on these ways are made, or some of them from the front
@@ -94,29 +94,29 @@ AreMade true ways before now = now ≡ with_folders ways before
 AreMade false ways before now = (n : ℕ) × (now ≡ with_folders (take n ways) before)
 
 -- the making of a folder, which may fail: it is no step, and a failure was counted
-pub record MakesFolder (made : Bool) (folder : List ℕ) (before now : Moment) : Type 0 where
+pub record MakesFolder (made : Bool) (folder : List ℕ) (before now : LockMoment) : Type 0 where
   pub locks : now.locks ≡ before.locks
   pub cause : HasLockCause (made ≡ false) before.faults now.faults
   pub folders : AreMade made (ways_to folder) before.host now.host
 
 -- whether the folder that the file is in is made: it is in none; it is in the current one, which is
 -- there; or it is one that has to be made
-abbrev pub IsMade : Bool → Option (List ℕ) → Moment → Moment → Type 0
+abbrev pub IsMade : Bool → Option (List ℕ) → LockMoment → LockMoment → Type 0
 IsMade made None before now = (made ≡ false) × (now ≡ before)
 IsMade made (Some []) before now = (made ≡ true) × (now ≡ before)
 IsMade made (Some (b ∷ bs)) before now = MakesFolder made (b ∷ bs) before now
 
 -- what follows an exclusive opening that found nothing: another one, where the folder is made
-abbrev pub Retries : Bool → Bool → List ℕ → Moment → Moment → Result LockState LockError → Type 0
+abbrev pub Retries : Bool → Bool → List ℕ → LockMoment → LockMoment → Result LockState LockError → Type 0
 Retries true fallback path before now result = IsAgain fallback path before now result
 Retries false fallback path before now result = (result ≡ Err error.CreateDir) × (now ≡ before)
 
-abbrev pub IsBelow : Bool → List ℕ → Moment → Moment → Result LockState LockError → Type 0
-IsBelow fallback path before now result = (made : Bool) × (middle : Moment)
+abbrev pub IsBelow : Bool → List ℕ → LockMoment → LockMoment → Result LockState LockError → Type 0
+IsBelow fallback path before now result = (made : Bool) × (middle : LockMoment)
     × IsMade made (parent path) before middle × Retries made fallback path middle now result
 
 -- what follows the first exclusive opening
-abbrev pub Goes : Bool → List ℕ → Option LockOpenFault → Moment → Moment
+abbrev pub Goes : Bool → List ℕ → Option LockOpenFault → LockMoment → LockMoment
     → Result LockState LockError → Type 0
 Goes fallback path None before now result = (result ≡ Ok state.Exclusive) × (now ≡ before)
 Goes fallback path (Some open_fault.NotFound) before now result =
@@ -127,13 +127,13 @@ Goes fallback path (Some open_fault.Failed) before now result =
     (result ≡ Err error.Open) × (now ≡ before)
 
 -- an exclusive opening
-abbrev pub IsExclusive : Bool → List ℕ → Moment → Moment → Result LockState LockError → Type 0
+abbrev pub IsExclusive : Bool → List ℕ → LockMoment → LockMoment → Result LockState LockError → Type 0
 IsExclusive fallback path before now result = (why : Option LockOpenFault)
-    × (middle : Moment) × Opens path true why before middle
+    × (middle : LockMoment) × Opens path true why before middle
     × Goes fallback path why middle now result
 
 -- an opening, exclusive or shared
-abbrev pub IsOpening : Bool → Bool → List ℕ → Moment → Moment → Result LockState LockError → Type 0
+abbrev pub IsOpening : Bool → Bool → List ℕ → LockMoment → LockMoment → Result LockState LockError → Type 0
 IsOpening true fallback path before now result = IsExclusive fallback path before now result
 IsOpening false fallback path before now result = IsShared path before now result
 
@@ -151,33 +151,33 @@ by_taking (Some take_fault.NotSupported) = Err error.NotSupported
 by_taking (Some take_fault.Failed) = Err error.Lock
 
 -- one taking, which waits for its turn or doesn't
-abbrev pub IsTaking : List ℕ → Bool → Bool → Moment → Moment → Result Unit LockError → Type 0
+abbrev pub IsTaking : List ℕ → Bool → Bool → LockMoment → LockMoment → Result Unit LockError → Type 0
 IsTaking path exclusive block before now result = (why : Option LockTakeFault)
     × Takes path exclusive block why before now × (result ≡ by_taking why)
 
 -- a taking was contested, and then this holds; or its answer is the result
-abbrev pub GoesOn : Type 0 → Option LockTakeFault → Moment → Moment → Result Unit LockError → Type 0
+abbrev pub GoesOn : Type 0 → Option LockTakeFault → LockMoment → LockMoment → Result Unit LockError → Type 0
 GoesOn more (Some take_fault.Contested) before now result = more
 GoesOn more why before now result = (result ≡ by_taking why) × (now ≡ before)
 
 -- this many tries, until one isn't contested
-abbrev pub AreTries : ℕ → List ℕ → Bool → Moment → Moment → Result Unit LockError → Type 0
+abbrev pub AreTries : ℕ → List ℕ → Bool → LockMoment → LockMoment → Result Unit LockError → Type 0
 AreTries zero path exclusive before now result = (result ≡ Err error.TimedOut) × (now ≡ before)
 AreTries (suc n) path exclusive before now result = (why : Option LockTakeFault)
-    × (middle : Moment) × Takes path exclusive false why before middle
+    × (middle : LockMoment) × Takes path exclusive false why before middle
     × GoesOn (AreTries n path exclusive middle now result) why middle now result
 
 -- what follows a contested taking, by what the callback says: one that waits for its turn, or this
 -- many tries
-abbrev pub Waits : Option ℕ → List ℕ → Bool → Moment → Moment → Result Unit LockError → Type 0
+abbrev pub Waits : Option ℕ → List ℕ → Bool → LockMoment → LockMoment → Result Unit LockError → Type 0
 Waits None path exclusive before now result = IsTaking path exclusive true before now result
 Waits (Some n) path exclusive before now result = AreTries n path exclusive before now result
 
 -- one taking that doesn't wait, and after a contested one what the callback says
-abbrev pub IsWaiting : (Option ℕ → Type 0) → List ℕ → Bool → Moment → Moment
+abbrev pub IsWaiting : (Option ℕ → Type 0) → List ℕ → Bool → LockMoment → LockMoment
     → Result Unit LockError → Type 0
 IsWaiting says path exclusive before now result = (why : Option LockTakeFault)
-    × (middle : Moment) × Takes path exclusive false why before middle
+    × (middle : LockMoment) × Takes path exclusive false why before middle
     × GoesOn ((answer : Option ℕ) × says answer × Waits answer path exclusive middle now result)
     why middle now result
 
@@ -189,27 +189,27 @@ with_state s (Ok done) = Ok s
 with_state s (Err e) = Err e
 
 -- an opened file's lock is taken in this way
-abbrev pub IsTaken : (Bool → Moment → Moment → Result Unit LockError → Type 0)
-    → Moment → Moment → Result LockState LockError → Result LockState LockError → Type 0
+abbrev pub IsTaken : (Bool → LockMoment → LockMoment → Result Unit LockError → Type 0)
+    → LockMoment → LockMoment → Result LockState LockError → Result LockState LockError → Type 0
 IsTaken taking before now (Err e) held = (held ≡ Err e) × (now ≡ before)
 IsTaken taking before now (Ok s) held = (taken : Result Unit LockError)
     × taking (is_exclusive s) before now taken × (held ≡ with_state s taken)
 
 -- a file is opened in this way, and its lock taken in that
-abbrev pub IsHeld : (Moment → Moment → Result LockState LockError → Type 0)
-    → (Bool → Moment → Moment → Result Unit LockError → Type 0)
-    → Moment → Moment → Result LockState LockError → Type 0
-IsHeld opening taking before now held = (middle : Moment) × (opened : Result LockState LockError)
+abbrev pub IsHeld : (LockMoment → LockMoment → Result LockState LockError → Type 0)
+    → (Bool → LockMoment → LockMoment → Result Unit LockError → Type 0)
+    → LockMoment → LockMoment → Result LockState LockError → Type 0
+IsHeld opening taking before now held = (middle : LockMoment) × (opened : Result LockState LockError)
     × opening before middle opened × IsTaken taking middle now opened held
 
 -- the lock is taken, if it can be at once
-abbrev pub IsLockedAtOnce : Bool → Bool → List ℕ → Moment → Moment → Result LockState LockError
+abbrev pub IsLockedAtOnce : Bool → Bool → List ℕ → LockMoment → LockMoment → Result LockState LockError
     → Type 0
 IsLockedAtOnce exclusive fallback path before now held =
     IsHeld (IsOpening exclusive fallback path) (λ alone. IsTaking path alone false) before now held
 
 -- the lock is taken; the callback says how long to wait
-abbrev pub IsLockedWaiting : (Option ℕ → Type 0) → Bool → Bool → List ℕ → Moment → Moment
+abbrev pub IsLockedWaiting : (Option ℕ → Type 0) → Bool → Bool → List ℕ → LockMoment → LockMoment
     → Result LockState LockError → Type 0
 IsLockedWaiting says exclusive fallback path before now held =
     IsHeld (IsOpening exclusive fallback path) (λ alone. IsWaiting says path alone) before now held
@@ -232,7 +232,7 @@ GivesAt (Ok (Ok file)) before now = IsGiven file before now
 GivesAt _ before now = IsLeft before now
 
 -- so do several of them, up to the first that isn't refused
-abbrev pub Gives : Result (OpenedLock × LockState) Refusal → Locks → Locks → Type 0
+abbrev pub Gives : Result (OpenedLock × LockState) LockRefusal → Locks → Locks → Type 0
 Gives (Ok opened) before now = IsGiven opened.0 before now
 Gives (Err why) before now = IsLeft before now
 
@@ -248,7 +248,7 @@ IsTakenAt file (Ok (Ok done)) before now = IsTakenLast file before now
 IsTakenAt file _ before now = IsLeft before now
 
 -- so do several of them, up to the first that takes it
-abbrev pub IsTakenBy : OpenedLock → Result Unit Refusal → Locks → Locks → Type 0
+abbrev pub IsTakenBy : OpenedLock → Result Unit LockRefusal → Locks → Locks → Type 0
 IsTakenBy file (Ok done) before now = IsTakenLast file before now
 IsTakenBy file (Err why) before now = IsLeft before now
 
@@ -266,7 +266,7 @@ Holds (Err why) before now = now.taken ≡ before.taken
 -- ---- why it isn't
 
 -- why a file isn't opened: no taking says so
-abbrev pub IsOpenRefusal : Refusal → Type 0
+abbrev pub IsOpenRefusal : LockRefusal → Type 0
 IsOpenRefusal (refusal.Lock error.Open) = Unit {0}
 IsOpenRefusal (refusal.Lock error.Readonly) = Unit {0}
 IsOpenRefusal (refusal.Lock error.CreateDir) = Unit {0}
@@ -274,7 +274,7 @@ IsOpenRefusal (refusal.Lock _) = ⊥
 IsOpenRefusal refusal.NoMemory = Unit {0}
 
 -- why one taking takes no lock: another one holds it only where it doesn't wait
-abbrev pub IsTakeRefusal : Bool → Refusal → Type 0
+abbrev pub IsTakeRefusal : Bool → LockRefusal → Type 0
 IsTakeRefusal block (refusal.Lock error.Contested) = block ≡ false
 IsTakeRefusal block (refusal.Lock error.NotSupported) = Unit {0}
 IsTakeRefusal block (refusal.Lock error.Lock) = Unit {0}
@@ -282,7 +282,7 @@ IsTakeRefusal block (refusal.Lock _) = ⊥
 IsTakeRefusal block refusal.NoMemory = Unit {0}
 
 -- why several tries take none
-abbrev pub IsTryRefusal : Refusal → Type 0
+abbrev pub IsTryRefusal : LockRefusal → Type 0
 IsTryRefusal (refusal.Lock error.TimedOut) = Unit {0}
 IsTryRefusal (refusal.Lock error.NotSupported) = Unit {0}
 IsTryRefusal (refusal.Lock error.Lock) = Unit {0}
@@ -290,7 +290,7 @@ IsTryRefusal (refusal.Lock _) = ⊥
 IsTryRefusal refusal.NoMemory = Unit {0}
 
 -- why a file isn't locked: each reason but this one
-abbrev pub IsRefusal : LockError → Refusal → Type 0
+abbrev pub IsRefusal : LockError → LockRefusal → Type 0
 IsRefusal never (refusal.Lock e) = e ≢ never
 IsRefusal never refusal.NoMemory = Unit {0}
 
@@ -308,20 +308,20 @@ IsLockFault _ = ⊥
 -- ---- what is told
 
 -- what holds of a taking or of why there is none; nothing of want of memory
-abbrev pub TellsTaken : (Result Unit LockError → Type 0) → Result Unit Refusal → Type 0
+abbrev pub TellsTaken : (Result Unit LockError → Type 0) → Result Unit LockRefusal → Type 0
 TellsTaken holds (Ok done) = holds (Ok tt)
 TellsTaken holds (Err (refusal.Lock e)) = holds (Err e)
 TellsTaken holds (Err refusal.NoMemory) = Unit {0}
 
 -- what holds of a state or of why there is none; nothing of want of memory
-abbrev pub Tells : (Result LockState LockError → Type 0) → Result (OpenedLock × LockState) Refusal
+abbrev pub Tells : (Result LockState LockError → Type 0) → Result (OpenedLock × LockState) LockRefusal
     → Type 0
 Tells holds (Ok opened) = holds (Ok opened.1)
 Tells holds (Err (refusal.Lock e)) = holds (Err e)
 Tells holds (Err refusal.NoMemory) = Unit {0}
 
 -- what holds of a held lock's state or of why there is none; nothing of want of memory
-abbrev pub TellsHeld : (Result LockState LockError → Type 0) → Result FileLock Refusal → Type 0
+abbrev pub TellsHeld : (Result LockState LockError → Type 0) → Result FileLock LockRefusal → Type 0
 TellsHeld holds (Ok held) = holds (Ok held.state)
 TellsHeld holds (Err (refusal.Lock e)) = holds (Err e)
 TellsHeld holds (Err refusal.NoMemory) = Unit {0}
@@ -352,7 +352,7 @@ package_lock root host =
     and_then (λ folder. Ok (join folder (codes ".package-cache"))) (root_of root host)
 
 -- the answer of a call: with the path of the file where its lock isn't held
-abbrev pub answer_of : List ℕ → Result FileLock Refusal → Result FileLock Error
+abbrev pub answer_of : List ℕ → Result FileLock LockRefusal → Result FileLock Error
 answer_of path (Ok held) = Ok held
 answer_of path (Err (refusal.Lock why)) = Err (fault.Lock (record { path = path; source = why }))
 answer_of path (Err refusal.NoMemory) = Err fault.NoMemory

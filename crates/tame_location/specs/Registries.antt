@@ -182,8 +182,8 @@ IsCratesIoError e = IsFileError e
 
 -- the reasons why a registry has no url: it isn't known, its variable isn't UTF-8 or can't be asked
 -- for, and those of the files
-abbrev pub IsRegistryError : Error → Type 0
-IsRegistryError (error.UnknownRegistry name) = Unit {0}
-IsRegistryError (error.NonUtf8EnvVar name) = Unit {0}
-IsRegistryError (error.Io io.Failed) = Unit {0}
-IsRegistryError e = IsFileError e
+abbrev pub IsRegistryUrlError : Error → Type 0
+IsRegistryUrlError (error.UnknownRegistry name) = Unit {0}
+IsRegistryUrlError (error.NonUtf8EnvVar name) = Unit {0}
+IsRegistryUrlError (error.Io io.Failed) = Unit {0}
+IsRegistryUrlError e = IsFileError e

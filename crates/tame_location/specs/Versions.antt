@@ -8,7 +8,7 @@ use Rattle.toml_tables.specs.Results.{and_then, or_fault}
 use Rattle.tame_names.specs.declared.errors.Error.{Error}
 use Rattle.tame_names.specs.declared.errors.Error.TheVariants as error
 use Rattle.tame_names.specs.declared.errors.IoKind.TheVariants as io
-use Rattle.tame_location.specs.Urls.{behind_of, in_front}
+use Rattle.tame_location.specs.Urls.{behind_of, until}
 
 -- a version by its parts: three numbers, the pre-release and the build metadata
 abbrev pub Parts : Type 0
@@ -30,7 +30,7 @@ IsVersionError _ = ⊥
 
 -- what stands between the first and the second space of the trimmed text
 abbrev pub told_version : List ℕ → Option (List ℕ)
-told_version text = option_map (in_front 32) (behind_of 32 (trim text))
+told_version text = option_map (until 32) (behind_of 32 (trim text))
 
 -- the version in what cargo tells of itself
 abbrev pub cargo_version : List ℕ → Result Parts Error

@@ -1,14 +1,15 @@
 //! The folders in which cargo keeps indices.
 ghost use Rattle.std.specs.Prelude.{◌≡◌, ◌≢◌, ◌++◌, ◌∷◌, [], Ok, Err, IfOk, IfErr, IsSome, option_map};
 ghost use Rattle.tame_location.specs.Folders.{IsDetailsError, IsRootError, Told, details_of, dir_of};
-ghost use Rattle.tame_location.specs.Homes.{AddsHomeCall, HasHomeCause, IsHomeCall, IsTold};
+ghost use Rattle.tame_location.specs.Calls.{AddsFailed, HasCallCause};
+ghost use Rattle.tame_location.specs.Homes.{IsHomeCall, IsTold};
 ghost use Rattle.tame_location.specs.Urls.{IsUrlError};
 ghost use Rattle.tame_location.specs.Folders as spec;
 
 use crate::homes::cargo_home;
 use crate::idents::Ident;
 use crate::sip_hash::sip_hash_2_4;
-use crate::texts::{behind, cut_at_scheme, in_front, in_front_of};
+use crate::texts::{behind, cut_at_scheme, in_front_of, until};
 use crate::urls::{canonicalize_url, refused_url};
 use hex::encode;
 use std::alloc::Global;
@@ -63,7 +64,7 @@ fn hashed(alloc: Global, kind: u8, url: &str) -> Result<Items<u8>, NoMemory>
 fn folder_name(alloc: Global, rest: &str, number: u64) -> Result<Text, NoMemory>
     ensures { IfOk result (λ name. name ≡ spec.folder_name rest.now number) }
 {
-    let host = behind(in_front(in_front(rest, '/'), ':'), '@');
+    let host = behind(until(until(rest, '/'), ':'), '@');
     let digits = encode(alloc, &number.to_le_bytes())?;
     let mut name = String::from_str(alloc, host)?;
     name.push('-')?;
@@ -142,8 +143,8 @@ pub fn root_of<F: Files>(alloc: Global, files: &mut F, root: Option<&str>) -> Re
     ensures refused { Told root.entry F.tells → IfErr result (λ e. IsTold e
         → spec.root_of (option_map (λ r. r.now) root.entry) (F.host files.old) ≡ Err e) }
     ensures only { IfErr result (IsRootError root.entry) }
-    ensures cause { HasHomeCause (F.faults files.old) (F.faults files.new) result }
-    ensures failed { F.tells → AddsHomeCall (IsHomeCall (F.host files.old))
+    ensures cause { HasCallCause (F.faults files.old) (F.faults files.new) result }
+    ensures failed { F.tells → AddsFailed (IsHomeCall (F.host files.old))
         (F.failed files.old) (F.failed files.new) result }
     ensures same { F.tells → F.host files.new ≡ F.host files.old }
     ensures given { IsSome root.entry → files.new ≡ files.old }
@@ -175,8 +176,8 @@ pub fn get_index_details<F: Files, I: Ident>(
         → details_of stable (I.number ident.now) url.now (option_map (λ r. r.now) root.entry)
         (F.host files.old) ≡ Err e) }
     ensures only { IfErr result (IsDetailsError root.entry) }
-    ensures cause { HasHomeCause (F.faults files.old) (F.faults files.new) result }
-    ensures failed { F.tells → AddsHomeCall (IsHomeCall (F.host files.old))
+    ensures cause { HasCallCause (F.faults files.old) (F.faults files.new) result }
+    ensures failed { F.tells → AddsFailed (IsHomeCall (F.host files.old))
         (F.failed files.old) (F.failed files.new) result }
     ensures same { F.tells → F.host files.new ≡ F.host files.old }
     ensures given { IsSome root.entry → files.new ≡ files.old }

@@ -13,6 +13,14 @@
 //! https://github.com/A/b/  canonicalize_url    https://github.com/a/b
 //! https://x.example/a      url_to_local_dir    x.example- and 16 digits
 //! ```
+//!
+//! ```ignore
+//! // crates/uses/src/indexes.rt: folder_below
+//! let root = Text::of(alloc, root)?;
+//! let mut location = IndexLocation::new(IndexUrl::from(url)).with_root(Some(root));
+//! location.cargo_version = Some(parse_cargo_semver(alloc, cargo)?);
+//! location.into_parts(alloc, files, ident)
+//! ```
 #![tactic(auto)]
 
 mod configs;

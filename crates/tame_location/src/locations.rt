@@ -1,7 +1,8 @@
 //! Where the index of a url stands.
 ghost use Rattle.std.specs.Prelude.{◌≡◌, ◌≢◌, ◌⊎◌, None, Ok, Err, IfOk, IfErr, option_map};
 ghost use Rattle.semver.specs.Identifiers.{parts_of};
-ghost use Rattle.tame_location.specs.Homes.{AddsHomeCall, HasHomeCause, IsHomeCall, IsTold};
+ghost use Rattle.tame_location.specs.Calls.{AddsFailed, HasCallCause};
+ghost use Rattle.tame_location.specs.Homes.{IsHomeCall, IsTold};
 ghost use Rattle.tame_location.specs.Locations.{IsLocationError, ToldAt, located, located_below, path_of, with_slash};
 ghost use Rattle.tame_location.specs.declared.index_urls.IndexUrl.TheVariants.{CratesIoSparse};
 ghost use Rattle.tame_location.specs.declared.locations.IndexPath.TheVariants.{CargoHome};
@@ -50,6 +51,13 @@ fn with_slash(alloc: Global, url: &str) -> Result<Text, NoMemory>
     Ok(Text::from_string(whole))
 }
 
+/// The path and the url as they are.
+fn copied(alloc: Global, path: &str, url: &str) -> Result<(Text, Text), NoMemory>
+    ensures { IfOk result (λ parts. parts ≡ (path.now, url.now)) }
+{
+    Ok((Text::of(alloc, path)?, Text::of(alloc, url)?))
+}
+
 /// Below a root, for this version of cargo.
 fn located_below<F: Files, I: Ident>(
     alloc: Global,
@@ -96,6 +104,38 @@ impl<'l> IndexLocation<'l> {
         location
     }
 
+    /// The path of the index and its url, of one that is lent.
+    fn parts<F: Files, I: Ident>(
+        &self,
+        alloc: Global,
+        files: &mut F,
+        ident: &I,
+    ) -> Result<(Text, Text), Error>
+        ensures ok { ToldAt self.now.root F.tells → IfOk result (λ parts.
+            located (I.number ident.now) self.now (F.host files.old) ≡ Ok parts) }
+        ensures refused { ToldAt self.now.root F.tells → IfErr result (λ e. IsTold e
+            → located (I.number ident.now) self.now (F.host files.old) ≡ Err e) }
+        ensures only { IfErr result (IsLocationError self.now.root) }
+        ensures cause { HasCallCause (F.faults files.old) (F.faults files.new) result }
+        ensures failed { F.tells → AddsFailed (IsHomeCall (F.host files.old))
+            (F.failed files.old) (F.failed files.new) result }
+        ensures same { F.tells → F.host files.new ≡ F.host files.old }
+        ensures stated { self.now.root ≢ CargoHome → files.new ≡ files.old }
+    {
+        let url = self.url.as_str();
+        let version = self.cargo_version.as_ref();
+        match &self.root {
+            IndexPath::Exact(path) => Ok(copied(alloc, path.as_str(), url)?),
+            IndexPath::UserSpecified(root) => {
+                located_below(alloc, files, root.as_str(), url, version, ident)
+            }
+            IndexPath::CargoHome => {
+                let home = cargo_home(alloc, files)?;
+                located_below(alloc, files, home.as_str(), url, version, ident)
+            }
+        }
+    }
+
     /// The path of the index and its url: an exact path with the url as it is; else the folder of
     /// the url below the given root or cargo's home, and the url that it is kept for, with a `/` at
     /// its end. Errors are those of `cargo_home` where no root is given, then `NoCargoVersion`
@@ -111,37 +151,13 @@ impl<'l> IndexLocation<'l> {
         ensures refused { ToldAt self.entry.root F.tells → IfErr result (λ e. IsTold e
             → located (I.number ident.now) self.entry (F.host files.old) ≡ Err e) }
         ensures only { IfErr result (IsLocationError self.entry.root) }
-        ensures cause { HasHomeCause (F.faults files.old) (F.faults files.new) result }
-        ensures failed { F.tells → AddsHomeCall (IsHomeCall (F.host files.old))
+        ensures cause { HasCallCause (F.faults files.old) (F.faults files.new) result }
+        ensures failed { F.tells → AddsFailed (IsHomeCall (F.host files.old))
             (F.failed files.old) (F.failed files.new) result }
         ensures same { F.tells → F.host files.new ≡ F.host files.old }
         ensures stated { self.entry.root ≢ CargoHome → files.new ≡ files.old }
     {
-        let url = self.url.as_str();
-        match &self.root {
-            IndexPath::Exact(path) => { Ok((path.try_clone(alloc)?, Text::of(alloc, url)?)) }
-            IndexPath::UserSpecified(root) => {
-                located_below(
-                    alloc,
-                    files,
-                    root.as_str(),
-                    url,
-                    self.cargo_version.as_ref(),
-                    ident,
-                )
-            }
-            IndexPath::CargoHome => {
-                let home = cargo_home(alloc, files)?;
-                located_below(
-                    alloc,
-                    files,
-                    home.as_str(),
-                    url,
-                    self.cargo_version.as_ref(),
-                    ident,
-                )
-            }
-        }
+        self.parts(alloc, files, ident)
     }
 }
 

@@ -4,12 +4,13 @@ ghost use Rattle.std.specs.Cow.{cow_str_bytes};
 ghost use Rattle.std.specs.Fn.{FnReturnsAt};
 ghost use Rattle.tame_names.specs.Locks.{HasLockCause};
 ghost use Rattle.tame_location.specs.Folders.{IsRootError, Told};
-ghost use Rattle.tame_location.specs.Homes.{AddsHomeCall, HasHomeCause, IsHomeCall, IsTold};
-ghost use Rattle.tame_location.specs.Locks.{Gives, Holds, IsLockFault, IsLockedAtOnce, IsLockedError, IsLockedWaiting, IsOpenRefusal, IsOpening, IsRefusal, IsTakenBy, IsTryRefusal, IsWaiting, Leaves, Tells, TellsHeld, TellsLock, TellsTaken, moment, package_lock};
+ghost use Rattle.tame_location.specs.Calls.{AddsFailed, HasCallCause};
+ghost use Rattle.tame_location.specs.Homes.{IsHomeCall, IsTold};
+ghost use Rattle.tame_location.specs.Locks.{Gives, Holds, IsLockFault, IsLockedAtOnce, IsLockedError, IsLockedWaiting, IsOpenRefusal, IsOpening, IsRefusal, IsTakenBy, IsTryRefusal, IsWaiting, Leaves, Tells, TellsHeld, TellsLock, TellsTaken, lock_moment, package_lock};
 ghost use Rattle.tame_location.specs.Locks as spec;
 
 use crate::folders::root_of;
-use crate::locks::{Refusal, open_exclusive, open_shared, take, take_tries, taking};
+use crate::locks::{LockRefusal, open_exclusive, open_shared, take, take_tries, taking};
 use crate::places::borrowed;
 use std::alloc::Global;
 use std::borrow::CowStr;
@@ -43,14 +44,14 @@ fn take_waiting<F: Files, G: Fn(&str) -> Option<u32>>(
     opened: &OpenedLock,
     exclusive: bool,
     wait: G,
-) -> Result<(), Refusal>
+) -> Result<(), LockRefusal>
     requires { G.IsAlwaysCallable wait }
     ensures steps { F.tells → TellsTaken (IsWaiting (FnReturnsAt G.Fn wait path.now) path.now
-        exclusive (moment (F.locks files.old) (F.host files.old) (F.faults files.old))
-        (moment (F.locks files.new) (F.host files.new) (F.faults files.new))) result }
+        exclusive (lock_moment (F.locks files.old) (F.host files.old) (F.faults files.old))
+        (lock_moment (F.locks files.new) (F.host files.new) (F.faults files.new))) result }
     ensures taken { F.tells → IsTakenBy opened.now result
         (F.locks files.old) (F.locks files.new) }
-    ensures cause { HasLockCause (result ≡ Err (Refusal.Lock LockError.Lock))
+    ensures cause { HasLockCause (result ≡ Err (LockRefusal.Lock LockError.Lock))
         (F.faults files.old) (F.faults files.new) }
     ensures only { IfErr result IsTryRefusal }
     ensures same { F.tells → F.host files.new ≡ F.host files.old }
@@ -61,19 +62,19 @@ fn take_waiting<F: Files, G: Fn(&str) -> Option<u32>>(
             None => take(files, path, opened, exclusive, true),
             Some(times) => take_tries(files, path, opened, exclusive, times),
         },
-        Err(LockTakeFault::NotSupported) => Err(Refusal::Lock(LockError::NotSupported)),
-        Err(LockTakeFault::Failed) => Err(Refusal::Lock(LockError::Lock)),
+        Err(LockTakeFault::NotSupported) => Err(LockRefusal::Lock(LockError::NotSupported)),
+        Err(LockTakeFault::Failed) => Err(LockRefusal::Lock(LockError::Lock)),
     }
 }
 
 /// The answer of a call: with the path of the file where its lock isn't held.
-fn told(path: Text, held: Result<FileLock, Refusal>) -> Result<FileLock, Error>
+fn told(path: Text, held: Result<FileLock, LockRefusal>) -> Result<FileLock, Error>
     ensures { result ≡ spec.answer_of path held }
 {
     match held {
         Ok(lock) => Ok(lock),
-        Err(Refusal::Lock(source)) => Err(Error::Lock(FileLockError { path, source })),
-        Err(Refusal::NoMemory) => Err(Error::NoMemory),
+        Err(LockRefusal::Lock(source)) => Err(Error::Lock(FileLockError { path, source })),
+        Err(LockRefusal::NoMemory) => Err(Error::NoMemory),
     }
 }
 
@@ -105,8 +106,8 @@ impl<'p> LockOptions<'p> {
         ensures refused { Told root F.tells → IfErr result (λ e. IsTold e
             → package_lock root (F.host files.old) ≡ Err e) }
         ensures only { IfErr result (IsRootError root) }
-        ensures cause { HasHomeCause (F.faults files.old) (F.faults files.new) result }
-        ensures failed { F.tells → AddsHomeCall (IsHomeCall (F.host files.old))
+        ensures cause { HasCallCause (F.faults files.old) (F.faults files.new) result }
+        ensures failed { F.tells → AddsFailed (IsHomeCall (F.host files.old))
             (F.failed files.old) (F.failed files.new) result }
         ensures same { F.tells → F.host files.new ≡ F.host files.old }
         ensures given { IsSome root → files.new ≡ files.old }
@@ -139,11 +140,11 @@ impl<'p> LockOptions<'p> {
         options
     }
 
-    fn open<F: Files>(&self, files: &mut F) -> Result<(OpenedLock, LockState), Refusal>
+    fn open<F: Files>(&self, files: &mut F) -> Result<(OpenedLock, LockState), LockRefusal>
         ensures steps { F.tells → Tells (IsOpening self.now.exclusive self.now.fallback
             (cow_str_bytes self.now.path)
-            (moment (F.locks files.old) (F.host files.old) (F.faults files.old))
-            (moment (F.locks files.new) (F.host files.new) (F.faults files.new))) result }
+            (lock_moment (F.locks files.old) (F.host files.old) (F.faults files.old))
+            (lock_moment (F.locks files.new) (F.host files.new) (F.faults files.new))) result }
         ensures left { F.tells → Leaves self.now.exclusive (cow_str_bytes self.now.path)
             (F.host files.old) (F.host files.new) }
         ensures gives { F.tells → Gives result (F.locks files.old) (F.locks files.new) }
@@ -158,16 +159,16 @@ impl<'p> LockOptions<'p> {
     }
 
     /// The lock, if it can be taken at once.
-    fn held_at_once<F: Files>(&self, files: &mut F) -> Result<FileLock, Refusal>
+    fn held_at_once<F: Files>(&self, files: &mut F) -> Result<FileLock, LockRefusal>
         ensures steps { F.tells → TellsHeld (IsLockedAtOnce self.now.exclusive self.now.fallback
             (cow_str_bytes self.now.path)
-            (moment (F.locks files.old) (F.host files.old) (F.faults files.old))
-            (moment (F.locks files.new) (F.host files.new) (F.faults files.new))) result }
+            (lock_moment (F.locks files.old) (F.host files.old) (F.faults files.old))
+            (lock_moment (F.locks files.new) (F.host files.new) (F.faults files.new))) result }
         ensures left { F.tells → Leaves self.now.exclusive (cow_str_bytes self.now.path)
             (F.host files.old) (F.host files.new) }
         ensures holds { F.tells → Holds result (F.locks files.old) (F.locks files.new) }
         ensures only { IfErr result (IsRefusal LockError.TimedOut) }
-        ensures cause { HasLockCause (result ≡ Err (Refusal.Lock LockError.Lock))
+        ensures cause { HasLockCause (result ≡ Err (LockRefusal.Lock LockError.Lock))
             (F.faults files.old) (F.faults files.new) }
     {
         match self.open(files) {
@@ -187,18 +188,18 @@ impl<'p> LockOptions<'p> {
         &self,
         files: &mut F,
         wait: G,
-    ) -> Result<FileLock, Refusal>
+    ) -> Result<FileLock, LockRefusal>
         requires { G.IsAlwaysCallable wait }
         ensures steps { F.tells → TellsHeld (IsLockedWaiting
             (FnReturnsAt G.Fn wait (cow_str_bytes self.now.path)) self.now.exclusive
             self.now.fallback (cow_str_bytes self.now.path)
-            (moment (F.locks files.old) (F.host files.old) (F.faults files.old))
-            (moment (F.locks files.new) (F.host files.new) (F.faults files.new))) result }
+            (lock_moment (F.locks files.old) (F.host files.old) (F.faults files.old))
+            (lock_moment (F.locks files.new) (F.host files.new) (F.faults files.new))) result }
         ensures left { F.tells → Leaves self.now.exclusive (cow_str_bytes self.now.path)
             (F.host files.old) (F.host files.new) }
         ensures holds { F.tells → Holds result (F.locks files.old) (F.locks files.new) }
         ensures only { IfErr result (IsRefusal LockError.Contested) }
-        ensures cause { HasLockCause (result ≡ Err (Refusal.Lock LockError.Lock))
+        ensures cause { HasLockCause (result ≡ Err (LockRefusal.Lock LockError.Lock))
             (F.faults files.old) (F.faults files.new) }
     {
         match self.open(files) {
@@ -222,8 +223,8 @@ impl<'p> LockOptions<'p> {
     pub fn try_lock<F: Files>(&self, alloc: Global, files: &mut F) -> Result<FileLock, Error>
         ensures steps { F.tells → TellsLock (cow_str_bytes self.now.path)
             (IsLockedAtOnce self.now.exclusive self.now.fallback (cow_str_bytes self.now.path)
-            (moment (F.locks files.old) (F.host files.old) (F.faults files.old))
-            (moment (F.locks files.new) (F.host files.new) (F.faults files.new))) result }
+            (lock_moment (F.locks files.old) (F.host files.old) (F.faults files.old))
+            (lock_moment (F.locks files.new) (F.host files.new) (F.faults files.new))) result }
         ensures left { F.tells → Leaves self.now.exclusive (cow_str_bytes self.now.path)
             (F.host files.old) (F.host files.new) }
         ensures holds { F.tells → Holds result (F.locks files.old) (F.locks files.new) }
@@ -248,8 +249,8 @@ impl<'p> LockOptions<'p> {
         ensures steps { F.tells → TellsLock (cow_str_bytes self.now.path) (IsLockedWaiting
             (FnReturnsAt G.Fn wait (cow_str_bytes self.now.path)) self.now.exclusive
             self.now.fallback (cow_str_bytes self.now.path)
-            (moment (F.locks files.old) (F.host files.old) (F.faults files.old))
-            (moment (F.locks files.new) (F.host files.new) (F.faults files.new))) result }
+            (lock_moment (F.locks files.old) (F.host files.old) (F.faults files.old))
+            (lock_moment (F.locks files.new) (F.host files.new) (F.faults files.new))) result }
         ensures left { F.tells → Leaves self.now.exclusive (cow_str_bytes self.now.path)
             (F.host files.old) (F.host files.new) }
         ensures holds { F.tells → Holds result (F.locks files.old) (F.locks files.new) }

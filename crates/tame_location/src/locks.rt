@@ -3,7 +3,7 @@ ghost use Rattle.std.specs.Prelude.{◌≡◌, ◌≤◌, ℕ, Ok, Err, Some, tr
 ghost use Rattle.tame_names.specs.Changes.{with_folders};
 ghost use Rattle.tame_names.specs.Locks.{HasLockCause, MayMake, fault_of};
 ghost use Rattle.tame_names.specs.Paths.{parent as parent_of};
-ghost use Rattle.tame_location.specs.Locks.{AreTries, Follows, Gives, GivesAt, IsAgain, IsBelow, IsExclusive, IsMade, IsOpenRefusal, IsShared, IsTakeRefusal, IsTakenAt, IsTakenBy, IsTaking, IsTryRefusal, Leaves, Opens, Takes, Tells, TellsTaken, folder_ways, moment};
+ghost use Rattle.tame_location.specs.Locks.{AreTries, Follows, Gives, GivesAt, IsAgain, IsBelow, IsExclusive, IsMade, IsOpenRefusal, IsShared, IsTakeRefusal, IsTakenAt, IsTakenBy, IsTaking, IsTryRefusal, Leaves, Opens, Takes, Tells, TellsTaken, folder_ways, lock_moment};
 ghost use Rattle.tame_location.specs.Locks as spec;
 
 use tame_names::{
@@ -13,20 +13,20 @@ use tame_names::{
 
 /// Why a lock isn't held.
 #[derive(Clone, Copy)]
-pub enum Refusal {
+pub enum LockRefusal {
     /// What the steps on it answered.
     Lock(LockError),
     /// Memory ran out.
     NoMemory,
 }
 
-impl From<NoMemory> for Refusal {
-    ghost use Rattle.tame_location.specs.declared.locks.Refusal.TheVariants.{NoMemory as no_memory};
+impl From<NoMemory> for LockRefusal {
+    ghost use Rattle.tame_location.specs.declared.locks.LockRefusal.TheVariants.{NoMemory as no_memory};
 
     ghost from_gives = { λ _ e. e ≡ no_memory };
 
-    fn from(_: NoMemory) -> Refusal {
-        Refusal::NoMemory
+    fn from(_: NoMemory) -> LockRefusal {
+        LockRefusal::NoMemory
     }
 }
 
@@ -47,8 +47,8 @@ fn opening<F: Files>(
     exclusive: bool,
 ) -> Result<Result<OpenedLock, LockOpenFault>, NoMemory>
     ensures opens { F.tells → IfOk result (λ answer. Opens path.now exclusive (fault_of answer)
-        (moment (F.locks files.old) (F.host files.old) (F.faults files.old))
-        (moment (F.locks files.new) (F.host files.new) (F.faults files.new))) }
+        (lock_moment (F.locks files.old) (F.host files.old) (F.faults files.old))
+        (lock_moment (F.locks files.new) (F.host files.new) (F.faults files.new))) }
     ensures gives { F.tells → GivesAt result (F.locks files.old) (F.locks files.new) }
     ensures same { F.tells → IsErr result → F.host files.new ≡ F.host files.old }
     ensures shared { F.tells → exclusive ≡ false → F.host files.new ≡ F.host files.old }
@@ -58,10 +58,13 @@ fn opening<F: Files>(
 }
 
 /// A shared opening.
-pub fn open_shared<F: Files>(files: &mut F, path: &str) -> Result<(OpenedLock, LockState), Refusal>
+pub fn open_shared<F: Files>(
+    files: &mut F,
+    path: &str,
+) -> Result<(OpenedLock, LockState), LockRefusal>
     ensures steps { F.tells → Tells (IsShared path.now
-        (moment (F.locks files.old) (F.host files.old) (F.faults files.old))
-        (moment (F.locks files.new) (F.host files.new) (F.faults files.new))) result }
+        (lock_moment (F.locks files.old) (F.host files.old) (F.faults files.old))
+        (lock_moment (F.locks files.new) (F.host files.new) (F.faults files.new))) result }
     ensures same { F.tells → F.host files.new ≡ F.host files.old }
     ensures gives { F.tells → Gives result (F.locks files.old) (F.locks files.new) }
     ensures only { IfErr result IsOpenRefusal }
@@ -69,7 +72,7 @@ pub fn open_shared<F: Files>(files: &mut F, path: &str) -> Result<(OpenedLock, L
 {
     match opening(files, path, false)? {
         Ok(opened) => Ok((opened, LockState::Shared)),
-        Err(fault) => Err(Refusal::Lock(refused_open(fault))),
+        Err(fault) => Err(LockRefusal::Lock(refused_open(fault))),
     }
 }
 
@@ -80,10 +83,10 @@ fn fall_back<F: Files>(
     path: &str,
     fallback: bool,
     fault: LockOpenFault,
-) -> Result<(OpenedLock, LockState), Refusal>
+) -> Result<(OpenedLock, LockState), LockRefusal>
     ensures steps { F.tells → Tells (Follows fallback path.now (Some fault)
-        (moment (F.locks files.old) (F.host files.old) (F.faults files.old))
-        (moment (F.locks files.new) (F.host files.new) (F.faults files.new))) result }
+        (lock_moment (F.locks files.old) (F.host files.old) (F.faults files.old))
+        (lock_moment (F.locks files.new) (F.host files.new) (F.faults files.new))) result }
     ensures same { F.tells → F.host files.new ≡ F.host files.old }
     ensures gives { F.tells → Gives result (F.locks files.old) (F.locks files.new) }
     ensures only { IfErr result IsOpenRefusal }
@@ -94,10 +97,10 @@ fn fall_back<F: Files>(
             if fallback {
                 open_shared(files, path)
             } else {
-                Err(Refusal::Lock(LockError::Readonly))
+                Err(LockRefusal::Lock(LockError::Readonly))
             }
         }
-        LockOpenFault::NotFound | LockOpenFault::Failed => Err(Refusal::Lock(LockError::Open)),
+        LockOpenFault::NotFound | LockOpenFault::Failed => Err(LockRefusal::Lock(LockError::Open)),
     }
 }
 
@@ -106,10 +109,10 @@ fn open_again<F: Files>(
     files: &mut F,
     path: &str,
     fallback: bool,
-) -> Result<(OpenedLock, LockState), Refusal>
+) -> Result<(OpenedLock, LockState), LockRefusal>
     ensures steps { F.tells → Tells (IsAgain fallback path.now
-        (moment (F.locks files.old) (F.host files.old) (F.faults files.old))
-        (moment (F.locks files.new) (F.host files.new) (F.faults files.new))) result }
+        (lock_moment (F.locks files.old) (F.host files.old) (F.faults files.old))
+        (lock_moment (F.locks files.new) (F.host files.new) (F.faults files.new))) result }
     ensures left { F.tells → MayMake true path.now (F.host files.old) (F.host files.new) }
     ensures gives { F.tells → Gives result (F.locks files.old) (F.locks files.new) }
     ensures only { IfErr result IsOpenRefusal }
@@ -124,8 +127,8 @@ fn open_again<F: Files>(
 /// Makes the folder above a path; whether it was made, or needn't be.
 fn make_folder<F: Files>(files: &mut F, path: &str) -> Result<bool, NoMemory>
     ensures made { F.tells → IfOk result (λ made. IsMade made (parent_of path.now)
-        (moment (F.locks files.old) (F.host files.old) (F.faults files.old))
-        (moment (F.locks files.new) (F.host files.new) (F.faults files.new))) }
+        (lock_moment (F.locks files.old) (F.host files.old) (F.faults files.old))
+        (lock_moment (F.locks files.new) (F.host files.new) (F.faults files.new))) }
     ensures left { F.tells → (n : ℕ) × (F.host files.new
         ≡ with_folders (first n (folder_ways (parent_of path.now))) (F.host files.old)) }
     ensures locks { F.tells → F.locks files.new ≡ F.locks files.old }
@@ -149,10 +152,10 @@ fn open_below<F: Files>(
     files: &mut F,
     path: &str,
     fallback: bool,
-) -> Result<(OpenedLock, LockState), Refusal>
+) -> Result<(OpenedLock, LockState), LockRefusal>
     ensures steps { F.tells → Tells (IsBelow fallback path.now
-        (moment (F.locks files.old) (F.host files.old) (F.faults files.old))
-        (moment (F.locks files.new) (F.host files.new) (F.faults files.new))) result }
+        (lock_moment (F.locks files.old) (F.host files.old) (F.faults files.old))
+        (lock_moment (F.locks files.new) (F.host files.new) (F.faults files.new))) result }
     ensures left { F.tells → Leaves true path.now (F.host files.old) (F.host files.new) }
     ensures gives { F.tells → Gives result (F.locks files.old) (F.locks files.new) }
     ensures only { IfErr result IsOpenRefusal }
@@ -161,7 +164,7 @@ fn open_below<F: Files>(
     if make_folder(files, path)? {
         open_again(files, path, fallback)
     } else {
-        Err(Refusal::Lock(LockError::CreateDir))
+        Err(LockRefusal::Lock(LockError::CreateDir))
     }
 }
 
@@ -170,10 +173,10 @@ pub fn open_exclusive<F: Files>(
     files: &mut F,
     path: &str,
     fallback: bool,
-) -> Result<(OpenedLock, LockState), Refusal>
+) -> Result<(OpenedLock, LockState), LockRefusal>
     ensures steps { F.tells → Tells (IsExclusive fallback path.now
-        (moment (F.locks files.old) (F.host files.old) (F.faults files.old))
-        (moment (F.locks files.new) (F.host files.new) (F.faults files.new))) result }
+        (lock_moment (F.locks files.old) (F.host files.old) (F.faults files.old))
+        (lock_moment (F.locks files.new) (F.host files.new) (F.faults files.new))) result }
     ensures left { F.tells → Leaves true path.now (F.host files.old) (F.host files.new) }
     ensures gives { F.tells → Gives result (F.locks files.old) (F.locks files.new) }
     ensures only { IfErr result IsOpenRefusal }
@@ -183,7 +186,7 @@ pub fn open_exclusive<F: Files>(
         Ok(opened) => Ok((opened, LockState::Exclusive)),
         Err(LockOpenFault::NotFound) => open_below(files, path, fallback),
         Err(LockOpenFault::Denied) => fall_back(files, path, fallback, LockOpenFault::Denied),
-        Err(LockOpenFault::Failed) => Err(Refusal::Lock(LockError::Open)),
+        Err(LockOpenFault::Failed) => Err(LockRefusal::Lock(LockError::Open)),
     }
 }
 
@@ -198,8 +201,8 @@ pub fn taking<F: Files>(
     block: bool,
 ) -> Result<Result<(), LockTakeFault>, NoMemory>
     ensures takes { F.tells → IfOk result (λ answer. Takes path.now exclusive block
-        (fault_of answer) (moment (F.locks files.old) (F.host files.old) (F.faults files.old))
-        (moment (F.locks files.new) (F.host files.new) (F.faults files.new))) }
+        (fault_of answer) (lock_moment (F.locks files.old) (F.host files.old) (F.faults files.old))
+        (lock_moment (F.locks files.new) (F.host files.new) (F.faults files.new))) }
     ensures taken { F.tells → IsTakenAt opened.now result
         (F.locks files.old) (F.locks files.new) }
     ensures cause { HasLockCause (result ≡ Ok (Err LockTakeFault.Failed))
@@ -229,20 +232,20 @@ pub fn take<F: Files>(
     opened: &OpenedLock,
     exclusive: bool,
     block: bool,
-) -> Result<(), Refusal>
+) -> Result<(), LockRefusal>
     ensures steps { F.tells → TellsTaken (IsTaking path.now exclusive block
-        (moment (F.locks files.old) (F.host files.old) (F.faults files.old))
-        (moment (F.locks files.new) (F.host files.new) (F.faults files.new))) result }
+        (lock_moment (F.locks files.old) (F.host files.old) (F.faults files.old))
+        (lock_moment (F.locks files.new) (F.host files.new) (F.faults files.new))) result }
     ensures taken { F.tells → IsTakenBy opened.now result
         (F.locks files.old) (F.locks files.new) }
-    ensures cause { HasLockCause (result ≡ Err (Refusal.Lock LockError.Lock))
+    ensures cause { HasLockCause (result ≡ Err (LockRefusal.Lock LockError.Lock))
         (F.faults files.old) (F.faults files.new) }
     ensures only { IfErr result (IsTakeRefusal block) }
     ensures same { F.tells → F.host files.new ≡ F.host files.old }
 {
     match taken(taking(files, path, opened, exclusive, block)?) {
         Ok(()) => Ok(()),
-        Err(error) => Err(Refusal::Lock(error)),
+        Err(error) => Err(LockRefusal::Lock(error)),
     }
 }
 
@@ -253,13 +256,13 @@ pub fn take_tries<F: Files>(
     opened: &OpenedLock,
     exclusive: bool,
     times: u32,
-) -> Result<(), Refusal>
+) -> Result<(), LockRefusal>
     ensures steps { F.tells → TellsTaken (AreTries times path.now exclusive
-        (moment (F.locks files.old) (F.host files.old) (F.faults files.old))
-        (moment (F.locks files.new) (F.host files.new) (F.faults files.new))) result }
+        (lock_moment (F.locks files.old) (F.host files.old) (F.faults files.old))
+        (lock_moment (F.locks files.new) (F.host files.new) (F.faults files.new))) result }
     ensures taken { F.tells → IsTakenBy opened.now result
         (F.locks files.old) (F.locks files.new) }
-    ensures cause { HasLockCause (result ≡ Err (Refusal.Lock LockError.Lock))
+    ensures cause { HasLockCause (result ≡ Err (LockRefusal.Lock LockError.Lock))
         (F.faults files.old) (F.faults files.new) }
     ensures only { IfErr result IsTryRefusal }
     ensures same { F.tells → F.host files.new ≡ F.host files.old }
@@ -268,9 +271,11 @@ pub fn take_tries<F: Files>(
         match taking(files, path, opened, exclusive, false)? {
             Ok(()) => return Ok(()),
             Err(LockTakeFault::Contested) => {}
-            Err(LockTakeFault::NotSupported) => return Err(Refusal::Lock(LockError::NotSupported)),
-            Err(LockTakeFault::Failed) => return Err(Refusal::Lock(LockError::Lock)),
+            Err(LockTakeFault::NotSupported) => return Err(LockRefusal::Lock(
+                LockError::NotSupported,
+            )),
+            Err(LockTakeFault::Failed) => return Err(LockRefusal::Lock(LockError::Lock)),
         }
     }
-    Err(Refusal::Lock(LockError::TimedOut))
+    Err(LockRefusal::Lock(LockError::TimedOut))
 }

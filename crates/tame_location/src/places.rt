@@ -1,5 +1,5 @@
 //! The files of cargo's settings.
-ghost use Rattle.std.specs.Prelude.{◌≡◌, ◌≤◌, ◌++◌, map, Some, IfOk, option_map};
+ghost use Rattle.std.specs.Prelude.{◌≡◌, ◌≢◌, ◌≤◌, ◌++◌, map, None, Some, IfOk, IsErr, IsOk, option_map};
 ghost use Rattle.tame_location.specs.Places.{AreFiles, AreSettingsFiles, AreUpwards, IsHome, IsStart, folder_file};
 ghost use Rattle.tame_location.specs.Places as spec;
 
@@ -91,8 +91,20 @@ fn start<F: Files>(
     }
 }
 
+/// No home, where it can't be told for this reason; it is passed over unless memory ran out.
+fn untold(error: &Error) -> Result<Option<Text>, NoMemory>
+    ensures none { IfOk result (λ home. home ≡ None) }
+    ensures other { IsOk result → error.now ≢ Error.NoMemory }
+    ensures memory { IsErr result → error.now ≡ Error.NoMemory }
+{
+    match error {
+        Error::NoMemory => Err(NoMemory),
+        _ => Ok(None),
+    }
+}
+
 /// The home whose settings come last: the given one, else cargo's, if it can be told.
-fn home_of<F: Files>(
+fn settings_home<F: Files>(
     alloc: Global,
     files: &mut F,
     home: Option<&str>,
@@ -107,8 +119,7 @@ fn home_of<F: Files>(
     }
     match cargo_home(alloc, files) {
         Ok(home) => Ok(Some(home)),
-        Err(Error::NoMemory) => Err(NoMemory),
-        Err(_) => Ok(None),
+        Err(error) => untold(&error),
     }
 }
 
@@ -138,6 +149,6 @@ pub fn settings_files<F: Files>(
     ensures same { F.tells → F.host files.new ≡ F.host files.old }
 {
     let folder = start(alloc, files, root)?;
-    let told = home_of(alloc, files, home)?;
+    let told = settings_home(alloc, files, home)?;
     files_of(alloc, borrowed(&folder), borrowed(&told))
 }

@@ -5,7 +5,7 @@ ghost use Rattle.semver.specs.Parse.{memory_error};
 ghost use Rattle.tame_location.specs.Versions.{IsVersionError, cargo_version, version_of};
 ghost use Rattle.tame_location.specs.Versions as spec;
 
-use crate::texts::{behind_of, in_front};
+use crate::texts::{behind_of, until};
 use semver::Version;
 use std::alloc::{AllocError, Global};
 use tame_names::{Error, IoKind};
@@ -41,7 +41,7 @@ pub fn parse_cargo_semver(alloc: Global, text: &str) -> Result<Version, Error>
     ensures refused { IfErr result (λ e. e ≢ Error.NoMemory → cargo_version text.now ≡ Err e) }
 {
     match behind_of(text.trim(), ' ') {
-        Some(behind) => read_version(alloc, in_front(behind, ' ')),
+        Some(behind) => read_version(alloc, until(behind, ' ')),
         None => Err(Error::Io(IoKind::InvalidData)),
     }
 }

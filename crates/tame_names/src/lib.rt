@@ -7,9 +7,10 @@
 //! a fault of a sink leaves a part of the piece from the front.
 //! Stands on `memchr` and `thiserror`, and on no crate here.
 //!
-//! ```text
-//! let name = KrateName::crates_io("Serde")?;
-//! let path = name.relative_path(alloc, None)?;    // "se/rd/serde"
+//! ```ignore
+//! // crates/uses/src/indexes.rt: path_in_index
+//! let name = KrateName::crates_io(name)?;
+//! Ok(name.relative_path(alloc, None)?)
 //! ```
 #![tactic(auto)]
 

@@ -6,9 +6,12 @@
 //! Stands on the texts and names of `tame_names`, and on `serde_json`, `json`, `semver`, `hex`,
 //! `itertools` and `thiserror`.
 //!
-//! ```text
-//! let version = IndexVersion::read_line(alloc, line)?;
-//! let flag = version.into_version_flag();    // its text, and whether it is yanked
+//! ```ignore
+//! // crates/uses/src/indexes.rt: newest_of
+//! match krate.highest_normal_version(alloc)? {
+//!     Some(newest) => Ok(Some(newest.version.try_clone(alloc)?)),
+//!     None => Ok(None),
+//! }
 //! ```
 #![tactic(auto)]
 

@@ -3,7 +3,6 @@ use Rattle.std.specs.Prelude.{◌≡◌, ◌⊎◌, ℕ, List, if◌then◌else�
 use Rattle.tame_names.specs.Standing.{Host}
 use Rattle.tame_names.specs.declared.errors.Error.{Error}
 use Rattle.tame_names.specs.declared.errors.Error.TheVariants as error
-use Rattle.tame_names.specs.declared.errors.InvalidUrlError.{InvalidUrlError}
 use Rattle.tame_names.specs.declared.errors.InvalidUrlError.TheVariants as why
 use Rattle.tame_location.specs.IndexUrls.{is_sparse, url_text}
 use Rattle.tame_location.specs.Locations.{IsLocationError, located}

@@ -9,9 +9,15 @@
 //! `MemWire` is one in memory.
 //!
 //! ```ignore
-//! let index = SparseIndex::at(alloc, path, "sparse+https://index.crates.io/")?;
-//! let request = index.make_remote_request(alloc, name, None, &lock, &mut disk)?;
-//! let entry = index.parse_remote_response(alloc, name, response, true, &lock, &mut disk)?;
+//! // crates/uses/src/indexes.rt: newest_sent
+//! let lock = FileLock::unlocked();
+//! match index.parse_remote_response(alloc, name, response, true, &lock, disk)? {
+//!     Some(entry) => {
+//!         let krate = entry.deserialize(alloc)?;
+//!         Ok(newest_of(alloc, &krate)?)
+//!     }
+//!     None => Ok(None),
+//! }
 //! ```
 #![tactic(auto)]
 

@@ -1,6 +1,7 @@
 //! Indices at their locations.
 ghost use Rattle.std.specs.Prelude.{◌≡◌, ◌≢◌, ◌⊎◌, true, false, Ok, Err, None, IfOk, IfErr};
-ghost use Rattle.tame_location.specs.Homes.{AddsHomeCall, HasHomeCause, IsHomeCall, IsTold};
+ghost use Rattle.tame_location.specs.Calls.{AddsFailed, HasCallCause};
+ghost use Rattle.tame_location.specs.Homes.{IsHomeCall, IsTold};
 ghost use Rattle.tame_location.specs.IndexUrls.{is_sparse};
 ghost use Rattle.tame_location.specs.Locations.{ToldAt};
 ghost use Rattle.tame_location.specs.declared.locations.IndexPath.TheVariants.{CargoHome};
@@ -33,8 +34,8 @@ impl SparseIndex {
             ⊎ (result ≡ Err Error.NoMemory)) }
         ensures only { IfErr result
             (IsPlaceError (missing_sparse location.entry.url) location.entry) }
-        ensures cause { HasHomeCause (F.faults files.old) (F.faults files.new) result }
-        ensures failed { F.tells → AddsHomeCall (IsHomeCall (F.host files.old))
+        ensures cause { HasCallCause (F.faults files.old) (F.faults files.new) result }
+        ensures failed { F.tells → AddsFailed (IsHomeCall (F.host files.old))
             (F.failed files.old) (F.failed files.new) result }
         ensures same { F.tells → F.host files.new ≡ F.host files.old }
         ensures stated { location.entry.root ≢ CargoHome → files.new ≡ files.old }
@@ -69,8 +70,8 @@ impl GitIndex {
             ⊎ (result ≡ Err Error.NoMemory)) }
         ensures only { IfErr result
             (IsPlaceError (sparse_for_git location.entry.url) location.entry) }
-        ensures cause { HasHomeCause (F.faults files.old) (F.faults files.new) result }
-        ensures failed { F.tells → AddsHomeCall (IsHomeCall (F.host files.old))
+        ensures cause { HasCallCause (F.faults files.old) (F.faults files.new) result }
+        ensures failed { F.tells → AddsFailed (IsHomeCall (F.host files.old))
             (F.failed files.old) (F.failed files.new) result }
         ensures same { F.tells → F.host files.new ≡ F.host files.old }
         ensures stated { location.entry.root ≢ CargoHome → files.new ≡ files.old }

@@ -1,5 +1,5 @@
 //! The records of a package's crate, as the cache keeps them.
-ghost use Rattle.std.specs.Prelude.{◌≡◌, ◌⊎◌, ◌≤◌, ℕ, List, Some, true, IfOk, map, option_map};
+ghost use Rattle.std.specs.Prelude.{◌≡◌, ◌⊎◌, ◌≤◌, ℕ, List, Some, true, IfErr, IfOk, map, option_map};
 ghost use Rattle.tame_names.specs.Counts.{CountRose};
 ghost use Rattle.tame_names.specs.KrateNames.{text_of};
 ghost use Rattle.tame_records.specs.Krates.{records_of};
@@ -76,13 +76,16 @@ fn taken_records(
     alloc: Global,
     taken: Result<Option<IndexEntry<'_, '_>>, Error>,
 ) -> Result<Recorded, NoMemory>
+    requires { IfErr taken
+        (λ e. (e ≡ Error.NoMemory) ⊎ (e ≡ Error.Io IoKind.Failed)) }
     ensures { IfOk result (IsRecordedAs taken.entry) }
 {
     match taken {
         Ok(Some(entry)) => entry_records(alloc, &entry),
         Ok(None) => Ok(Recorded::Missing(NoRecord::Absent)),
         Err(Error::Io(IoKind::Failed)) => Ok(Recorded::Missing(NoRecord::Store)),
-        Err(_) => Err(NoMemory),
+        Err(Error::NoMemory) => Err(NoMemory),
+        Err(_) => unreachable!("the disk failed, or memory ran out"),
     }
 }
 

@@ -13,8 +13,8 @@ use Rattle.std.specs.Str.{IsUtf8}
 use Rattle.vendor_registry.specs.Looked.{is_looked}
 use Rattle.vendor_registry.specs.Named.{AreTexts}
 use Rattle.vendor_registry.specs.declared.checks.Checked.{Checked}
-use Rattle.vendor_faults.specs.declared.faults.VendorFault.{VendorFault}
-use Rattle.vendor_faults.specs.declared.faults.VendorFault.TheVariants as fault
+use Rattle.vendor_registry.specs.declared.faults.VendorFault.{VendorFault}
+use Rattle.vendor_registry.specs.declared.faults.VendorFault.TheVariants as fault
 
 abbrev pub before : {A : Type 0} → List A → Option (List A) → Option (List A)
 before xs None = None

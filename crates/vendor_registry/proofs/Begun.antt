@@ -4,27 +4,27 @@ use Rattle.std.specs.Prelude.{OnErr}
 use Rattle.tame_names.specs.Changes.{is_nothing}
 use Rattle.tame_names.specs.Paths.{join}
 use Rattle.tame_names.specs.Standing.{Host}
-use Rattle.tame_local.specs.Builders.{Change, Makes, Creates, AreBegun, after, after_change, created}
+use Rattle.tame_local.specs.Builders.{HostChange, Makes, Creates, AreBegun, after, after_change, created}
 use Rattle.tame_local.specs.Registries.{index_of}
 use Rattle.vendor_registry.specs.Built.{AreFilled, IsFilled, IsTaken, all_made, path_made, paths_made}
 use Rattle.vendor_registry.specs.Vendored.{on, paths_of}
 use Rattle.vendor_registry.specs.declared.checks.Checked.{Checked}
 
-pub none_begun : (cs : List Change) (h : Host) → AreBegun cs h h
+pub none_begun : (cs : List HostChange) (h : Host) → AreBegun cs h h
 none_begun [] h = refl
 none_begun (Makes folder ∷ cs) h = inl (inl refl)
 none_begun (Creates path bytes ∷ cs) h = inl (inl refl)
 
-pub all_begun : (cs : List Change) (h : Host) → AreBegun cs h (after cs h)
+pub all_begun : (cs : List HostChange) (h : Host) → AreBegun cs h (after cs h)
 all_begun [] h = refl
 all_begun (c ∷ cs) h = inr (all_begun cs (after_change c h))
 
-pub begun_front : (bs cs : List Change) (h now : Host) → AreBegun bs h now → AreBegun (bs ++ cs) h now
+pub begun_front : (bs cs : List HostChange) (h now : Host) → AreBegun bs h now → AreBegun (bs ++ cs) h now
 begun_front [] cs h now is = subst (λ x. AreBegun cs h x) (sym is) (none_begun cs h)
 begun_front (b ∷ bs) cs h now (inl is) = inl is
 begun_front (b ∷ bs) cs h now (inr is) = inr (begun_front bs cs (after_change b h) now is)
 
-pub begun_behind : (bs cs : List Change) (h now : Host) → AreBegun cs (after bs h) now → AreBegun (bs ++ cs) h now
+pub begun_behind : (bs cs : List HostChange) (h now : Host) → AreBegun cs (after bs h) now → AreBegun (bs ++ cs) h now
 begun_behind [] cs h now is = is
 begun_behind (b ∷ bs) cs h now is = inr (begun_behind bs cs (after_change b h) now is)
 

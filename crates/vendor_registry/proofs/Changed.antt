@@ -4,7 +4,7 @@ use Rattle.tame_names.specs.Changes.{entry_of, is_nothing, is_path_of, with_entr
 use Rattle.tame_names.specs.Paths.{is_same, parent, ways_to}
 use Rattle.tame_names.specs.Standing.{Host, Standing, Nothing, File, Folder, Other}
 use Rattle.tame_names.specs.declared.host.Listed.{Listed}
-use Rattle.tame_local.specs.Builders.{Change, Makes, Creates, after, size_of}
+use Rattle.tame_local.specs.Builders.{HostChange, Makes, Creates, after, size_of}
 use Rattle.tame_local.specs.Inserts.{StandsPlain}
 use Rattle.tame_local.proofs.Standings.{plain_kept}
 
@@ -76,12 +76,12 @@ folders_bytes (w ∷ ws) stands q plain =
 -- ---- changes one after the other
 
 -- the bytes of the last file that is made at a path, or what was there
-abbrev pub last_at : List Change → List ℕ → Option (List ℕ) → Option (List ℕ)
+abbrev pub last_at : List HostChange → List ℕ → Option (List ℕ) → Option (List ℕ)
 last_at [] q s = s
 last_at (Makes folder ∷ cs) q s = last_at cs q s
 last_at (Creates p bytes ∷ cs) q s = last_at cs q (cond (is_same p q) (Some bytes) s)
 
-pub after_bytes : (cs : List Change) (host : Host) (q : List ℕ) → StandsPlain host.stands → bytes_in ((after cs host).stands q) ≡ last_at cs q (bytes_in (host.stands q))
+pub after_bytes : (cs : List HostChange) (host : Host) (q : List ℕ) → StandsPlain host.stands → bytes_in ((after cs host).stands q) ≡ last_at cs q (bytes_in (host.stands q))
 after_bytes [] host q plain = refl
 after_bytes (Makes folder ∷ cs) host q plain =
     after_bytes cs (with_folders (ways_to folder) host) q (folders_plain (ways_to folder) host.stands plain)
@@ -90,17 +90,17 @@ after_bytes (Creates p bytes ∷ cs) host q plain =
     after_bytes cs (with_file p bytes host) q (plain_kept p (File bytes) host.stands plain)
     ∙ ap (last_at cs q) (with_bytes p (File bytes) host.stands q)
 
-pub last_append : (bs cs : List Change) (q : List ℕ) (s : Option (List ℕ)) → last_at (bs ++ cs) q s ≡ last_at cs q (last_at bs q s)
+pub last_append : (bs cs : List HostChange) (q : List ℕ) (s : Option (List ℕ)) → last_at (bs ++ cs) q s ≡ last_at cs q (last_at bs q s)
 last_append [] cs q s = refl
 last_append (Makes folder ∷ bs) cs q s = last_append bs cs q s
 last_append (Creates p bytes ∷ bs) cs q s = last_append bs cs q (cond (is_same p q) (Some bytes) s)
 
-pub after_append : (bs cs : List Change) (host : Host) → after (bs ++ cs) host ≡ after cs (after bs host)
+pub after_append : (bs cs : List HostChange) (host : Host) → after (bs ++ cs) host ≡ after cs (after bs host)
 after_append [] cs host = refl
 after_append (Makes folder ∷ bs) cs host = after_append bs cs (with_folders (ways_to folder) host)
 after_append (Creates p bytes ∷ bs) cs host = after_append bs cs (with_file p bytes host)
 
-pub size_append : (bs cs : List Change) → size_of (bs ++ cs) ≡ size_of bs + size_of cs
+pub size_append : (bs cs : List HostChange) → size_of (bs ++ cs) ≡ size_of bs + size_of cs
 size_append [] cs = sym (zero-add (size_of cs))
 size_append (Makes folder ∷ bs) cs = size_append bs cs
 size_append (Creates p bytes ∷ bs) cs = ap (λ n. length bytes + n) (size_append bs cs) ∙ sym (add_assoc (length bytes) (size_of bs) (size_of cs))

@@ -24,8 +24,8 @@ use Rattle.vendor_registry.specs.Looked.{is_looked, looked}
 use Rattle.vendor_registry.specs.Named.{AreTexts, AreVersioned}
 use Rattle.vendor_registry.specs.Vendored.{is_on, on}
 use Rattle.vendor_registry.specs.declared.checks.Checked.{Checked}
-use Rattle.vendor_faults.specs.declared.faults.VendorFault.{VendorFault}
-use Rattle.vendor_faults.specs.declared.faults.VendorFault.TheVariants as fault
+use Rattle.vendor_registry.specs.declared.faults.VendorFault.{VendorFault}
+use Rattle.vendor_registry.specs.declared.faults.VendorFault.TheVariants as fault
 
 -- ---- the records of a path, whichever package asks for them
 

@@ -15,8 +15,8 @@ use Rattle.tame_cache.specs.CacheFiles.{HandsOut}
 use Rattle.tame_cache.specs.Disk.{File}
 use Rattle.vendor_registry.proofs.Ahead.{before}
 use Rattle.vendor_registry.specs.Checks.{entry_records, file_records, is_of_package, items_records, or_fault}
-use Rattle.vendor_faults.specs.declared.faults.VendorFault.{VendorFault}
-use Rattle.vendor_faults.specs.declared.faults.VendorFault.TheVariants as fault
+use Rattle.vendor_registry.specs.declared.faults.VendorFault.{VendorFault}
+use Rattle.vendor_registry.specs.declared.faults.VendorFault.TheVariants as fault
 
 -- ---- one line more
 

@@ -6,7 +6,7 @@ use Rattle.tame_names.specs.Names.{is_name, path, relative_path, separator}
 use Rattle.tame_names.specs.Paths.{begins_with_slash, is_same, join}
 use Rattle.tame_names.specs.Standing.{Host, File}
 use Rattle.tame_records.specs.Written.{json_lines}
-use Rattle.tame_local.specs.Builders.{Change, Makes, Creates, after}
+use Rattle.tame_local.specs.Builders.{HostChange, Makes, Creates, after}
 use Rattle.tame_local.specs.Builders as builders
 use Rattle.tame_local.specs.CrateFiles.{crate_file}
 use Rattle.tame_local.specs.Inserts.{StandsPlain}
@@ -17,7 +17,7 @@ use Rattle.vendor_registry.proofs.FolderPaths.{crate_inner, crate_not_index, ind
 use Rattle.vendor_registry.specs.Built.{all_made, crate_made, path_made, paths_made}
 use Rattle.vendor_registry.specs.Checks.{Stock, crate_path}
 use Rattle.vendor_registry.specs.Named.{AreTexts}
-use Rattle.vendor_registry.specs.Vendored.{Files, HoldsExactly, IsAmong, first, later, IsBare, IsInner, crate_entry, index_entry, is_on, on, path_files, paths_of, size_of, vendored_files}
+use Rattle.vendor_registry.specs.Vendored.{Files, HoldsEach, HoldsNoOther, IsAmong, first, later, IsBare, IsInner, crate_entry, index_entry, is_on, on, path_files, paths_of, size_of, vendored_files}
 use Rattle.vendor_registry.specs.declared.checks.Checked.{Checked}
 
 -- ---- the last of files at a path
@@ -211,29 +211,32 @@ paths_last s folder all (q ∷ qs) x o known inner =
 
 -- ---- the folder
 
-all_bytes : (s : Stock) (folder : List ℕ) (cs : List Checked) (host : Host) (x : List ℕ) → StandsPlain host.stands → IsBare host folder → AreKnown s cs → IsInner x
-    → bytes_in ((after (all_made folder cs) host).stands (join folder x)) ≡ last_in (vendored_files cs) x None
-all_bytes s folder cs host x plain bare known inner =
+all_bytes : (s : Stock) (folder : List ℕ) (cs : List Checked) (host : Host) (x : List ℕ) → StandsPlain host.stands → AreKnown s cs → IsInner x
+    → bytes_in ((after (all_made folder cs) host).stands (join folder x)) ≡ last_in (vendored_files cs) x (bytes_in (host.stands (join folder x)))
+all_bytes s folder cs host x plain known inner =
     after_bytes (all_made folder cs) host (join folder x) plain
-    ∙ ap (λ st. last_at (paths_made folder cs (paths_of cs)) (join folder x) (bytes_in st)) (bare x inner)
-    ∙ paths_last s folder cs (paths_of cs) x None known inner
+    ∙ paths_last s folder cs (paths_of cs) x (bytes_in (host.stands (join folder x))) known inner
 
 none_case : {A : Type 0} (b : List ℕ) (o : A ⊎ (None ≡ Some b)) → A
 none_case b (inl a) = a
 none_case b (inr h) = cc
 
-pub holds_exactly : (s : Stock) (folder : List ℕ) (cs : List Checked) (host : Host) → StandsPlain host.stands → IsBare host folder → AreKnown s cs
-    → HoldsExactly (after (all_made folder cs) host) folder (vendored_files cs)
-holds_exactly s folder cs host plain bare known =
+pub holds_each : (s : Stock) (folder : List ℕ) (cs : List Checked) (host : Host) → StandsPlain host.stands → AreKnown s cs
+    → HoldsEach (after (all_made folder cs) host) folder (vendored_files cs)
+holds_each s folder cs host plain known =
     let right : AreRight s cs (vendored_files cs) = paths_right s cs (paths_of cs) known in
-    record {
-      each = λ x b among.
-          let at = right_at s cs x b (vendored_files cs) right among in
-          file_in _ b (all_bytes s folder cs host x plain bare known at.0
-          ∙ stands_last x b (vendored_files cs) None (λ other h. agree s cs x other b (right_at s cs x other (vendored_files cs) right h).1 at.1) among);
-      no_other = λ x b inner is.
-          none_case b (found (vendored_files cs) x b None (sym (all_bytes s folder cs host x plain bare known inner) ∙ ap bytes_in is));
-    }
+    λ x b among.
+    let at = right_at s cs x b (vendored_files cs) right among in
+    file_in _ b (all_bytes s folder cs host x plain known at.0
+    ∙ stands_last x b (vendored_files cs) (bytes_in (host.stands (join folder x))) (λ other h. agree s cs x other b (right_at s cs x other (vendored_files cs) right h).1 at.1) among)
+
+pub holds_no_other : (s : Stock) (folder : List ℕ) (cs : List Checked) (host : Host) → StandsPlain host.stands → AreKnown s cs → IsBare host folder
+    → HoldsNoOther (after (all_made folder cs) host) folder (vendored_files cs)
+holds_no_other s folder cs host plain known bare = λ x b inner is.
+    let nothing : bytes_in (host.stands (join folder x)) ≡ None = ap bytes_in (bare x inner) in
+    let whole : last_in (vendored_files cs) x None ≡ Some b =
+    ap (last_in (vendored_files cs) x) (sym nothing) ∙ sym (all_bytes s folder cs host x plain known inner) ∙ ap bytes_in is in
+    none_case b (found (vendored_files cs) x b None whole)
 
 -- ---- bytes
 

@@ -48,7 +48,7 @@ inner_end : (path : List ℕ) → IsInner path → without_end 47 path ≡ path
 inner_end [] inner = refl
 inner_end (c ∷ cs) inner = rw inner.front inner.plain
 
-plain_append : (xs path : List ℕ) → IsInner path → plain_path (xs ++ path) ≡ xs ++ path
+pub plain_append : (xs path : List ℕ) → IsInner path → plain_path (xs ++ path) ≡ xs ++ path
 plain_append [] path inner = inner.plain
 plain_append (x ∷ xs) path inner =
     ap (λ (ys : List ℕ). x ∷ ys) (kept_append xs path (inner_end path inner) inner.some)

@@ -13,7 +13,7 @@ use Rattle.tame_records.specs.declared.versions.IndexVersion.{IndexVersion}
 use Rattle.tame_sparse.specs.Git.{first_name}
 use Rattle.tame_local.specs.Builders.{Makes, Creates, absent_at, after, crates_made, free_at, insertable, inserted, size_of, written}
 use Rattle.tame_local.specs.Inserts.{AreWritten}
-use Rattle.tame_local.specs.Refusals.{NotAFolder, Occupied, Refusal, and_then, is_told}
+use Rattle.tame_local.specs.Refusals.{NotAFolder, Occupied, LocalRefusal, and_then, is_told}
 use Rattle.tame_local.specs.Refusals.{refused as refused_by}
 use Rattle.tame_names.specs.declared.errors.Error.{Error}
 use Rattle.tame_names.specs.declared.errors.Error.TheVariants as error
@@ -26,7 +26,7 @@ use Rattle.vendor_registry.specs.Built.{IsFilled, crate_made, free_fault, path_m
 use Rattle.vendor_registry.specs.Named.{ArePathed}
 use Rattle.vendor_registry.specs.Vendored.{is_on, on}
 use Rattle.vendor_registry.specs.declared.checks.Checked.{Checked}
-use Rattle.vendor_faults.specs.declared.faults.VendorFault.TheVariants as fault
+use Rattle.vendor_registry.specs.declared.faults.VendorFault.TheVariants as fault
 
 -- ---- one path
 
@@ -114,7 +114,7 @@ written_more (w ∷ ws) v all is = (all.0, all.1, written_more ws v all.2 is)
 -- ---- refusals
 
 -- the number of a refusal
-abbrev count_in : Result Unit Refusal → ℕ
+abbrev count_in : Result Unit LocalRefusal → ℕ
 count_in (Err (Occupied n p)) = n
 count_in r = 0
 
@@ -129,7 +129,7 @@ name_case None p s n q h = absent_one p s n q h
 name_case (Some why) p s n q h = cc
 
 -- a refusal that something is there already
-pub told_occupied : (r : Result Unit Refusal) (e : Error) (n : ℕ) (p : List ℕ) → e ≡ error.IoPath (io_kind.AlreadyExists n) p → (IsTrue (is_told e) → r ≡ Err (refused_by e))
+pub told_occupied : (r : Result Unit LocalRefusal) (e : Error) (n : ℕ) (p : List ℕ) → e ≡ error.IoPath (io_kind.AlreadyExists n) p → (IsTrue (is_told e) → r ≡ Err (refused_by e))
     → r ≡ Err (Occupied n p)
 told_occupied r e n p is h = (subst (λ x. IsTrue (is_told x) → r ≡ Err (refused_by x)) is h) refl
 

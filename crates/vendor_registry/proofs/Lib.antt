@@ -19,3 +19,4 @@ mod Slashless
 mod Stocked
 mod Told
 mod Whole
+mod Within

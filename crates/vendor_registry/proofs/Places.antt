@@ -28,11 +28,11 @@ slashed w = w ++ 47 ∷ []
 
 -- ---- the paths in it
 
-some_long : (w : List ℕ) → 0 < length w → (length w == 0) ≡ false
+pub some_long : (w : List ℕ) → 0 < length w → (length w == 0) ≡ false
 some_long [] some = absurd (omega (arith, some))
 some_long (b ∷ bs) some = eqb-suc-zero (length bs)
 
-base_plain : (w : List ℕ) → (length w == 0) ≡ false → ends_with_slash w ≡ false → base w ≡ w ++ 47 ∷ []
+pub base_plain : (w : List ℕ) → (length w == 0) ≡ false → ends_with_slash w ≡ false → base w ≡ w ++ 47 ∷ []
 base_plain w some plain = rw (some, plain) refl
 
 base_ends : (w : List ℕ) → (length w == 0) ≡ false → ends_with_slash w ≡ true → base w ≡ w

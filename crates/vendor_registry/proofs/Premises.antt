@@ -1,5 +1,6 @@
 -- Lockfiles and hosts in memory meet the premises of what is built.
 use Rattle.std.proofs.Common.{◌≡◌, ℕ, suc, codes, List, [], ◌∷◌, ◌++◌, length, bytes_eq, is_ok, Bool, true, false, cond, Option, Some, None, option_and_then, Result, Ok, Err, refl, sym, ap, ◌∙◌, subst}
+use Rattle.std.proofs.lemmas.List.{append_assoc}
 use Rattle.std.proofs.lemmas.Slice.Eq.{bytes_eq-Decides}
 use Rattle.semver.specs.Parse.{version_parts}
 use Rattle.toml.specs.Data.{Data, Items, no_items, item, Members, as_str, get, get_member}
@@ -21,8 +22,10 @@ use Rattle.audit_lock.specs.declared.listed.LockRule.TheVariants as rule
 use Rattle.audit_lock.specs.declared.lockfiles.LockfileFault.{LockfileFault}
 use Rattle.audit_lock.specs.declared.lockfiles.LockfileFault.TheVariants as fault
 use Rattle.audit_lock.specs.declared.resolving.Package.{Package}
-use Rattle.vendor_registry.specs.Named.{AreVersioned}
-use Rattle.vendor_registry.specs.Vendored.{IsBare}
+use Rattle.vendor_registry.specs.Named.{AreVersioned, IsBelow, IsPlace, NoneBelow}
+use Rattle.vendor_registry.specs.Vendored.{IsBare, IsInner}
+use Rattle.vendor_registry.proofs.FolderPaths.{base, join_base, plain_append}
+use Rattle.vendor_registry.proofs.Places.{base_plain, some_long}
 
 -- ---- a host in memory
 
@@ -35,8 +38,27 @@ file_same (f ∷ fs) p q h =
 pub memory_plain : (files : MemFiles) → StandsPlain (host_in files).stands
 memory_plain files p q h = ap standing_of (file_same files.files p q ((bytes_eq-Decides (plain_path p) (plain_path q)).0 h))
 
-pub memory_bare : (files : MemFiles) (folder : List ℕ) → files.files ≡ [] → IsBare (host_in files) folder
-memory_bare files folder none path inner = ap (λ (fs : List MemFile). standing_of (file_at fs (join folder path))) none
+-- a path in a folder is below it
+inner_below : (folder path : List ℕ) → IsPlace folder → IsInner path → IsBelow folder (plain_path (join folder path))
+inner_below folder path place inner = (
+  path,
+  ap plain_path (join_base folder path inner.front) ∙ plain_append (base folder) path inner
+      ∙ ap (λ (b : List ℕ). b ++ path) (base_plain folder (some_long folder place.0) place.1) ∙ append_assoc folder (47 ∷ []) path,
+)
+
+none_case : (t : Bool) (file : MemFile) (rest : Option MemFile) → (t ≡ true → ⊥) → rest ≡ None → cond t (Some file) rest ≡ None
+none_case true file rest differs none = absurd (differs refl)
+none_case false file rest differs none = none
+
+none_at : (folder path : List ℕ) (files : List MemFile) → IsBelow folder (plain_path path) → NoneBelow folder files → file_at files path ≡ None
+none_at folder path [] is none = refl
+none_at folder path (file ∷ files) is none =
+    none_case (bytes_eq (plain_path file.path) (plain_path path)) file (file_at files path)
+    (λ same. none.0 (subst (IsBelow folder) (sym ((bytes_eq-Decides (plain_path file.path) (plain_path path)).0 same)) is))
+    (none_at folder path files is none.1)
+
+pub memory_bare : (files : MemFiles) (folder : List ℕ) → IsPlace folder → NoneBelow folder files.files → IsBare (host_in files) folder
+memory_bare files folder place none path inner = ap standing_of (none_at folder (join folder path) files.files (inner_below folder path place inner) none)
 
 -- ---- steps of which each may refuse
 

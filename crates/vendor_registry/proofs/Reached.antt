@@ -6,8 +6,8 @@ use Rattle.std.proofs.Math.ListN.{take-append-drop}
 use Rattle.std.proofs.lemmas.List.{append-nil, take_more}
 use Rattle.audit_core.proofs.Lists.{drop_at}
 use Rattle.audit_lock.specs.declared.resolving.Package.{Package}
-use Rattle.vendor_faults.specs.declared.faults.VendorFault.{VendorFault}
-use Rattle.vendor_faults.specs.declared.faults.VendorFault.TheVariants as fault
+use Rattle.vendor_registry.specs.declared.faults.VendorFault.{VendorFault}
+use Rattle.vendor_registry.specs.declared.faults.VendorFault.TheVariants as fault
 use Rattle.vendor_registry.specs.Checks.{IsReached, IsStopped, Stock, all_checked, and_then, checked, crate_path}
 use Rattle.vendor_registry.specs.Looked.{is_looked, looked}
 use Rattle.vendor_registry.specs.declared.checks.Checked.{Checked}

@@ -8,33 +8,34 @@ use Rattle.tame_local.specs.Builders.{after, after_change, created, free_at}
 use Rattle.tame_local.specs.Builders as builders
 use Rattle.tame_local.specs.Inserts.{StandsPlain}
 use Rattle.tame_names.specs.declared.errors.Error.{Error}
-use Rattle.tame_local.specs.Refusals.{Refusal}
+use Rattle.tame_local.specs.Refusals.{LocalRefusal}
 use Rattle.tame_local.specs.Refusals.{refused as refused_by}
 use Rattle.tame_local.specs.Refusals as local
 use Rattle.tame_local.specs.Registries.{folder_at, index_of, registry_at, validated}
 use Rattle.audit_lock.specs.declared.resolving.Package.{Package}
-use Rattle.vendor_faults.specs.declared.faults.VendorFault.{VendorFault}
-use Rattle.vendor_faults.specs.declared.faults.VendorFault.TheVariants as fault
+use Rattle.vendor_registry.specs.declared.faults.VendorFault.{VendorFault}
+use Rattle.vendor_registry.specs.declared.faults.VendorFault.TheVariants as fault
 use Rattle.vendor_registry.proofs.Absent.{never_taken}
 use Rattle.tame_local.proofs.Agreed.{registry_agrees, start_sound}
 use Rattle.tame_local.proofs.Agreeing.{Sound}
 use Rattle.tame_local.proofs.Beginnings.{begin_empty}
 use Rattle.vendor_registry.proofs.Decided.{all_decided, stocked_on}
-use Rattle.vendor_registry.proofs.Exact.{all_size, holds_exactly, known}
+use Rattle.vendor_registry.proofs.Exact.{all_size, holds_each, holds_no_other, known}
 use Rattle.vendor_registry.proofs.Facts.{facts_of, pathed}
 use Rattle.vendor_registry.proofs.Places.{read_back_same}
 use Rattle.vendor_registry.proofs.Stocked.{paths_sound}
 use Rattle.vendor_registry.specs.Built.{IsBuildFault, IsOccupied, IsReadBack, IsStoppedBy, IsTaken, all_made, free_fault}
 use Rattle.vendor_registry.specs.Checks.{IsStopped, Stock, all_checked}
+use Rattle.vendor_registry.specs.Failed.{IsToldIn}
 use Rattle.vendor_registry.specs.Looked.{looked}
 use Rattle.vendor_registry.specs.Named.{ArePathed, AreTexts, AreVersioned, IsFolderPath, IsPlace}
-use Rattle.vendor_registry.specs.Vendored.{HoldsExactly, IsBare, IsVendored, paths_of, vendored_files}
+use Rattle.vendor_registry.specs.Vendored.{HoldsEach, HoldsNoOther, IsBare, IsVendored, paths_of, vendored_files}
 use Rattle.vendor_registry.specs.declared.checks.Checked.{Checked}
 use Rattle.vendor_registry.specs.declared.vendoring.Vendored.{Vendored}
 
 -- ---- a registry that was opened
 
-parts : {A B : Type 0} (f : A → Result B Refusal) (r : Result A Refusal) (b : B) → local.and_then f r ≡ Ok b → (a : A) × (r ≡ Ok a) × (f a ≡ Ok b)
+parts : {A B : Type 0} (f : A → Result B LocalRefusal) (r : Result A LocalRefusal) (b : B) → local.and_then f r ≡ Ok b → (a : A) × (r ≡ Ok a) × (f a ≡ Ok b)
 parts f (Ok a) b h = (a, refl, h)
 parts f (Err e) b h = cc
 
@@ -44,10 +45,10 @@ folder_there path (File bs) entries h = cc
 folder_there path (Folder es) entries h = refl
 folder_there path Other entries h = cc
 
-done_ok : (r : Result Unit Refusal) (a : Unit) → r ≡ Ok a → r ≡ Ok tt
+done_ok : (r : Result Unit LocalRefusal) (a : Unit) → r ≡ Ok a → r ≡ Ok tt
 done_ok r a h = h
 
-abbrev path_in : Result (List ℕ) Refusal → List ℕ
+abbrev path_in : Result (List ℕ) LocalRefusal → List ℕ
 path_in (Ok p) = p
 path_in (Err e) = []
 
@@ -75,16 +76,17 @@ checked_pathed stock packages cs h = pathed stock (looked packages) cs (facts_of
 -- ---- the folder
 
 pub is_vendored : (stock : Stock) (packages : List Package) (to : List ℕ) (now : Host) (made : Vendored) (cs : List Checked)
-    → all_checked stock (looked packages) ≡ Ok cs → AreTexts cs → StandsPlain stock.host.stands → IsBare stock.host to
+    → all_checked stock (looked packages) ≡ Ok cs → AreTexts cs → StandsPlain stock.host.stands
     → now ≡ after (all_made to cs) stock.host → registry_at now to true ≡ Ok made.registry.index.path → made.packages ≡ length cs
     → made.bytes ≡ min (builders.size_of (all_made to cs)) (2 ^ 64 - 1) → IsVendored stock packages to now made
-is_vendored stock packages to now made cs checks texts plain bare built open_at count bytes =
+is_vendored stock packages to now made cs checks texts plain built open_at count bytes =
     let known_all = known stock (looked packages) cs (facts_of stock (looked packages) cs checks) texts in
     let there = opened now to made.registry.index.path open_at in
     record {
       checked = cs;
       are_checked = checks;
-      files = subst (λ host. HoldsExactly host to (vendored_files cs)) (sym built) (holds_exactly stock to cs stock.host plain bare known_all);
+      files = subst (λ host. HoldsEach host to (vendored_files cs)) (sym built) (holds_each stock to cs stock.host plain known_all);
+      no_other = λ bare. subst (λ host. HoldsNoOther host to (vendored_files cs)) (sym built) (holds_no_other stock to cs stock.host plain known_all bare);
       index_folder = there.index;
       agrees = there.agrees;
       registry = there.path_is;
@@ -101,7 +103,7 @@ free_back path (Folder []) h = refl
 free_back path (Folder (e ∷ es)) h = cc
 free_back path Other h = cc
 
-ok_no_err : {A : Type 0} (a : A) (e : Refusal) → Ok a ≡ Err e → ⊥
+ok_no_err : {A : Type 0} (a : A) (e : LocalRefusal) → Ok a ≡ Err e → ⊥
 ok_no_err a e h = cc
 
 never_read_back : (stock : Stock) (packages : List Package) (to : List ℕ) (cs : List Checked) (before now : Host) (why : Error)
@@ -148,14 +150,10 @@ occupied_before stock packages to cs before n checks texts bare (inr h) taken =
 
 -- ---- a call that failed
 
-pub by_build : {T : Type 0} (stock : Stock) (packages : List Package) (e : VendorFault) (r : Result T VendorFault) {cs : List Checked} → r ≡ Err e → IsBuildFault e
-    → all_checked stock (looked packages) ≡ Ok cs → IfErr r (IsStoppedBy stock packages)
-by_build stock packages e r is fault checks = rw is (inr (fault, is_ok (all_checked stock (looked packages)) checks))
+pub by_build : (stock : Stock) (packages : List Package) (folder : List ℕ) (e : VendorFault) {cs : List Checked} → IsBuildFault e → IsToldIn folder e
+    → all_checked stock (looked packages) ≡ Ok cs → IsStoppedBy stock packages folder e
+by_build stock packages folder e fault within checks = inr (fault, within, is_ok (all_checked stock (looked packages)) checks)
   where
     is_ok : (a : Result (List Checked) VendorFault) {cs : List Checked} → a ≡ Ok cs → IsOk a
     is_ok (Ok cs) h = refl
     is_ok (Err e) h = cc
-
-pub by_checks : {T : Type 0} (stock : Stock) (packages : List Package) (e : VendorFault) (r : Result T VendorFault) → r ≡ Err e → IsStopped stock (looked packages) e
-    → IfErr r (IsStoppedBy stock packages)
-by_checks stock packages e r is stopped = rw is (inl stopped)

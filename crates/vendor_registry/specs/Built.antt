@@ -6,27 +6,28 @@ use Rattle.tame_names.specs.Paths.{join, parent, ways_to}
 use Rattle.tame_names.specs.Standing.{Host, Standing, Nothing, Folder}
 use Rattle.tame_names.specs.declared.errors.Error.{Error}
 use Rattle.tame_records.specs.Written.{json_lines}
-use Rattle.tame_local.specs.Builders.{AreBegun, Change, Makes, Creates, after, after_change, created}
+use Rattle.tame_local.specs.Builders.{AreBegun, HostChange, Makes, Creates, after, after_change, created}
 use Rattle.tame_local.specs.Inserts.{AreWritten}
 use Rattle.tame_local.specs.Refusals.{refused as refused_by}
 use Rattle.tame_local.specs.Registries.{index_of, registry_at}
 use Rattle.audit_lock.specs.declared.resolving.Package.{Package}
 use Rattle.vendor_registry.specs.Checks.{IsStopped, Stock, all_checked, crate_path}
+use Rattle.vendor_registry.specs.Failed.{IsToldIn}
 use Rattle.vendor_registry.specs.Looked.{looked}
 use Rattle.vendor_registry.specs.Named.{ArePathed}
 use Rattle.vendor_registry.specs.Vendored.{on, paths_of}
 use Rattle.vendor_registry.specs.declared.checks.Checked.{Checked}
-use Rattle.vendor_faults.specs.declared.faults.VendorFault.{VendorFault}
-use Rattle.vendor_faults.specs.declared.faults.VendorFault.TheVariants as fault
+use Rattle.vendor_registry.specs.declared.faults.VendorFault.{VendorFault}
+use Rattle.vendor_registry.specs.declared.faults.VendorFault.TheVariants as fault
 
 -- ---- changes
 
 -- the crate file of what was checked
-abbrev pub crate_made : List ℕ → Checked → Change
+abbrev pub crate_made : List ℕ → Checked → HostChange
 crate_made folder c = Creates (crate_path folder c.version.name c.version.version) c.bytes
 
 -- what is put on a path: the folder of its index file, that file, and the crate files in order
-abbrev pub path_made : List ℕ → List ℕ → List Checked → List Change
+abbrev pub path_made : List ℕ → List ℕ → List Checked → List HostChange
 path_made folder q [] = []
 path_made folder q (c ∷ cs) =
     Makes (unwrap_or (parent (join (index_of folder) q)) [])
@@ -34,11 +35,11 @@ path_made folder q (c ∷ cs) =
     ∷ map (crate_made folder) (c ∷ cs)
 
 -- what is put on these paths, one after the other
-abbrev pub paths_made : List ℕ → List Checked → List (List ℕ) → List Change
+abbrev pub paths_made : List ℕ → List Checked → List (List ℕ) → List HostChange
 paths_made folder cs qs = flat_map (λ q. path_made folder q (on q cs)) qs
 
 -- the folder of the index, and then path by path
-abbrev pub all_made : List ℕ → List Checked → List Change
+abbrev pub all_made : List ℕ → List Checked → List HostChange
 all_made folder cs = created folder ∷ paths_made folder cs (paths_of cs)
 
 -- ---- what is there when a change is made
@@ -121,11 +122,11 @@ IsBuildFault (fault.ReadBack why) = Unit {0}
 IsBuildFault fault.NoMemory = Unit {0}
 IsBuildFault e = ⊥
 
--- a call that failed: in the checks, or once all packages were checked
-abbrev pub IsStoppedBy : Stock → List Package → VendorFault → Type 0
-IsStoppedBy stock packages e =
+-- a call that failed: in the checks; or at a path of the registry, once all packages were checked
+abbrev pub IsStoppedBy : Stock → List Package → List ℕ → VendorFault → Type 0
+IsStoppedBy stock packages folder e =
     IsStopped stock (looked packages) e
-    ⊎ (IsBuildFault e × IsOk (all_checked stock (looked packages)))
+    ⊎ (IsBuildFault e × IsToldIn folder e × IsOk (all_checked stock (looked packages)))
 
 -- a refusal by what stands at the folder beforehand; or one entry, at an index file that has come
 -- meanwhile

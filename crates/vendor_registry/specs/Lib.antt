@@ -5,3 +5,4 @@ pub mod Looked
 pub mod Named
 pub mod Vendored
 pub mod Grouped
+pub mod Vendoring

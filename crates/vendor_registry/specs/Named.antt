@@ -3,7 +3,8 @@ use Rattle.std.specs.Prelude.{◌≡◌, ◌<◌, ◌⊎◌, ℕ, List, [], ◌�
 use Rattle.std.specs.Str.{IsUtf8}
 use Rattle.semver.specs.Parse.{version_parts}
 use Rattle.tame_names.specs.Names.{path}
-use Rattle.tame_names.specs.Paths.{ends_with_slash}
+use Rattle.tame_names.specs.Paths.{ends_with_slash, plain_path}
+use Rattle.tame_names.specs.declared.memory_nodes.MemFile.{MemFile}
 use Rattle.audit_lock.specs.declared.resolving.Package.{Package}
 use Rattle.vendor_registry.specs.declared.checks.Checked.{Checked}
 
@@ -31,3 +32,13 @@ IsPlace folder = (0 < length folder) × (ends_with_slash folder ≡ false)
 abbrev pub IsFolderPath : List ℕ → Type 0
 IsFolderPath path =
     (folder : List ℕ) × IsPlace folder × ((path ≡ folder) ⊎ (path ≡ folder ++ 47 ∷ []))
+
+-- a path below a folder: the folder's path stands in front of it, with a slash
+abbrev pub IsBelow : List ℕ → List ℕ → Type 0
+IsBelow folder path = (rest : List ℕ) × (path ≡ folder ++ 47 ∷ rest)
+
+-- none of these files in memory is below a folder, whatever slashes end its path
+abbrev pub NoneBelow : List ℕ → List MemFile → Type 0
+NoneBelow folder [] = Unit {0}
+NoneBelow folder (file ∷ files) =
+    (IsBelow folder (plain_path file.path) → ⊥) × NoneBelow folder files

@@ -66,12 +66,17 @@ pub data IsAmong (path bytes : List ℕ) : Files → Type 0 where
   later : (file : List ℕ × List ℕ) (files : Files) → IsAmong path bytes files
       → IsAmong path bytes (file ∷ files)
 
--- the files in a folder are exactly these: each stands there with its bytes, and no other does
-pub record HoldsExactly (host : Host) (folder : List ℕ) (files : Files) : Type 0 where
-  pub each : (path bytes : List ℕ) → IsAmong path bytes files
-      → host.stands (join folder path) ≡ File bytes
-  pub no_other : (path bytes : List ℕ) → IsInner path
-      → host.stands (join folder path) ≡ File bytes → IsAmong path bytes files
+-- each of these files stands in a folder, with its bytes
+abbrev pub HoldsEach : Host → List ℕ → Files → Type 0
+HoldsEach host folder files =
+    (path bytes : List ℕ) → IsAmong path bytes files
+    → host.stands (join folder path) ≡ File bytes
+
+-- no other file stands in it, however deep
+abbrev pub HoldsNoOther : Host → List ℕ → Files → Type 0
+HoldsNoOther host folder files =
+    (path bytes : List ℕ) → IsInner path
+    → host.stands (join folder path) ≡ File bytes → IsAmong path bytes files
 
 -- nothing is in a folder, however deep
 abbrev pub IsBare : Host → List ℕ → Type 0
@@ -80,14 +85,15 @@ IsBare host folder =
 
 -- ---- a vendored folder
 
--- a folder is vendored for the packages of a lockfile, and this was answered: it holds exactly the
--- files of what was checked of them, agrees with its index, and these are its index, the number of
--- its crate files and that of its bytes
+-- a folder is vendored for the packages of a lockfile, and this was answered: it holds the files of
+-- what was checked of them, and no others where nothing was in it beforehand; it agrees with its
+-- index, and these are its index, the number of its crate files and that of its bytes
 pub record IsVendored (stock : Stock) (packages : List Package) (folder : List ℕ)
     (host : Host) (made : Vendored) : Type 0 where
   pub checked : List Checked
   pub are_checked : all_checked stock (looked packages) ≡ Ok checked
-  pub files : HoldsExactly host folder (vendored_files checked)
+  pub files : HoldsEach host folder (vendored_files checked)
+  pub no_other : IsBare stock.host folder → HoldsNoOther host folder (vendored_files checked)
   pub index_folder : is_folder (host.stands (index_of folder)) ≡ true
   pub agrees : validated host (index_of folder) ≡ Ok tt
   pub registry : made.registry.index.path ≡ index_of folder

@@ -9,19 +9,19 @@ ghost use Rattle.tame_local.specs.Builders.{AreBegun, IsBegun, after, after_chan
 ghost use Rattle.tame_local.specs.Inserts.{AreWritten};
 ghost use Rattle.tame_local.specs.Registries.{index_of, registry_at};
 ghost use Rattle.vendor_registry.specs.Built.{AreFilled, IsBeginFault, IsBuildFault, IsFilled, IsInsertFault, IsOccupied, IsReadBack, IsTaken, all_made, crate_made, free_fault, is_behind, path_made, paths_made};
-ghost use Rattle.vendor_registry.specs.Failed.{AddsFailed};
+ghost use Rattle.vendor_registry.specs.Failed.{AddsFailed, IsToldIn};
 ghost use Rattle.vendor_registry.specs.Named.{ArePathed};
 ghost use Rattle.vendor_registry.specs.Vendored.{on, paths_of};
 ghost use Rattle.vendor_registry.specs.Grouped.{AreGroups};
 ghost use Rattle.vendor_registry.specs.declared.checks.Checked.{Checked};
 
 use crate::checks::Checked;
+use crate::faults::VendorFault;
 use crate::grouping::{Groups, distinct_paths, group_on, grouped};
 use std::alloc::Global;
 use tame_local::{LocalRegistry, LocalRegistryBuilder, ValidKrate};
 use tame_names::{Error, Files, IoKind, Items, MemSink, NoMemory, Text};
-use tame_records::{IndexKrate, IndexVersion};
-use vendor_faults::VendorFault;
+use tame_records::{IndexKrate, IndexVersion, LineFault};
 
 // ---- what is put on a path
 
@@ -37,7 +37,8 @@ fn copied(alloc: Global, version: &IndexVersion) -> Result<IndexVersion, NoMemor
     }
     match IndexVersion::read_line(alloc, sink.bytes()) {
         Ok(copy) => Ok(copy),
-        Err(_) => Err(NoMemory),
+        Err(LineFault::NoMemory) => Err(NoMemory),
+        Err(LineFault::Json) => unreachable!("a written line is a record"),
     }
 }
 
@@ -129,6 +130,7 @@ fn insert_path<F: Files>(
         → CountRose (F.faults files.old) (F.faults files.new) }
     ensures later { F.faults files.old ≤ F.faults files.new }
     ensures failed { F.tells → AddsFailed (F.failed files.old) (F.failed files.new) result }
+    ensures within { F.tells → IfErr result (IsToldIn builder.now.path) }
 {
     let krate = krate_on(alloc, path, checked)?;
     if krate.versions.is_empty() {
@@ -173,6 +175,7 @@ fn insert_group<F: Files>(
         → CountRose (F.faults files.old) (F.faults files.new) }
     ensures later { F.faults files.old ≤ F.faults files.new }
     ensures failed { F.tells → AddsFailed (F.failed files.old) (F.failed files.new) result }
+    ensures within { F.tells → IfErr result (IsToldIn builder.now.path) }
 {
     insert_path(alloc, builder, path, group_on(groups, path), files)
 }
@@ -206,6 +209,7 @@ fn insert_paths<F: Files>(
         → CountRose (F.faults files.old) (F.faults files.new) }
     ensures later { F.faults files.old ≤ F.faults files.new }
     ensures failed { F.tells → AddsFailed (F.failed files.old) (F.failed files.new) result }
+    ensures within { F.tells → IfErr result (IsToldIn builder.now.path) }
 {
     let mut written: u64 = 0;
     for path in paths {
@@ -245,13 +249,15 @@ fn begin<F: Files>(
         → CountRose (F.faults files.old) (F.faults files.new) }
     ensures later { F.faults files.old ≤ F.faults files.new }
     ensures failed { F.tells → AddsFailed (F.failed files.old) (F.failed files.new) result }
+    ensures within { F.tells → IfErr result (IsToldIn to) }
 {
     match LocalRegistryBuilder::create(alloc, files, to) {
         Ok(builder) => Ok(builder),
         Err(Error::IoPath(IoKind::AlreadyExists(count), _)) => Err(VendorFault::NotEmpty(count)),
         Err(Error::IoPath(IoKind::NotADirectory, _)) => Err(VendorFault::NotADirectory),
         Err(Error::IoPath(IoKind::Failed, path)) => Err(VendorFault::File { path }),
-        Err(_) => Err(VendorFault::NoMemory),
+        Err(Error::NoMemory) => Err(VendorFault::NoMemory),
+        Err(_) => unreachable!("a folder is no folder, occupied or not made"),
     }
 }
 
@@ -299,6 +305,7 @@ pub fn build<F: Files>(
         → CountRose (F.faults files.old) (F.faults files.new) }
     ensures later { F.faults files.old ≤ F.faults files.new }
     ensures failed { F.tells → AddsFailed (F.failed files.old) (F.failed files.new) result }
+    ensures within { F.tells → IfErr result (IsToldIn to) }
 {
     let builder = begin(alloc, to, files)?;
     let paths = distinct_paths(alloc, checked.as_slice())?;

@@ -11,6 +11,7 @@ ghost use Rattle.vendor_registry.specs.Checks.{IsCheckFault, checked, crate_chec
 ghost use Rattle.vendor_registry.specs.Checks as spec;
 ghost use Rattle.vendor_registry.specs.Failed.{AddsFailed, IsQuiet};
 
+use crate::faults::VendorFault;
 use audit_lock::Package;
 use bytes::Bytes;
 use sha2::{Digest, Sha256};
@@ -22,7 +23,6 @@ use tame_names::{
 };
 use tame_records::{Chksum, IndexVersion};
 use tame_sparse::SparseIndex;
-use vendor_faults::VendorFault;
 
 /// The most bytes of a crate file, 64 MiB.
 const CRATE_LIMIT: u64 = 67108864;
@@ -59,7 +59,8 @@ fn read_records(
         match item.deserialize(alloc) {
             Ok(record) => records.add(record)?,
             Err(Error::Json { .. }) => return Err(VendorFault::Record { package: place }),
-            Err(_) => return Err(VendorFault::NoMemory),
+            Err(Error::NoMemory) => return Err(VendorFault::NoMemory),
+            Err(_) => unreachable!("a line is no record, or memory ran out"),
         }
     }
     Ok(records)
@@ -111,7 +112,8 @@ fn kept_records<D: CacheDisk>(
         Ok(Some(entry)) => entry_records(alloc, place, &entry),
         Ok(None) => Err(VendorFault::Absent { package: place }),
         Err(Error::Io(IoKind::Failed)) => Err(VendorFault::Store { package: place }),
-        Err(_) => Err(VendorFault::NoMemory),
+        Err(Error::NoMemory) => Err(VendorFault::NoMemory),
+        Err(_) => unreachable!("the disk failed, or memory ran out"),
     }
 }
 

@@ -1,12 +1,12 @@
 //! Laws of the definitions that contracts cite.
-ghost use Rattle.std.specs.Prelude.{◌≡◌, [], ℕ, List, Ok};
+ghost use Rattle.std.specs.Prelude.{◌≡◌, ℕ, List, Ok};
 ghost use Rattle.tame_names.specs.MemoryFiles.{host_in};
 ghost use Rattle.tame_names.specs.declared.memory_files.MemFiles.{MemFiles};
 ghost use Rattle.tame_local.specs.Inserts.{StandsPlain};
 ghost use Rattle.audit_lock.specs.Locked.{locked};
 ghost use Rattle.audit_lock.specs.declared.resolving.Package.{Package};
 ghost use Rattle.vendor_registry.specs.Looked.{AreEachPair, looked};
-ghost use Rattle.vendor_registry.specs.Named.{AreVersioned};
+ghost use Rattle.vendor_registry.specs.Named.{AreVersioned, IsPlace, NoneBelow};
 ghost use Rattle.vendor_registry.specs.Vendored.{IsBare};
 
 /// The packages that a registry is made of are those of the default registry, in the lockfile's
@@ -28,9 +28,9 @@ pub fn hosts_in_memory_stand_plain()
     ensures { (files : MemFiles) → StandsPlain (host_in files).stands }
 {}
 
-/// On a host in memory that has no file nothing is in any folder, however deep, as the clauses on
-/// what is vendored ask for.
-pub fn empty_hosts_in_memory_are_bare()
-    ensures { (files : MemFiles) (folder : List ℕ) → files.files ≡ []
-        → IsBare (host_in files) folder }
+/// On a host in memory that has no file below a folder nothing is in it, however deep: what
+/// `no_other` and `not_empty` of a registry ask for. Its crate files may lie elsewhere.
+pub fn hosts_in_memory_are_bare()
+    ensures { (files : MemFiles) (folder : List ℕ) → IsPlace folder
+        → NoneBelow folder files.files → IsBare (host_in files) folder }
 {}

@@ -14,14 +14,15 @@
 
 mod building;
 mod checks;
+mod faults;
 mod grouping;
 mod laws;
 mod looking;
 mod vendoring;
 
+pub use faults::VendorFault;
 pub use laws::{
-    each_pair_is_looked_at_once, empty_hosts_in_memory_are_bare, hosts_in_memory_stand_plain,
+    each_pair_is_looked_at_once, hosts_in_memory_are_bare, hosts_in_memory_stand_plain,
     packages_of_lockfiles_are_versioned,
 };
-pub use vendor_faults::VendorFault;
 pub use vendoring::{Vendored, vendor};

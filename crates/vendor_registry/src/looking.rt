@@ -11,6 +11,7 @@ ghost use Rattle.vendor_registry.specs.Looked as spec;
 ghost use Rattle.vendor_registry.specs.Named.{AreTexts};
 
 use crate::checks::{Checked, check_package};
+use crate::faults::VendorFault;
 use audit_core::is_default;
 use audit_lock::Package;
 use std::alloc::Global;
@@ -18,7 +19,6 @@ use std::collections::BTreeSet;
 use tame_cache::CacheDisk;
 use tame_names::{FileLock, Files, Items, NoMemory, Text};
 use tame_sparse::SparseIndex;
-use vendor_faults::VendorFault;
 
 /// The name and the version of a package.
 #[derive(Debug, Drop, PartialEq, Eq, PartialOrd, Ord)]

@@ -1,6 +1,7 @@
 //! What advisories hit, and what reports of small databases find.
 use crate::advisories::reading::headed;
-use crate::stage::{Laid, Stage, read_advisory, read_lockfile, settings_of, without_newline};
+use crate::stage::{Laid, Stage, settings_of, without_newline};
+use advice_fixtures::{read_advisory, read_lockfile};
 use audit_advisory::{
     Advisory, Database, DenyOption, Report, Settings, Vulnerability, Warning, fails, hits,
     read_version,
@@ -51,16 +52,16 @@ fn hits_in(
 
 /// The same of the first advisory of a stage and of its lockfile.
 fn hits_under(alloc: Global, settings: &Settings, stage: &Stage) -> Result<String, RowFault> {
-    let text = stage.first()?;
+    let text = stage.texts.first()?;
     match read_advisory(alloc, text) {
-        Ok(advisory) => hits_in(alloc, settings, &advisory, stage.lock()),
+        Ok(advisory) => hits_in(alloc, settings, &advisory, stage.texts.lock()),
         Err(fault) => Err(fault),
     }
 }
 
 /// `hits IGNORE SEVERITY ARCH OS KINDS`
 pub fn hits_of(alloc: Global, stage: &mut Stage, row: Row<'_>) -> Result<String, RowFault> {
-    stage.end(alloc)?;
+    stage.texts.end(alloc)?;
     match settings_of(alloc, row) {
         Ok(settings) => hits_under(alloc, &settings, stage),
         Err(fault) => Err(fault),
@@ -70,7 +71,8 @@ pub fn hits_of(alloc: Global, stage: &mut Stage, row: Row<'_>) -> Result<String,
 /// `add HEAD`
 pub fn add(alloc: Global, stage: &mut Stage, row: Row<'_>) -> Result<String, RowFault> {
     let text = headed(alloc, row.rest())?;
-    stage.add_advisory(alloc, text)
+    stage.texts.add_advisory(text)?;
+    Ok(String::new(alloc))
 }
 
 fn id_at(advisories: &[Advisory], place: Option<usize>) -> &str {

@@ -44,8 +44,8 @@ fn parts_of(alloc: Global, advisory: &Advisory) -> Result<String, RowFault> {
 
 /// `parts`
 pub fn parts(alloc: Global, stage: &mut Stage) -> Result<String, RowFault> {
-    stage.end(alloc)?;
-    match Advisory::read(alloc, stage.first()?) {
+    stage.texts.end(alloc)?;
+    match Advisory::read(alloc, stage.texts.first()?) {
         Ok(advisory) => parts_of(alloc, &advisory),
         Err(fault) => Ok(format!(in alloc; "{fault:?}")?),
     }

@@ -116,7 +116,6 @@ fn audit_line(
         alloc,
         auditor,
         &stage.limits,
-        stage.deny.as_slice(),
         paths,
         files,
         decoder,
@@ -146,4 +145,23 @@ pub fn audit(alloc: Global, stage: &mut Stage, words: Row<'_>) -> Result<String,
         &mut decoder,
         &mut wire,
     )
+}
+
+/// `lockfile PATH`: the audit of the lockfile at this path.
+pub fn lockfile(alloc: Global, stage: &mut Stage, words: Row<'_>) -> Result<String, RowFault> {
+    let mut files = host_with(alloc, stage.laid.as_slice(), &[], Vec::new(alloc))?;
+    let auditor = auditor_of(alloc, stage)?;
+    let script = mem::replace(&mut stage.script, Items::new(alloc));
+    let mut wire = MemWire::new(alloc, script);
+    let (path, lock, disk) = (words.rest(), FileLock::unlocked(), &mut stage.disk);
+    let answer = auditor.audit_lockfile(alloc, &mut files, path, &lock, &mut wire, disk);
+    let mut out = String::new(alloc);
+    match &answer {
+        Ok(audited) => {
+            out.push_str("Audited")?;
+            push_audited(&mut out, audited)?;
+        }
+        Err(fault) => write!(out, "{fault:?}")?,
+    }
+    Ok(out)
 }

@@ -12,7 +12,8 @@
 //! - `serve STATUS REVISION BODY`: the next answer of the server;
 //! - `failing READS DECODES`: the reads and the decodings with these numbers, counted from 1, fail
 //!   in the next audit;
-//! - `audit PATH ..`: the audit of the binaries at these paths.
+//! - `audit PATH ..`: the audit of the binaries at these paths;
+//! - `lockfile PATH`: the audit of the lockfile at this path.
 mod audits;
 mod stage;
 
@@ -34,6 +35,7 @@ pub fn answer(alloc: Global, stage: &mut Stage, row: Row<'_>) -> Result<String, 
         "serve" => stage.add_answer(alloc, words),
         "failing" => stage.set_failing(alloc, words),
         "audit" => audits::audit(alloc, stage, words),
+        "lockfile" => audits::lockfile(alloc, stage, words),
         _ => Err(RowFault::Unread),
     }
 }

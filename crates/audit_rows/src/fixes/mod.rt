@@ -24,9 +24,6 @@ pub fn answer(alloc: Global, stage: &mut Stage, row: Row<'_>) -> Result<String, 
     let mut words = row;
     match words.word() {
         "clear" => stage.clear(alloc),
-        "advisory" => stage.begin_advisory(alloc),
-        "lock" => stage.begin_lock(alloc),
-        "|" => stage.add_line(alloc, words),
         "audit" => stage.make_audit(alloc),
         "empty" => stage.make_empty(alloc),
         "hit" => stage.add_hit(alloc, words),
@@ -34,6 +31,6 @@ pub fn answer(alloc: Global, stage: &mut Stage, row: Row<'_>) -> Result<String, 
         "fix" => fixing::fix(alloc, stage, words),
         "unable" => fixing::unable(alloc, stage, words),
         "error" => errors::error(alloc, words),
-        _ => Err(RowFault::Unread),
+        _ => stage.texts.answer(alloc, row),
     }
 }

@@ -1,13 +1,11 @@
 //! What the rows work on.
-use audit_advisory::{
-    Advisory, AdvisoryFault, Comparisons, Database, Report, Settings, Vulnerability,
-};
+use advice_fixtures::LaidTexts;
+use audit_advisory::{Comparisons, Database, Report, Settings, Vulnerability};
 use audit_core::Audited;
-use audit_lock::{Lockfile, LockfileFault};
-use row_fixtures::{Row, RowFault, plain_text};
+use audit_lock::Lockfile;
+use row_fixtures::{Row, RowFault};
 use std::alloc::Global;
-use std::mem;
-use tame_names::{Items, Text};
+use tame_names::Items;
 
 /// An audit, with the advisories that it speaks of.
 #[derive(Drop)]
@@ -16,47 +14,11 @@ pub struct Laid {
     pub audited: Audited,
 }
 
-/// What text is being laid.
-#[derive(Clone, Copy)]
-enum Begun {
-    Nothing,
-    Advisory,
-    Lock,
-}
-
 /// The texts that were laid, and the audit that was made.
 #[derive(Drop)]
 pub struct Stage {
-    advisories: Items<Text>,
-    lock: String,
-    begun: Begun,
-    /// The text that is being laid.
-    text: String,
+    pub texts: LaidTexts,
     laid: Option<Laid>,
-}
-
-fn read_advisory(alloc: Global, text: &str) -> Result<Advisory, RowFault> {
-    match Advisory::read(alloc, text) {
-        Ok(advisory) => Ok(advisory),
-        Err(AdvisoryFault::NoMemory) => Err(RowFault::NoMemory),
-        Err(_) => Err(RowFault::Unread),
-    }
-}
-
-fn read_advisories(alloc: Global, texts: &[Text]) -> Result<Items<Advisory>, RowFault> {
-    let mut advisories = Items::new(alloc);
-    for text in texts {
-        advisories.add(read_advisory(alloc, text.as_str())?)?;
-    }
-    Ok(advisories)
-}
-
-fn read_lockfile(alloc: Global, text: &str) -> Result<Lockfile, RowFault> {
-    match Lockfile::read(alloc, text) {
-        Ok(lockfile) => Ok(lockfile),
-        Err(LockfileFault::NoMemory) => Err(RowFault::NoMemory),
-        Err(_) => Err(RowFault::Unread),
-    }
 }
 
 /// Settings that ask for nothing but vulnerabilities.
@@ -84,10 +46,10 @@ fn audit_of(alloc: Global, database: &Database, lockfile: Lockfile) -> Result<Au
     })
 }
 
-/// The audit of the lockfile with this text, with these advisories.
-fn laid_of(alloc: Global, advisories: &[Text], lock: &str) -> Result<Laid, RowFault> {
-    let lockfile = read_lockfile(alloc, lock)?;
-    let database = Database::new(alloc, read_advisories(alloc, advisories)?)?;
+/// The audit of the lockfile that was laid, with its advisories.
+fn laid_of(alloc: Global, texts: &LaidTexts) -> Result<Laid, RowFault> {
+    let lockfile = texts.lockfile(alloc)?;
+    let database = texts.database(alloc)?;
     let audited = audit_of(alloc, &database, lockfile)?;
     Ok(Laid { database, audited })
 }
@@ -96,10 +58,7 @@ impl Stage {
     /// A stage without anything.
     pub fn new(alloc: Global) -> Stage {
         Stage {
-            advisories: Items::new(alloc),
-            lock: String::new(alloc),
-            begun: Begun::Nothing,
-            text: String::new(alloc),
+            texts: LaidTexts::new(alloc),
             laid: None,
         }
     }
@@ -110,40 +69,10 @@ impl Stage {
         Ok(String::new(alloc))
     }
 
-    /// The text that is being laid is whole, and another one begins.
-    fn begin(&mut self, alloc: Global, next: Begun) -> Result<String, RowFault> {
-        let text = mem::replace(&mut self.text, String::new(alloc));
-        match self.begun {
-            Begun::Nothing => {}
-            Begun::Advisory => self.advisories.add(Text::from_string(text))?,
-            Begun::Lock => self.lock = text,
-        }
-        self.begun = next;
-        Ok(String::new(alloc))
-    }
-
-    /// `advisory`
-    pub fn begin_advisory(&mut self, alloc: Global) -> Result<String, RowFault> {
-        self.begin(alloc, Begun::Advisory)
-    }
-
-    /// `lock`
-    pub fn begin_lock(&mut self, alloc: Global) -> Result<String, RowFault> {
-        self.begin(alloc, Begun::Lock)
-    }
-
-    /// `| LINE`
-    pub fn add_line(&mut self, alloc: Global, row: Row<'_>) -> Result<String, RowFault> {
-        let line = plain_text(alloc, row.rest())?;
-        self.text.push_str(line.as_str())?;
-        self.text.push_str("\n")?;
-        Ok(String::new(alloc))
-    }
-
     /// `audit`
     pub fn make_audit(&mut self, alloc: Global) -> Result<String, RowFault> {
-        self.begin(alloc, Begun::Nothing)?;
-        let laid = laid_of(alloc, self.advisories.as_slice(), self.lock.as_str())?;
+        self.texts.end(alloc)?;
+        let laid = laid_of(alloc, &self.texts)?;
         self.laid = Some(laid);
         Ok(String::new(alloc))
     }

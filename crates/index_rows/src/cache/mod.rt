@@ -44,6 +44,7 @@ fn answer_of_values(alloc: Global, row: Row<'_>) -> Result<String, RowFault> {
         "krate" => readings::krate(alloc, words),
         "items" => readings::items(alloc, words),
         "line" => readings::line(alloc, words),
+        "status" => readings::status(alloc, words),
         "laws" => readings::laws(alloc),
         _ => Err(RowFault::Unread),
     }

@@ -1,11 +1,11 @@
 //! Index entries read as the versions of a crate, and line by line.
 use crate::cache::revisions::revision_of;
 use crate::cache::sources::{Source, written};
-use row_fixtures::{INDEX_URL, RevisionWord, Row, RowFault, asked, shown, shown_word};
+use row_fixtures::{INDEX_URL, RevisionWord, Row, RowFault, asked, body_of, shown, shown_word};
 use std::alloc::{AllocError, Global};
 use tame_entry::{
-    IndexEntry, IndexEntryVersion, LockedMmap, Revision, ValidCacheEntry, entries_read_as_bodies,
-    entries_read_back,
+    IndexEntry, IndexEntryVersion, JsonLines, LockedMmap, Revision, ValidCacheEntry,
+    entries_read_as_bodies, entries_read_back, read_version_flags, status_among,
 };
 use tame_names::{Error, FileLock, MemFiles};
 use tame_records::{IndexKrate, IndexVersion};
@@ -137,6 +137,18 @@ pub fn line(alloc: Global, mut words: Row<'_>) -> Result<String, RowFault> {
         Ok(version) => record_line(alloc, &version),
         Err(fault) => Err(fault),
     }
+}
+
+/// `status VERSION BODY`: what the lines of a body say of a version.
+pub fn status(alloc: Global, mut words: Row<'_>) -> Result<String, RowFault> {
+    let version = words.word();
+    let body = body_of(alloc, words.word())?;
+    let Ok(lines) = JsonLines::validate(body.as_slice()) else {
+        return Err(RowFault::Unread);
+    };
+    let flags = read_version_flags(alloc, lines)?;
+    let status = status_among(&flags, version);
+    Ok(format!(in alloc; "{status:?}")?)
 }
 
 /// `map PATH`: the bytes of a file.

@@ -62,7 +62,21 @@ fn serde_json() -> KrateName<'static> {
     KrateName::from_static("serde_json")
 }
 
-/// `static`: the same with its path.
-pub fn static_name(alloc: Global) -> Result<String, RowFault> {
-    path_of(alloc, Ok(serde_json()), None)
+/// Another one, which crates.io accepts.
+fn underscored() -> KrateName<'static> {
+    KrateName::from_static("_a")
+}
+
+/// `static`: the first with its path; `static _a`: the second.
+pub fn static_name(alloc: Global, mut words: Row<'_>) -> Result<String, RowFault> {
+    match words.word() {
+        "_a" => path_of(alloc, Ok(underscored()), None),
+        _ => path_of(alloc, Ok(serde_json()), None),
+    }
+}
+
+/// `padded NAME`: a name in three places, behind blanks.
+pub fn padded(alloc: Global, mut words: Row<'_>) -> Result<String, RowFault> {
+    let name = words.name(alloc)?;
+    Ok(format!(in alloc; "{name:>3}")?)
 }

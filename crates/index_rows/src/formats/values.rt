@@ -50,6 +50,14 @@ pub fn digest(alloc: Global, mut words: Row<'_>) -> Result<String, RowFault> {
     Ok(format!(in alloc; "{text} {first} {last} {is_shown} [{digest:?}]")?)
 }
 
+/// `debug TEXT`: the debug text of a digest where lines may be broken.
+pub fn debug(alloc: Global, mut words: Row<'_>) -> Result<String, RowFault> {
+    match Chksum::parse(words.word()) {
+        Ok(digest) => Ok(format!(in alloc; "{digest:#?}")?),
+        Err(_) => Err(RowFault::Unread),
+    }
+}
+
 /// `digests TEXT TEXT`: whether two digests are equal; the second one is parsed by `FromStr`.
 pub fn digests(alloc: Global, mut words: Row<'_>) -> Result<String, RowFault> {
     let (Ok(one), Ok(other)) = (Chksum::parse(words.word()), words.word().parse::<Chksum>()) else {

@@ -6,7 +6,7 @@
 //! - `disk FAILING`: a cache without entries, whose calls with these numbers fail.
 //! - `keep PATH VERSIONS`: an entry of the cache at an index path, with a record for each version,
 //!   `NAME@VERSION` with commas between them, whose digest is `ABC`, or that of no file for
-//!   `NAME@VERSION!`; a version `{}` is a line without a record. `spoil PATH BYTES`: a file of the
+//!   `NAME@VERSION~`; a version `{}` is a line without a record. `spoil PATH BYTES`: a file of the
 //!   cache with these bytes.
 //! - `lock PACKAGES`: a lockfile of packages `NAME@VERSION` of the default registry, with blanks
 //!   between them; none of `-`. `| LINE`: a line more of it.

@@ -23,7 +23,7 @@ pub struct Stage {
 }
 
 /// The lines of versions, each a word `NAME@VERSION` with commas between them, whose digest is
-/// that of `abc`, or of no file behind `!`; `{}` as it is.
+/// that of `abc`, or of no file behind `~`; `{}` as it is.
 fn body_of(alloc: Global, versions: &str) -> Result<String, RowFault> {
     let mut body = String::new(alloc);
     for version in versions.split(',') {
@@ -34,7 +34,7 @@ fn body_of(alloc: Global, versions: &str) -> Result<String, RowFault> {
         let Some((name, number)) = version.split_once('@') else {
             return Err(RowFault::Unread);
         };
-        let (number, digest) = match number.strip_suffix('!') {
+        let (number, digest) = match number.strip_suffix('~') {
             Some(number) => (number, DIGEST),
             None => (number, ABC),
         };

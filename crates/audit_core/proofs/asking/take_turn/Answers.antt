@@ -11,11 +11,11 @@ use Rattle.audit_core.proofs.Names.{file_named}
 use Rattle.audit_core.proofs.Steps.{exchanged_from, part_named}
 use Rattle.audit_core.proofs.asking.take_turn.Goals as goal
 
-pub returns-in-Err-clause-part : goal.returns-in-Err-clause-part
-returns-in-Err-clause-part g c told = ([], 0, sym (append-nil _), refl, tt)
+pub returns-in-Err-NoMemory-clause-part : goal.returns-in-Err-NoMemory-clause-part
+returns-in-Err-NoMemory-clause-part g c told = ([], 0, sym (append-nil _), refl, tt)
 
-pub returns-in-Err-clause-kept : goal.returns-in-Err-clause-kept
-returns-in-Err-clause-kept g c told_wire told =
+pub returns-in-Err-NoMemory-clause-kept : goal.returns-in-Err-NoMemory-clause-kept
+returns-in-Err-NoMemory-clause-kept g c told_wire told =
     let past = g.D.CacheDisk.past in
     let exchanges = g.W.Wire.exchanges in
     keeps_unchanged (exchanges c.args.wire.now) (exchanges c.args.wire.now) (past c.args.disk.now) (past c.make_remote_request.new.disk) (c.make_remote_request.ensures.same told)
@@ -64,8 +64,8 @@ returns-clause-said g c told_wire =
       ),
     )
 
-pub returns-in-Err-clause-others : goal.returns-in-Err-clause-others
-returns-in-Err-clause-others g c told q other = c.make_remote_request.ensures.same told q
+pub returns-in-Err-NoMemory-clause-others : goal.returns-in-Err-NoMemory-clause-others
+returns-in-Err-NoMemory-clause-others g c told q other = c.make_remote_request.ensures.same told q
 
 pub returns-in_err-answer-clause-others : goal.returns-in_err-answer-clause-others
 returns-in_err-answer-clause-others g c told q other =
@@ -81,8 +81,8 @@ returns-clause-others g c told q other =
 pub exchange_answer-requires-clause-url : goal.exchange_answer-requires-clause-url
 exchange_answer-requires-clause-url g c = c.in-Ok.ensures.uri ∙ ap (λ (u : List ℕ). http_url u ++ c.in-Ok.request.path) c.requires.url
 
-pub returns-in-Err-clause-folders : goal.returns-in-Err-clause-folders
-returns-in-Err-clause-folders g c told = none_made _ _ _ (c.make_remote_request.ensures.folders told)
+pub returns-in-Err-NoMemory-clause-folders : goal.returns-in-Err-NoMemory-clause-folders
+returns-in-Err-NoMemory-clause-folders g c told = none_made _ _ _ (c.make_remote_request.ensures.folders told)
 
 pub returns-in_err-answer-clause-folders : goal.returns-in_err-answer-clause-folders
 returns-in_err-answer-clause-folders g c told = rw (c.make_remote_request.ensures.folders told, c.krate_name-krate.ensures) at (c.exchange_answer.ensures.folders told)

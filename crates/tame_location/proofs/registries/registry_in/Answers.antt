@@ -1,11 +1,13 @@
-use Rattle.std.proofs.Common.{◌≡◌, Contains, Some, Ok, Err, Result, IfOk, IfErr, ap, sym, subst}
+use Rattle.std.proofs.Common.{◌≡◌, Contains, Some, Ok, Err, Result, IfOk, IfErr, ap, sym, subst, rules, arith}
+use Rattle.std.proofs.lemmas.Grind.{common_steps}
+use Rattle.std.proofs.lemmas.List.Elements.{Contains-append_left}
 use Rattle.toml_tables.specs.Results.{and_then}
 use Rattle.tame_names.specs.declared.errors.Error.{Error}
 use Rattle.tame_location.specs.Calls.{IsTold}
 use Rattle.tame_location.specs.Registries.{indexed, indexed_calls, registry_calls}
 use Rattle.tame_location.specs.Settings.{first_answer, index_in, reads, replacement}
 use Rattle.tame_location.specs.declared.settings.HeldUrl.{HeldUrl}
-use Rattle.tame_location.proofs.Asked.{asked_by, wider}
+use Rattle.tame_location.proofs.Asked.{asked_by, wider, wider_err}
 use Rattle.tame_location.proofs.registries.registry_in.Goals as goal
 
 pub returns-in-Some-clause-ok : goal.returns-in-Some-clause-ok
@@ -32,3 +34,14 @@ returns-in-Some-clause-failed g c = λ told.
     wider (Contains (reads (replacement name c.in-Some.index) host paths)) (Contains (registry_calls host paths name))
     (asked_by (reads (λ path. index_in name) host paths) (indexed_calls host paths name) (first_answer (λ path. index_in name) host paths) (Some c.in-Some.index) is)
     _ _ HeldUrl c.indexed.result failed
+
+pub returns-in_err-index-clause-failed : goal.returns-in_err-index-clause-failed
+returns-in_err-index-clause-failed g c = λ told.
+    let host = g.F.Files.host c.args.files.now in
+    let paths = c.args.paths.now in
+    let name = c.args.name.now in
+    let is : c.from_residual.result ≡ Err c.in_err-index.field-0.0 = first_of (search rules, grind (arith, common_steps)) in
+    let all = indexed_calls host paths name (first_answer (λ path. index_in name) host paths) in
+    rw is (wider_err (Contains (reads (λ path. index_in name) host paths)) (Contains (registry_calls host paths name))
+    (λ call h. Contains-append_left (reads (λ path. index_in name) host paths) all call h)
+    _ _ _ (c.in_err-index.ensures.failed told))

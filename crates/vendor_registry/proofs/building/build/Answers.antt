@@ -1,4 +1,4 @@
-use Rattle.std.proofs.Common.{◌≡◌, ◌∙◌, ◌++◌, [], ◌∷◌, ℕ, List, rules, arith, sym, ap, Err, true}
+use Rattle.std.proofs.Common.{subst, ◌≡◌, ◌∙◌, ◌++◌, [], ◌∷◌, ℕ, List, rules, arith, sym, ap, Err, true}
 use Rattle.std.proofs.lemmas.Grind.{common_steps}
 use Rattle.tame_names.specs.Standing.{Host}
 use Rattle.tame_names.specs.declared.errors.Error.TheVariants as error
@@ -7,12 +7,14 @@ use Rattle.tame_names.specs.declared.host.FailedCall.{FailedCall}
 use Rattle.tame_local.specs.Builders.{after}
 use Rattle.tame_local.specs.Calls.{IsRegistryCall}
 use Rattle.tame_local.proofs.CallsFor.{registry_for}
-use Rattle.vendor_faults.specs.declared.faults.VendorFault.TheVariants as fault
+use Rattle.vendor_registry.specs.declared.faults.VendorFault.TheVariants as fault
 use Rattle.vendor_registry.specs.Built.{paths_made}
 use Rattle.vendor_registry.specs.Vendored.{paths_of}
 use Rattle.vendor_registry.specs.declared.checks.Checked.{Checked}
 use Rattle.vendor_registry.proofs.Begun.{created_begun, on_err, whole_begun}
-use Rattle.vendor_registry.proofs.Told.{told_for}
+use Rattle.vendor_registry.specs.Failed.{IsWithin}
+use Rattle.vendor_registry.proofs.Told.{told_for, told_so}
+use Rattle.vendor_registry.proofs.Within.{registry_within}
 use Rattle.vendor_registry.proofs.building.build.Goals as goal
 
 pub returns-in_err-builder-clause-taken : goal.returns-in_err-builder-clause-taken
@@ -82,3 +84,16 @@ returns-in-Err-IoPath-Failed-default-clause-failed g c = λ told.
     let h = told_for (IsRegistryCall host c.in_ok-builder.builder.path true) (g.F.Files.failed c.insert_paths.new.files) (g.F.Files.failed c.finalize.new.files) e.field-0 e.path whole
     (λ call is. registry_for host c.in_ok-builder.builder.path true e.path call is) (e.ensures.failed told) in
     (h.0, h.1 ∙ ap (λ (calls : List FailedCall). calls ++ h.0 ∷ []) before, h.2)
+
+pub returns-in-Err-IoPath-Failed-default-clause-within : goal.returns-in-Err-IoPath-Failed-default-clause-within
+returns-in-Err-IoPath-Failed-default-clause-within g c = λ told.
+    let e = c.in-Err-IoPath-Failed-default in
+    let l = e.field-0-is in
+    let m = e.field-0-0-is in
+    let p = e.path-is in
+    let whole : e.field-0 ≡ error.IoPath io_kind.Failed e.path = cc in
+    let host = g.F.Files.host c.insert_paths.new.files in
+    let folder = c.in_ok-builder.builder.path in
+    subst (λ (to : List ℕ). IsWithin to e.path) c.in_ok-builder.ensures.path
+    (told_so (IsRegistryCall host folder true) (g.F.Files.failed c.insert_paths.new.files) (g.F.Files.failed c.finalize.new.files) e.field-0 e.path (IsWithin folder e.path) whole
+    (λ call is. registry_within folder host true e.path call is) (e.ensures.failed told))

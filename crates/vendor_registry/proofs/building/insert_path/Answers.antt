@@ -6,7 +6,9 @@ use Rattle.tame_local.specs.Calls.{IsInsertCall}
 use Rattle.tame_local.proofs.CallsFor.{insert_for}
 use Rattle.tame_local.specs.Builders.{AreBegun, after, crates_made, insertable, size_of}
 use Rattle.vendor_registry.proofs.Inserting.{filled_is, inserted_is, one_entry, taken_is, told_occupied}
-use Rattle.vendor_registry.proofs.Told.{told_for}
+use Rattle.vendor_registry.specs.Failed.{IsWithin}
+use Rattle.vendor_registry.proofs.Told.{told_for, told_so}
+use Rattle.vendor_registry.proofs.Within.{insert_within}
 use Rattle.vendor_registry.proofs.building.insert_path.Goals as goal
 
 pub returns-in-Ok-clause-made : goal.returns-in-Ok-clause-made
@@ -86,3 +88,15 @@ returns-in-Err-IoPath-Failed-default-clause-failed g c = λ told.
     let host = g.F.Files.host c.args.files.now in
     told_for (IsInsertCall host c.args.builder.now.path c.in_ok-krate.krate.versions c.as_slice.result.now) (g.F.Files.failed c.args.files.now) (g.F.Files.failed c.insert.new.files) e.field-0 e.path whole
     (λ call is. insert_for host c.args.builder.now.path c.in_ok-krate.krate.versions c.as_slice.result.now e.path call is) (e.ensures.failed told)
+
+pub returns-in-Err-IoPath-Failed-default-clause-within : goal.returns-in-Err-IoPath-Failed-default-clause-within
+returns-in-Err-IoPath-Failed-default-clause-within g c = λ told.
+    let e = c.in-Err-IoPath-Failed-default in
+    let l = e.field-0-is in
+    let m = e.field-0-0-is in
+    let p = e.path-is in
+    let whole : e.field-0 ≡ error.IoPath io_kind.Failed e.path = cc in
+    let host = g.F.Files.host c.args.files.now in
+    let folder = c.args.builder.now.path in
+    told_so (IsInsertCall host folder c.in_ok-krate.krate.versions c.as_slice.result.now) (g.F.Files.failed c.args.files.now) (g.F.Files.failed c.insert.new.files) e.field-0 e.path (IsWithin folder e.path) whole
+    (λ call is. insert_within folder host c.in_ok-krate.krate.versions c.as_slice.result.now e.path call is) (e.ensures.failed told)

@@ -1,0 +1,1 @@
+-- Rows alone: no definition of its own.

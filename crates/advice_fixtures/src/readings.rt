@@ -1,0 +1,49 @@
+//! Advisories and lockfiles of texts that are some.
+use audit_advisory::{Advisory, AdvisoryFault};
+use audit_lock::{Lockfile, LockfileFault, Package};
+use row_fixtures::RowFault;
+use std::alloc::Global;
+use tame_names::{Items, Text};
+
+/// The advisory of a text that is one.
+pub fn read_advisory(alloc: Global, text: &str) -> Result<Advisory, RowFault> {
+    match Advisory::read(alloc, text) {
+        Ok(advisory) => Ok(advisory),
+        Err(AdvisoryFault::NoMemory) => Err(RowFault::NoMemory),
+        Err(_) => Err(RowFault::Unread),
+    }
+}
+
+/// Adds the advisory of a text that is one.
+pub fn add_read(
+    alloc: Global,
+    advisories: &mut Items<Advisory>,
+    text: &str,
+) -> Result<(), RowFault> {
+    Ok(advisories.add(read_advisory(alloc, text)?)?)
+}
+
+/// The lockfile of a text that is one.
+pub fn read_lockfile(alloc: Global, text: &str) -> Result<Lockfile, RowFault> {
+    match Lockfile::read(alloc, text) {
+        Ok(lockfile) => Ok(lockfile),
+        Err(LockfileFault::NoMemory) => Err(RowFault::NoMemory),
+        Err(_) => Err(RowFault::Unread),
+    }
+}
+
+/// The places of the packages that are named, each `NAME@VERSION`.
+pub fn packages_named(
+    alloc: Global,
+    packages: &[Package],
+    words: &[Text],
+) -> Result<Items<usize>, RowFault> {
+    let mut places = Items::new(alloc);
+    for (i, package) in packages.iter().enumerate() {
+        let word = format!(in alloc; "{}@{}", package.name, package.version)?;
+        if words.iter().any(|text| text.as_str() == word.as_str()) {
+            places.add(i)?;
+        }
+    }
+    Ok(places)
+}

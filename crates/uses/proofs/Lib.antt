@@ -1,0 +1,4 @@
+mod Hitting
+mod Parts
+mod Presenting
+mod Reading

@@ -1,5 +1,0 @@
-use Rattle.vendor_registry.proofs.Premises.{memory_bare}
-use Rattle.vendor_registry.proofs.laws.empty_hosts_in_memory_are_bare.Goals as goal
-
-pub returns : goal.returns
-returns c = memory_bare

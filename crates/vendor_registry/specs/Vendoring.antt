@@ -1,0 +1,90 @@
+-- What a call answers that makes a registry of an audit's packages (this project).
+use Rattle.std.specs.Prelude.{◌≡◌, ◌≢◌, ℕ, List, Some, None, true, Result, Ok, Err, IsOk, IsTrue}
+use Rattle.tame_names.specs.Counts.{CountRose}
+use Rattle.tame_names.specs.Standing.{Host}
+use Rattle.tame_names.specs.declared.errors.Error.{Error}
+use Rattle.tame_local.specs.Inserts.{StandsPlain}
+use Rattle.tame_local.specs.Refusals.{refused as refused_by}
+use Rattle.tame_local.specs.Registries.{registry_at}
+use Rattle.audit_lock.specs.declared.resolving.Package.{Package}
+use Rattle.vendor_registry.specs.Built.{IsBuilt, IsOccupied, IsStoppedBy, IsTakenFor, IsUnfinished, free_fault, is_behind}
+use Rattle.vendor_registry.specs.Checks.{Stock, all_checked, is_of_checks, is_of_package}
+use Rattle.vendor_registry.specs.Looked.{looked}
+use Rattle.vendor_registry.specs.Named.{AreVersioned, IsFolderPath}
+use Rattle.vendor_registry.specs.Vendored.{IsBare, IsVendored}
+use Rattle.vendor_registry.specs.declared.faults.VendorFault.{VendorFault}
+use Rattle.vendor_registry.specs.declared.faults.VendorFault.TheVariants as fault
+use Rattle.vendor_registry.specs.declared.vendoring.Vendored.{Vendored}
+
+-- of what a registry is made and where: what host and disk tell; the cache, the folder of the crate
+-- files and the host as it was; the packages, and the folder of the registry; the host as it is
+-- left, and how often the disk had failed, and has
+pub record Vendoring : Type 1 where
+  pub files_tell : Type 0
+  pub disk_tells : Type 0
+  pub stock : Stock
+  pub packages : List Package
+  pub folder : List ℕ
+  pub now : Host
+  pub disk_faults : ℕ
+  pub disk_faults_now : ℕ
+
+abbrev pub vendoring : Type 0 → Type 0 → Stock → List Package → List ℕ → Host → ℕ → ℕ → Vendoring
+vendoring files_tell disk_tells stock packages folder now disk_faults disk_faults_now = record {
+  files_tell = files_tell;
+  disk_tells = disk_tells;
+  stock = stock;
+  packages = packages;
+  folder = folder;
+  now = now;
+  disk_faults = disk_faults;
+  disk_faults_now = disk_faults_now;
+}
+
+-- the folder was empty or absent, and is vendored for the audit; nothing else of the host changed
+pub record IsRegistryMade (v : Vendoring) (made : Vendored) : Type 0 where
+  pub vendored : v.files_tell → v.disk_tells → StandsPlain v.stock.host.stands
+      → IsVendored v.stock v.packages v.folder v.now made
+  pub free : v.files_tell → free_fault (v.stock.host.stands v.folder) ≡ None
+  pub built : v.files_tell → v.disk_tells
+      → IsBuilt v.stock v.packages v.folder v.stock.host v.now
+
+-- none was made
+pub record IsRegistryRefused (v : Vendoring) (reason : VendorFault) : Type 0 where
+  -- a package is refused exactly by the first condition of the table that holds, and then nothing
+  -- was written
+  pub refused : v.files_tell → v.disk_tells → IsTrue (is_of_package reason)
+      → all_checked v.stock (looked v.packages) ≡ Err reason
+  pub unwritten : v.files_tell → IsTrue (is_of_checks reason) → v.now ≡ v.stock.host
+  -- an entry couldn't be read only where the disk failed; a call failed at the first package that
+  -- wasn't checked, or at a path of the registry once all were
+  pub store : (at : ℕ) → reason ≡ fault.Store at → CountRose v.disk_faults v.disk_faults_now
+  pub stopped : v.files_tell → v.disk_tells → IsStoppedBy v.stock v.packages v.folder reason
+  -- the folder is refused by what stands there, once all packages were checked, and then nothing
+  -- was written; or by an index file that has come meanwhile, which no empty folder has
+  pub behind : v.files_tell → v.disk_tells → IsTrue (is_behind reason)
+      → IsOk (all_checked v.stock (looked v.packages))
+  pub occupied : v.files_tell → IsOccupied (v.stock.host.stands v.folder) reason
+  pub unmade : v.files_tell → free_fault (v.stock.host.stands v.folder) ≡ Some reason
+      → v.now ≡ v.stock.host
+  pub taken : v.files_tell → v.disk_tells → (n : ℕ) → reason ≡ fault.NotEmpty n
+      → free_fault (v.stock.host.stands v.folder) ≡ None
+      → IsTakenFor v.stock v.packages v.folder v.stock.host
+  pub not_empty : v.files_tell → v.disk_tells → IsBare v.stock.host v.folder → (n : ℕ)
+      → reason ≡ fault.NotEmpty n
+      → free_fault (v.stock.host.stands v.folder) ≡ Some (fault.NotEmpty n)
+  -- nothing was written, or changes that make the registry were begun in their order
+  pub begun : v.files_tell → v.disk_tells
+      → IsUnfinished v.stock v.packages v.folder v.stock.host v.now
+  -- what was built doesn't agree with its index, for this reason; that never comes where each
+  -- version is one of SemVer
+  pub read_back : v.files_tell → (why : Error) → reason ≡ fault.ReadBack why
+      → registry_at v.now v.folder true ≡ Err (refused_by why)
+  pub agrees : v.files_tell → v.disk_tells → StandsPlain v.stock.host.stands
+      → IsFolderPath v.folder → AreVersioned v.packages
+      → (why : Error) → reason ≢ fault.ReadBack why
+
+-- what was answered: a registry that was made, or why there is none
+abbrev pub IsVendorAnswer : Vendoring → Result Vendored VendorFault → Type 0
+IsVendorAnswer v (Ok made) = IsRegistryMade v made
+IsVendorAnswer v (Err reason) = IsRegistryRefused v reason
