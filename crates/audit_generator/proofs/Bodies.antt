@@ -156,9 +156,6 @@ body_made k h =
     let js = range_with_len (0 + 1) (minor_at k) in
     rw (lines_flat k (minors k)) (body_cut (object_text k 0) (map (object_text k) js) (objects_lines k (0 ∷ js) h (range_low (suc (minor_at k)) 0 (omega arith))))
 
-pub body_lines : (k : ℕ) → k < 2 ^ 64 → lines (body_at k) ≡ map (object_text k) (minors k)
-body_lines k h = (body_made k h).cut
-
 flat_passes : (p : ℕ → Bool) (k : ℕ) → ((j : ℕ) → j < 2 ^ 64 → list_all p (line_text k j) ≡ true) → (js : List ℕ) → AllLow js → list_all p (flat_map (line_text k) js) ≡ true
 flat_passes p k each [] h = refl
 flat_passes p k each (j ∷ js) h = both p (line_text k j) (flat_map (line_text k) js) (each j h.0) (flat_passes p k each js h.1)

@@ -5,7 +5,7 @@ use Rattle.semver.specs.Parse.{version_parts}
 use Rattle.semver.proofs.OnLiterals.{semver_on_literals}
 use Rattle.toml.specs.Data.{table}
 use Rattle.toml_tables.specs.Floats.{items_have_float, members_have_float}
-use Rattle.audit_lock.specs.Listed.{as_version, has_source_kind, listed_of}
+use Rattle.audit_lock.specs.Listed.{as_version, listed_of}
 use Rattle.audit_lock.specs.Locked.{all_tables, listed_from, listed_table}
 use Rattle.audit_lock.specs.declared.listed.ListedPackage.{ListedPackage}
 use Rattle.audit_generator.specs.Packages.{name_at, version_text, version_at, default_source, places_at}
@@ -46,9 +46,6 @@ version_read : (minor : ℕ) → minor < 7 → as_version (version_text minor) �
 version_read minor h =
     let digit = decimal_digit minor (omega arith) in
     rw (digit, small_version minor h) refl
-
-source_kind : has_source_kind default_source ≡ true
-source_kind = refl
 
 -- ---- a package
 

@@ -51,12 +51,6 @@ put_more p xs true false = refl
 put_more p xs false true = refl
 put_more p xs false false = refl
 
-pub empty_more : (xs : List (List ℕ)) → ((q : ℕ) → get_or xs q [] ≡ []) → (q : ℕ) → get_or (xs ++ [] ∷ []) q [] ≡ []
-empty_more [] h zero = refl
-empty_more [] h (suc q) = refl
-empty_more (x ∷ xs) h zero = h 0
-empty_more (x ∷ xs) h (suc q) = empty_more xs (λ k. h (suc k)) q
-
 filter_more : (test : ℕ → Bool) (a n : ℕ) → filter test (range_with_len a (suc n)) ≡ filter test (range_with_len a n) ++ cond (test (a + n)) ((a + n) ∷ []) []
 filter_more test a zero = let none : a + 0 ≡ a = omega arith in rw none refl
 filter_more test a (suc n) =

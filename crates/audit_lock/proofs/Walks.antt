@@ -100,15 +100,6 @@ drop_past [] (suc i) low = refl
 drop_past (p ∷ ps) zero low = absurd (omega (arith, low))
 drop_past (p ∷ ps) (suc i) low = drop_past ps i (omega (arith, low))
 
--- a line alone
-pub line_shown : (packages : List Package) (tree : List (List ℕ)) (deep : ℕ) (levels : List Bool) (place : ℕ) (met : List Bool) (before now : List ℕ)
-    → get_or met place false ≡ true → now ≡ before ++ (marks levels ++ shown_at packages place)
-    → Shows packages (walk tree deep levels place met) before now met
-line_shown packages tree zero levels place met before now is_met h =
-    record { added = h ∙ ap (λ t. before ++ t) (sym (append-nil ((marks levels ++ shown_at packages place)))); marked = refl }
-line_shown packages tree (suc deep) levels place met before now is_met h =
-    rw is_met (record { added = h ∙ ap (λ t. before ++ t) (sym (append-nil ((marks levels ++ shown_at packages place)))); marked = refl })
-
 -- a line, and all the parents below it
 pub opened_shown : (packages : List Package) (tree : List (List ℕ)) (levels : List Bool) (place : ℕ) (met : List Bool) (before lined now : List ℕ) (marked : List Bool)
     → place < length met → get_or met place false ≡ false → lined ≡ before ++ (marks levels ++ shown_at packages place)

@@ -42,15 +42,3 @@ ended_by a b before text now f o m n line (inr is) h =
     let P : Option RunFault → Type 0 = λ x. IsEnded a before text x now m n in
     let Q : Option RunFault → Type 0 = λ x. IsEnded b before text x now m n in
     subst Q (sym is) (subst P is h)
-
--- a line that was put behind a text
-pub ended_line : (place before text put now : List ℕ) (f : RunFault) (o : Option RunFault) (m n : ℕ) → (o ≡ Some f) ⊎ (o ≡ Some fault.NoMemory)
-    → IsPutBy before text o put → ((e : RunFault) → o ≡ Some e → IsLinePut put (fault_line place e) now m n) → IsEnded place before text o now m n
-ended_line place before text put now f o m n (inl is) h line =
-    let P : Option RunFault → Type 0 = λ x. IsPutBy before text x put in
-    let Q : Option RunFault → Type 0 = λ x. IsEnded place before text x now m n in
-    subst Q (sym is) (put, subst P is h, line f is)
-ended_line place before text put now f o m n (inr is) h line =
-    let P : Option RunFault → Type 0 = λ x. IsPutBy before text x put in
-    let Q : Option RunFault → Type 0 = λ x. IsEnded place before text x now m n in
-    subst Q (sym is) (put, subst P is h, line fault.NoMemory is)

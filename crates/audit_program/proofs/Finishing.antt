@@ -1,5 +1,5 @@
 -- The steps of `fix` by how a run ended.
-use Rattle.std.proofs.Common.{◌≡◌, ◌⊎◌, inl, inr, ℕ, ℤ, zero, suc, Bool, true, false, List, [], ◌∷◌, ◌++◌, take, length, Option, Some, None, Result, Ok, Err, cond, refl, sym, ap, subst, ◌∙◌, append-nil, arith, rules}
+use Rattle.std.proofs.Common.{◌≡◌, ◌⊎◌, inl, inr, ℕ, ℤ, zero, suc, Bool, true, List, [], ◌∷◌, ◌++◌, take, length, Option, Some, None, Result, Ok, Err, cond, refl, sym, ap, subst, ◌∙◌, append-nil, arith, rules}
 use Rattle.std.proofs.Math.Seq.{take-length}
 use Rattle.std.proofs.lemmas.Bool.Decides.{nat_tests}
 use Rattle.std.specs.Prelude.{IfErr, nat_eq}
@@ -96,10 +96,6 @@ pub lines_put : (steps : List FixStep) (statuses : List (Option ℤ)) (before li
 lines_put steps statuses before lines now reason is h =
     let P : List ℕ → Type 0 = λ x. IsPutBy before x reason now in
     subst P (sym (lines_begun steps statuses lines is)) h
-
-empty_either : (b : Bool) → cond b (let xs : List ℕ = [] in xs) [] ≡ []
-empty_either true = refl
-empty_either false = refl
 
 -- no step is planned
 pub no_steps : (told : Type 0) (before : List Started) → AreStarted told [] before before [] None

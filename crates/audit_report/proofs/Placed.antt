@@ -1,13 +1,9 @@
--- The places of a report of a database on a lockfile, and those that a query finds.
-use Rattle.std.proofs.Common.{◌≡◌, ◌+◌, ◌<◌, ◌≤◌, ℕ, suc, List, [], ◌∷◌, length, Bool, true, false, cond, ◌&&◌, nat_lt, Option, Some, None, refl, arith, sym, ap, ◌∙◌}
+-- The places of a report of a database on a lockfile.
+use Rattle.std.proofs.Common.{◌≡◌, ◌<◌, ℕ, List, [], ◌∷◌, Bool, true, ◌&&◌, nat_lt, Option, Some, None, refl, arith, sym, ap, ◌∙◌}
 use Rattle.std.specs.Prelude.{All, IfSome}
-use Rattle.std.specs.List.{filter, list_all}
-use Rattle.std.proofs.lemmas.List.Elements.{All-cons, All-head, All-map, All-nil, All-tail}
-use Rattle.audit_advisory.specs.Places.{Placed as PlacedItem, placed_from}
-use Rattle.audit_advisory.specs.Points.{Point}
-use Rattle.audit_advisory.specs.Queries.{concerns, query}
+use Rattle.std.specs.List.{list_all}
+use Rattle.std.proofs.lemmas.List.Elements.{All-head, All-tail}
 use Rattle.audit_advisory.specs.Reports.{IsPlaced}
-use Rattle.audit_advisory.specs.declared.advisories.Advisory.{Advisory}
 use Rattle.audit_advisory.specs.declared.reports.Report.{Report}
 use Rattle.audit_advisory.specs.declared.reports.Vulnerability.{Vulnerability}
 use Rattle.audit_advisory.specs.declared.reports.Warning.{Warning}
@@ -63,22 +59,3 @@ placed_in report advisories packages h a p =
 
 pub are_placed-below : (n : ℕ) (places : List ℕ) → All (λ p. p < n) places → are_placed n places ≡ true
 are_placed-below n places h = all_pass (λ p. p < n) (λ p. nat_lt p n) (λ p l. below p n l) places h
-
-filter_below : {A : Type 0} (n : ℕ) (test : PlacedItem A → Bool) (i : ℕ) (xs : List A) → i + length xs ≤ n
-    → All (λ (x : PlacedItem A). x.place < n) (filter test (placed_from i xs))
-filter_below n test i [] low = All-nil _
-filter_below {A = A} n test i (x ∷ xs) low =
-    let P : PlacedItem A → Type 0 = λ y. y.place < n in
-    let first : PlacedItem A = record { place = i; item = x } in
-    let more = filter_below n test (suc i) xs (omega (arith, low)) in
-    elim (test first) as (λ b. All P (cond b (first ∷ filter test (placed_from (suc i) xs)) (filter test (placed_from (suc i) xs)))) [
-      | true ↦ All-cons P first _ (omega (arith, low)) more
-      | false ↦ more
-    ]
-
--- what a query finds are places of advisories
-pub query_below : (name : List ℕ) (v : Point) (advisories : List Advisory)
-    → All (λ p. p < length advisories) (query name v advisories)
-query_below name v advisories =
-    All-map (λ p. p < length advisories) (λ (x : PlacedItem Advisory). x.place) _
-    (filter_below (length advisories) (λ (x : PlacedItem Advisory). concerns name v x.item) 0 advisories (omega arith))

@@ -19,10 +19,6 @@ pub shown_after-append : (wanted : Bool) (shown : List ShownTree) (xs ys : List 
 shown_after-append wanted shown [] ys = refl
 shown_after-append wanted shown (x ∷ xs) ys = shown_after-append wanted (shown_with wanted shown x.locked) xs ys
 
--- nothing was appended yet
-pub shows_none : (wanted : Bool) (before : List ℕ) (shown : List ShownTree) → Shows wanted [] before shown before shown
-shows_none wanted before shown = record { text = sym (append-nil before); trees = refl }
-
 -- first these blocks, then those
 pub shows_both : (wanted : Bool) (xs ys : List Block) (a b c : List ℕ) (s t u : List ShownTree)
     → Shows wanted xs a s b t → Shows wanted ys b t c u → Shows wanted (xs ++ ys) a s c u

@@ -305,10 +305,6 @@ closed_case words d (Err s) c t h q = absurd (answer_case s c h q)
 
 -- ---- the word `-q`
 
-given_quiet : (t : Bool) (d : Draft) → t ≡ false → cond t (Err stop.Wrong) (ok (quiet d)) ≡ Ok (quiet d)
-given_quiet true d h = cc
-given_quiet false d h = refl
-
 read_there : (d : Draft) → d.audit.quiet ≡ false → read_word (codes "-q") (record d { phase = Audit; awaited = None }) ≡ ok (quiet (record d { phase = Audit; awaited = None }))
 read_there d off = rw off refl
 

@@ -1,5 +1,5 @@
 -- One call more in the record of a disk in memory.
-use Rattle.std.proofs.Common.{◌≡◌, ◌≢◌, inl, inr, ℕ, ◌+◌, ◌-◌, ◌≤◌, min, List, [], ◌∷◌, ◌++◌, length, take, drop, Some, None, Bool, true, false, cond, refl, sym, ◌∙◌, ap, subst, arith, append_assoc, length-append, length-drop, drop-drop}
+use Rattle.std.proofs.Common.{◌≡◌, inl, inr, ℕ, ◌+◌, ◌-◌, ◌≤◌, min, List, [], ◌∷◌, ◌++◌, length, take, drop, Some, None, Bool, true, false, cond, refl, sym, ◌∙◌, ap, subst, arith, append_assoc, length-append, length-drop, drop-drop}
 use Rattle.std.specs.Prelude.{option_map, Result, Ok, Err, OnOk, OnErr}
 use Rattle.std.specs.String.{string_bytes}
 use Rattle.std.specs.Str.{bytes_eq}
@@ -8,7 +8,7 @@ use Rattle.std.proofs.lemmas.List.{take_at, drop_at, take_min, length-take, leng
 use Rattle.tame_cache.specs.declared.calls.Call.{Call}
 use Rattle.tame_cache.specs.declared.calls.Change.{Change}
 use Rattle.tame_cache.specs.declared.calls.Change.TheVariants.{Write, Cut, Sync}
-use Rattle.tame_cache.specs.Disk.{File, Step, Wrote, Torn, CutShort, TornFile, CutFile, content, with_piece, reads, may_leave, MayWrite}
+use Rattle.tame_cache.specs.Disk.{File, Step, Wrote, Torn, CutShort, TornFile, CutFile, content, with_piece, reads, MayWrite}
 use Rattle.tame_cache.specs.Calls.{step_of, file_of, past_of, with_change}
 
 pub past_more : (path : List ℕ) (past : List Step) (calls : List Call) (call : Call) → past_of path past (calls ++ call ∷ []) ≡ with_change path (past_of path past calls) (string_bytes call.path) call.change (file_of call.file)
@@ -17,13 +17,6 @@ past_more path past (first ∷ calls) call = past_more path (with_change path pa
 
 pub after_same : (path : List ℕ) (past : List Step) (change : Change) (now : File) → with_change path past path change now ≡ step_of change now ∷ past
 after_same path past change now = let same = (bytes_eq-Decides path path).1 refl in rw same
-
-pub after_other : (path changed : List ℕ) (past : List Step) (change : Change) (now : File) → path ≢ changed → with_change path past changed change now ≡ past
-after_other path changed past change now other = go (bytes_eq changed path) refl
-  where
-    go : (b : Bool) → bytes_eq changed path ≡ b → with_change path past changed change now ≡ past
-    go true same = absurd (other (sym ((bytes_eq-Decides changed path).0 same)))
-    go false differs = rw differs
 
 reads_step : (change : Change) (file : File) (past : List Step) → reads (step_of change file ∷ past) ≡ file
 reads_step (Write at n) file past = refl
@@ -87,13 +80,6 @@ noted_write (Ok u) old new at n now done failed torn =
     let shown : reads new ≡ now = ap reads done in
     inr (done ∙ ap (λ (f : File). Wrote at n f ∷ old) (sym shown), subst (λ (f : File). TornFile at n (reads old) f) (sym shown) torn)
 noted_write (Err e) old new at n now done failed torn = inl failed
-
--- what a crash may leave after a call, by what a test of its path answered
-pub left_same : (path changed : List ℕ) (past : List Step) (change : Change) (now left : File) → bytes_eq changed path ≡ true → may_leave (step_of change now ∷ past) left → may_leave (with_change path past changed change now) left
-left_same path changed past change now left same here = rw same here
-
-pub left_other : (path changed : List ℕ) (past : List Step) (change : Change) (now left : File) → bytes_eq changed path ≡ false → may_leave past left → may_leave (with_change path past changed change now) left
-left_other path changed past change now left differs here = rw differs here
 
 -- anything that is told of a file's changes after a call, by what a test of its path answered
 pub told_same : {X : Type 0} (f : List Step → X) (path changed : List ℕ) (past : List Step) (change : Change) (now : File) → bytes_eq changed path ≡ true → f (with_change path past changed change now) ≡ f (step_of change now ∷ past)

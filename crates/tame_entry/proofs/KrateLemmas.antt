@@ -2,7 +2,6 @@
 use Rattle.std.proofs.Common.{◌≡◌, ℕ, suc, List, [], ◌∷◌, ◌++◌, length, Option, Some, None, Ok, Err, true, ◌==◌, refl, ap, ◌∙◌, sym, arith, append_assoc}
 use Rattle.std.proofs.lemmas.Bool.Decides.{nat_tests}
 use Rattle.tame_names.specs.declared.errors.Error.{Error}
-use Rattle.tame_names.specs.declared.errors.CacheError.TheVariants.{InvalidCrateVersion}
 use Rattle.tame_names.specs.declared.errors.Error.TheVariants as error
 use Rattle.tame_records.specs.Record.{record_of}
 use Rattle.tame_records.specs.declared.versions.IndexVersion.{IndexVersion}
@@ -51,13 +50,3 @@ pair_on ls rest version line vs ws v steps is added =
     ∙ prepended vs v (read_pairs (suc (length vs)) rest)
     ∙ ap (λ n. before (vs ++ v ∷ []) (read_pairs n rest)) (sym (longer vs v))
     ∙ ap (λ k. before k (read_pairs (length k) rest)) (sym added)
-
--- a line without a record refuses them all
-pub pair_refused : (ls rest : List (List ℕ)) (version line : List ℕ) (vs : List IndexVersion) → ls ≡ version ∷ line ∷ rest → record_of line ≡ None → before vs (read_pairs (length vs) ls) ≡ Err (error.Json (length vs))
-pair_refused ls rest version line vs steps is =
-    ap (λ k. before vs (read_pairs (length vs) k)) steps
-    ∙ ap (λ r. before vs (with_record r (length vs) (read_pairs (suc (length vs)) rest))) is
-
--- a version that no line follows
-pub pair_cut : (ls : List (List ℕ)) (version : List ℕ) (vs : List IndexVersion) → ls ≡ version ∷ [] → before vs (read_pairs (length vs) ls) ≡ Err (error.Cache InvalidCrateVersion)
-pair_cut ls version vs steps = ap (λ k. before vs (read_pairs (length vs) k)) steps

@@ -25,14 +25,6 @@ first : (s : Bool) (x y : Flag) → s ≡ true → cond s x y ≡ x
 first true x y h = refl
 first false x y h = cc
 
--- looking for the last mark
-pub from_other : (l : List ℕ) (i : ℕ) → i < length l → (get_or l i 0 == 125) ≡ false → (get_or l i 0 == 44) ≡ false
-    → flag_from (reverse (take (i + 1) l)) (drop (i + 1) l) ≡ flag_from (reverse (take i l)) (drop i l)
-from_other l i h brace comma =
-    ap (λ r. flag_from r (drop (i + 1) l)) (back l i h)
-    ∙ last (get_or l i 0 == 125) (get_or l i 0 == 44) _ _ _ brace comma
-    ∙ ap (flag_from (reverse (take i l))) (sym (drop_more l i 0 h))
-
 before_one : (n : ℕ) → 0 < n → n ≡ n - 1 + 1
 before_one n h = omega (arith, h)
 

@@ -7,7 +7,7 @@ use Rattle.tame_names.specs.declared.host.FileCall.{FileCall}
 use Rattle.tame_records.specs.declared.versions.IndexVersion.{IndexVersion}
 use Rattle.tame_sparse.specs.Git.{first_name}
 use Rattle.tame_local.specs.Builders.{HostChange, Creates, Makes, inserted}
-use Rattle.tame_local.specs.Calls.{IsCallFor, IsCallIfParts, IsCallOn, IsCreateCall, IsCreatesCall, IsFilesCall, IsFreeCall, IsInsertCall, IsListingCall, IsRegistryCall, IsValidateCall, IsWriteCall}
+use Rattle.tame_local.specs.Calls.{IsCallFor, IsCallIfParts, IsCallOn, IsCreatesCall, IsFilesCall, IsInsertCall, IsListingCall, IsRegistryCall, IsValidateCall, IsWriteCall}
 use Rattle.tame_local.specs.CrateFiles.{components}
 use Rattle.tame_local.specs.Registries.{index_file, index_of}
 use Rattle.tame_local.specs.declared.digests.ValidKrate.{ValidKrate}
@@ -36,14 +36,6 @@ validate_for host index told call (inr h) = files_for host index _ _ told call h
 pub registry_for : (host : Host) (registry : List ℕ) (validate : Bool) (told : List ℕ) (call : FailedCall) → IsRegistryCall host registry validate told call → IsCallFor told call
 registry_for host registry validate told call (inl h) = on_for _ _ told call h
 registry_for host registry validate told call (inr h) = validate_for host _ told call h.1
-
-free_for : (host : Host) (path told : List ℕ) (call : FailedCall) → IsFreeCall host path told call → IsCallFor told call
-free_for host path told call (inl h) = on_for _ path told call h
-free_for host path told call (inr h) = on_for _ path told call h.1
-
-pub create_for : (host : Host) (registry told : List ℕ) (call : FailedCall) → IsCreateCall host registry told call → IsCallFor told call
-create_for host registry told call (inl h) = free_for host registry told call h
-create_for host registry told call (inr h) = inl (ap (λ c. c.path) h.1.1 ∙ sym (ap Some h.1.0))
 
 creates_for : (changes : List HostChange) (told : List ℕ) (call : FailedCall) → IsCreatesCall changes told call → IsCallFor told call
 creates_for [] told call h = absurd h

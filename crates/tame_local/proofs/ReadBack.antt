@@ -39,9 +39,6 @@ kept_front (x ∷ xs) rest h = rw (h.0, kept_front xs rest h.1) refl
 abbrev IsLine : List ℕ → Type 0
 IsLine l = Lacks 10 l × (0 < length l)
 
-newline_last : (ys : List ℕ) → without_end 10 ys ≡ [] → without_end 10 (10 ∷ ys) ≡ []
-newline_last ys h = rw h refl
-
 newline_kept : (ys zs : List ℕ) → without_end 10 ys ≡ zs → 0 < length zs → without_end 10 (10 ∷ ys) ≡ 10 ∷ zs
 newline_kept ys [] h some = absurd (omega (arith, some))
 newline_kept ys (z ∷ zs) h some = rw (h, eqb-suc-zero (length zs)) refl

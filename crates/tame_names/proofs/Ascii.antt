@@ -8,7 +8,7 @@ use Rattle.std.specs.List.{enumerate_from}
 use Rattle.std.specs.Str.{chars, IsAscii, IsUtf8}
 use Rattle.std.proofs.lemmas.Str.{encodes-IsAscii, encodes-chars}
 use Rattle.std.proofs.lemmas.Bool.Decides.{nat_tests}
-use Rattle.tame_names.specs.Names.{HasCharacter, HasLength, IsReserved, by_characters, first_bad, first_invalid, is_char_at, is_longer, is_name, is_name_char, refusal_of, reserved_kind, strict_refusal}
+use Rattle.tame_names.specs.Names.{HasCharacter, HasLength, by_characters, first_bad, first_invalid, is_char_at, is_name, is_name_char, refusal_of, strict_refusal}
 
 below : (c : ℕ) → is_name_char c ≡ true → c < 128
 below c h = grind (arith, nat_tests)
@@ -66,13 +66,3 @@ strict_named limit text h =
 
 pub strict_name : (limit : Option ℕ) (text : List ℕ) → strict_refusal limit text ≡ None → IsTrue (is_name text)
 strict_name limit text h = ap is_none (strict_named limit text h)
-
-unlimited : (limit : ℕ) (text : List ℕ) (o : Option (ℕ × ℕ)) → by_characters (Some limit) text o ≡ None → by_characters None text o ≡ None
-unlimited limit text None h = (not_first (is_longer (Some limit) (length (chars text))) (HasLength (length (chars text))) (option_map (λ kind. IsReserved text kind) (reserved_kind text)) h).1
-unlimited limit text (Some p) h = cc
-
--- what is refused without a limit is refused with one
-pub strict_unlimited : (limit : ℕ) (text : List ℕ) → strict_refusal (Some limit) text ≡ None → strict_refusal None text ≡ None
-strict_unlimited limit text h =
-    let some = not_first (length text == 0) (HasLength 0) (by_characters (Some limit) text (first_bad text)) h in
-    rw some.0 (unlimited limit text (first_bad text) some.1)

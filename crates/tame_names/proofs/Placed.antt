@@ -1,16 +1,14 @@
 -- What is put in front of the files in memory counts before what was there.
-use Rattle.std.proofs.Common.{◌≡◌, ◌≢◌, ◌==◌, ℕ, zero, suc, ◌+◌, ◌<◌, subst, List, [], ◌∷◌, ◌++◌, length, take, drop, get_or, Bool, true, false, cond, Option, Some, None, refl, sym, ap, ◌∙◌, arith}
+use Rattle.std.proofs.Common.{◌≡◌, ◌≢◌, ◌==◌, ℕ, zero, suc, ◌+◌, ◌<◌, subst, List, [], ◌∷◌, ◌++◌, length, take, drop, get_or, Bool, true, false, cond, Some, None, refl, sym, ap, ◌∙◌, arith}
 use Rattle.std.proofs.Math.Dec.{eqb-suc-zero}
-use Rattle.std.proofs.Math.Path.{fun_ext}
 use Rattle.std.proofs.lemmas.Slice.Eq.{bytes_eq-Decides}
 use Rattle.std.specs.Prelude.{bytes_eq}
-use Rattle.tame_names.specs.Changes.{AreFolders, entry_of, is_folder, is_nothing, with_entry, with_folder_at, with_folders_at, with_gain, with_gain_if, with_standing}
-use Rattle.tame_names.specs.MemoryFiles.{file_at, node_standing, standing_in, standing_of}
+use Rattle.tame_names.specs.Changes.{AreFolders, is_folder, with_entry, with_folder_at, with_folders_at, with_gain}
+use Rattle.tame_names.specs.MemoryFiles.{file_at, standing_in, standing_of}
 use Rattle.tame_names.specs.Paths.{is_same, parent, plain_path, way_to, ways_from, ways_to}
 use Rattle.tame_names.specs.Standing.{Standing, Nothing, File, Folder, Other, listing}
 use Rattle.tame_names.specs.declared.host.Listed.{Listed}
 use Rattle.tame_names.specs.declared.memory_nodes.MemFile.{MemFile}
-use Rattle.tame_names.specs.declared.memory_nodes.MemNode.{MemNode}
 use Rattle.tame_names.specs.declared.memory_nodes.MemNode.TheVariants as node
 
 file_at-plain : (files : List MemFile) (p q : List ℕ) → plain_path p ≡ plain_path q → file_at files p ≡ file_at files q
@@ -61,18 +59,6 @@ pub gains_entry : (files : List MemFile) (path folder : List ℕ) (entries : Lis
     → (q : List ℕ) → standing_in (record { path = folder; node = node.Folder (entries ++ e ∷ []) } ∷ files) q ≡ with_gain path e (standing_in files) q
 gains_entry files path folder entries e within some q =
     rw within (listed_case (is_same folder q) files folder q entries e refl some)
-
-placed_case : (t : Bool) (file : MemFile) (rest : Option MemFile) (s : Standing) → standing_of rest ≡ s
-    → standing_of (cond t (Some file) rest) ≡ cond t (node_standing file.node) s
-placed_case true file rest s h = refl
-placed_case false file rest s h = h
-
--- what is put at a path stands there
-pub placed : (files gained : List MemFile) (path : List ℕ) (new : MemNode)
-    → ((q : List ℕ) → standing_in (gained ++ files) q ≡ with_gain_if (is_nothing (standing_in files path)) path (entry_of path (node_standing new)) (standing_in files) q)
-    → standing_in (record { path = path; node = new } ∷ (gained ++ files)) ≡ with_standing path (node_standing new) (standing_in files)
-placed files gained path new h =
-    fun_ext (λ q. placed_case (is_same path q) (record { path = path; node = new }) (file_at (gained ++ files) q) _ (h q))
 
 -- one folder more
 pub with_folders-more : (paths : List (List ℕ)) (i : ℕ) (d : List ℕ) (stands : List ℕ → Standing) → i < length paths

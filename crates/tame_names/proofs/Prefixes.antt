@@ -1,11 +1,7 @@
 -- What a put leaves is a part of its piece from the front.
 use Rattle.std.proofs.Common.{ℕ, List, ◌++◌, length, Result, Ok, Err, sym, ap, ◌∙◌}
 use Rattle.std.proofs.Math.Seq.{take-length}
-use Rattle.std.proofs.lemmas.List.{append-nil}
 use Rattle.tame_names.specs.Output.{AddsPrefix, Puts}
-
-pub nothing_put : (before piece : List ℕ) → AddsPrefix before piece before
-nothing_put before piece = (0, sym (append-nil before))
 
 pub part_put : {E : Type 0} (before piece now : List ℕ) (result : Result Unit E) → Puts before piece now result → AddsPrefix before piece now
 part_put before piece now (Ok done) h = (length piece, h ∙ ap (λ xs. before ++ xs) (sym (take-length piece)))

@@ -5,10 +5,10 @@ use Rattle.std.specs.BTreeMap.{insert_entry}
 use Rattle.std.specs.Cmp.Lexicographic.{slice_cmp}
 use Rattle.std.specs.Ordering.{nat_cmp}
 use Rattle.std.proofs.lemmas.Bool.{and_parts}
-use Rattle.serde_json.specs.Data.{Data, null, boolean, number, string, array, object, Items, no_items, item, Members, no_members, member}
+use Rattle.serde_json.specs.Data.{Data, array, object, Items, no_items, item, Members, no_members, member}
 use Rattle.serde_json.specs.Find.{get_member, as_str, as_bool, as_array, as_object}
 use Rattle.tame_records.specs.Dependencies.{dependency_of, dependencies_of, kind_of}
-use Rattle.tame_records.specs.VersionFlags.{KnowsVersion, KnowsDependency, Seen, version_key_fits, version_key, all_items, all_members, are_dependencies, are_lists, are_lists_or_null, are_texts, is_dependency, is_text, dependency_key_fits, dependency_key}
+use Rattle.tame_records.specs.VersionFlags.{KnowsVersion, KnowsDependency, Seen, version_key_fits, version_key, all_items, all_members, are_dependencies, are_lists, are_texts, is_dependency, is_text, dependency_key_fits, dependency_key}
 use Rattle.tame_records.specs.Members.{Lists, flag_or_false, lists_with, lists_or_null, u32_or_null, text_or_null, texts_of}
 use Rattle.tame_records.specs.Record.{chksum_of_data, version_flag, optional_of, record_of_data}
 use Rattle.tame_records.specs.declared.checksums.Chksum.{Chksum}
@@ -60,14 +60,6 @@ lists_form ms h = lists_some [] ms h
 mapped_some : {A B : Type 0} (f : A → B) (o : Option A) → is_some o ≡ true → is_some (option_map f o) ≡ true
 mapped_some f None h = h
 mapped_some f (Some a) h = refl
-
-pub lists_if_form : (d : Data) → are_lists d ≡ true → are_lists_or_null d ≡ true
-lists_if_form null h = refl
-lists_if_form (boolean b) h = h
-lists_if_form (number n) h = h
-lists_if_form (string s) h = h
-lists_if_form (array ds) h = h
-lists_if_form (object ms) h = mapped_some (λ (ls : Lists). Some ls) (lists_with [] ms) h
 
 -- ---- a dependency
 

@@ -1,8 +1,7 @@
 -- The highest versions, from the greatest of their ranks.
-use Rattle.std.proofs.Common.{◌≡◌, ℕ, zero, suc, ◌<◌, List, [], ◌∷◌, ◌++◌, map, take, drop, Bool, true, false, cond, length, get_or, Option, Some, None, option_map, Bor, refl, sym, ap, subst, arith, rules}
+use Rattle.std.proofs.Common.{◌≡◌, ℕ, zero, suc, ◌<◌, List, [], ◌∷◌, ◌++◌, map, take, drop, Bool, true, false, cond, length, get_or, Option, Some, None, option_map, Bor, refl, sym, ap, subst, arith}
 use Rattle.std.specs.Prelude.{◌==◌, slice_get, option_and_then, is_some, IsSomeAnd, MatchOption, IfOk, IfSome, Result, Ok, Err}
 use Rattle.std.specs.List.{AllByRecursion}
-use Rattle.std.proofs.lemmas.Bool.Decides.{nat_tests}
 use Rattle.std.specs.Option.{option_cmp}
 use Rattle.std.specs.Ordering.{is_lt}
 use Rattle.std.specs.Cmp.{IsStrictWeakOrder}
@@ -35,15 +34,6 @@ ranked false (Some p) h = (refl, (p, refl, go (length p.3 == 0) h))
     go : (b : Bool) → is_some (cond b (Some p) None) ≡ true → b ≡ true
     go true e = refl
     go false e = cc
-
--- a version that has a normal rank is normal
-pub is_normal : (v : IndexVersion) → is_some (normal_precedence v) ≡ true → IsNormal v
-is_normal v h =
-    let parts = ranked v.yanked (precedence v) h in
-    record { not_yanked = parts.0; no_pre = rw parts.1.1 (zero_length (length parts.1.0.3) parts.1.2) }
-  where
-    zero_length : (n : ℕ) → (n == 0) ≡ true → n ≡ 0
-    zero_length n e = search (rules, nat_tests)
 
 -- a version without a normal rank isn't normal
 pub not_normal : (v : IndexVersion) → normal_precedence v ≡ None → IsNormal v → ⊥

@@ -12,7 +12,7 @@ use Rattle.json.specs.Json as json
 use Rattle.json.specs.Tree as tree
 use Rattle.serde_json.specs.Data.{Data, number, string, array, object, Items, no_items, item, Members, no_members, member, put, unsigned}
 use Rattle.serde_json.specs.Find.{get_member}
-use Rattle.serde_json.specs.Read.{of_json, of_items, of_members}
+use Rattle.serde_json.specs.Read.{of_items, of_members}
 use Rattle.serde_json.specs.Written.{has_float, items_have_float, members_have_float}
 use Rattle.serde_json.proofs.Numbers.{number_of-decimal}
 use Rattle.serde_json.proofs.Views.{get_member-put, get_member-put_other}
@@ -185,9 +185,6 @@ features_data o = option_map (λ (ls : Lists). object (lists_data ls)) o
 
 abbrev pub number_data : Option ℕ → Option Data
 number_data o = option_map (λ n. number (unsigned n)) o
-
-pub member_read : (key : List ℕ) (j : json.Json) (d : Data) (more : json.Members) (ms : Members) → of_json j ≡ Some d → of_members (json.member key j more) ms ≡ of_members more (put key d ms)
-member_read key j d more ms h = rw h refl
 
 pub text_if_read : (key : List ℕ) (o : Option (List ℕ)) (more : json.Members) (ms : Members) → of_members (text_if key o more) ms ≡ of_members more (put_if key (text_data o) ms)
 text_if_read key None more ms = refl

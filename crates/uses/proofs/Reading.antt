@@ -11,7 +11,6 @@ use Rattle.tame_entry.specs.declared.index_entries.IndexEntry.{IndexEntry}
 use Rattle.tame_entry.specs.declared.index_entries.IndexEntry.TheVariants.{Remote, Cache, Local}
 use Rattle.tame_cache.specs.CacheFiles.{HandsOut}
 use Rattle.tame_cache.specs.Disk.{File as Kept}
-use Rattle.tame_sparse.specs.ResponseResults.{AreSentLines}
 use Rattle.tame_local.specs.Registries.{HandsOutFile}
 use Rattle.uses.specs.Newest.{IsNewest, IsNewestIn}
 use Rattle.uses.specs.Refusals.{IsKeptRefusal}
@@ -21,12 +20,6 @@ pub versions_read : (standing : Standing) (entry : IndexEntry) (versions : List 
 versions_read standing (Remote sent) versions h e = absurd h
 versions_read standing (Cache bytes url) versions h e = absurd h
 versions_read standing (Local bytes) versions h e = (bytes, h, e)
-
--- what came at 200 is the lines of the body
-pub sent_read : (body : List ℕ) (entry : IndexEntry) (versions : List IndexVersion) → AreSentLines body (Some entry) → deserialized entry ≡ Ok versions → krate_of_lines (lines body) ≡ Ok versions
-sent_read body (Remote sent) versions h e = ap krate_of_lines (sym h.0) ∙ e
-sent_read body (Cache bytes url) versions h e = absurd h
-sent_read body (Local bytes) versions h e = absurd h
 
 -- ---- files of the cache
 

@@ -68,10 +68,6 @@ checked_same past now index host crates i p same = named_case (path p.name)
 
 -- ---- where a loop begins and ends
 
-pub behind_none : {A E : Type 0} (r : Result (List A) E) → r ≡ behind [] r
-behind_none (Ok ys) = refl
-behind_none (Err e) = refl
-
 -- ---- the next package
 
 pub texts_more : (cs : List Checked) (c : Checked) → AreTexts cs → IsUtf8 c.version.name → AreTexts (cs ++ c ∷ [])

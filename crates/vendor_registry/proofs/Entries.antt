@@ -34,11 +34,6 @@ read_more all left next rs more i r so_far steps is added =
     ∙ ap (λ (o : Option IndexVersion). before rs (option_and_then (λ x. option_map (λ (ys : List IndexVersion). x ∷ ys) (behind next)) o)) is
     ∙ before_more rs r (behind next) ∙ ap (λ (xs : List IndexVersion). before xs (behind next)) (sym added)
 
-pub read_none : (all left next : List Item) (rs : List IndexVersion) (i : Item) → behind all ≡ before rs (behind left) → left ≡ i ∷ next → record_of i.1 ≡ None → behind all ≡ None
-read_none all left next rs i so_far steps is =
-    so_far ∙ ap (λ (s : List Item). before rs (behind s)) steps
-    ∙ ap (λ (o : Option IndexVersion). before rs (option_and_then (λ x. option_map (λ (ys : List IndexVersion). x ∷ ys) (behind next)) o)) is
-
 -- ---- of a file
 
 lines_paired : (ps : List (List ℕ)) → map (λ (i : Item). i.1) (paired ps) ≡ second_pieces ps

@@ -151,13 +151,6 @@ no_folder p (Folder []) q h = cc
 no_folder p (Folder (e ∷ es)) q h = cc
 no_folder p Other q h = refl
 
-pub is_free : (p : List ℕ) (s : Standing) → free_at p s ≡ Ok tt → free_fault s ≡ None
-is_free p Nothing h = refl
-is_free p (File bs) h = cc
-is_free p (Folder []) h = refl
-is_free p (Folder (e ∷ es)) h = cc
-is_free p Other h = cc
-
 -- ---- paths that are left
 
 pub made_more : (folder : List ℕ) (cs : List Checked) (q : List ℕ) (ps left : List (List ℕ)) (whole mid now : Host) → left ≡ q ∷ ps

@@ -111,11 +111,6 @@ pairs_more pairs front p is h q =
     any_insert pair_cmp exact_pair (is_pair q) pair pairs ∙ ap (λ b. b || is_pair q pair) (h q)
     ∙ ap (λ b. list_any (stands_for q) front || b) same ∙ sym (any_behind (stands_for q) front p)
 
-pub pairs_same : (pairs : List Pair) (front : List Package) (p : Package) → is_default p ≡ false → HasPairs pairs front → HasPairs pairs (front ++ p ∷ [])
-pairs_same pairs front p is h q =
-    let none : stands_for q p ≡ false = ap (λ b. b && bytes_eq p.name q.name && bytes_eq p.version q.version) is in
-    h q ∙ sym (any_behind (stands_for q) front p ∙ ap (λ b. list_any (stands_for q) front || b) none ∙ or_none (list_any (stands_for q) front))
-
 -- ---- paths
 
 path_at : (q k : List ℕ) → is_at (slice_cmp nat_cmp q) k ≡ bytes_eq k q
