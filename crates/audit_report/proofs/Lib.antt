@@ -11,4 +11,5 @@ pub mod Reading
 pub mod SarifDepths
 pub mod Showing
 pub mod Telling
+pub mod Treed
 pub mod Writing

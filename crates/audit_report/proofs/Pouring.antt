@@ -1,34 +1,15 @@
 -- Blocks put one after the other.
-use Rattle.std.proofs.Common.{◌≡◌, ℕ, List, [], ◌++◌, Bool, ◌+◌, ◌<◌, length, take, drop, get_or, Result, sym, ap, ◌∙◌, subst}
+use Rattle.std.proofs.Common.{◌≡◌, ℕ, List, ◌++◌, Bool, ◌+◌, ◌<◌, length, take, drop, get_or, Result, sym, ap, ◌∙◌, append_assoc, subst}
 use Rattle.std.proofs.lemmas.Grind.{flat_map-append}
 use Rattle.std.proofs.lemmas.List.{take-append-drop}
 use Rattle.std.specs.List.{flat_map}
 use Rattle.tame_names.specs.Output.{AddsPrefix}
 use Rattle.audit_report.specs.Blocks.{Block}
 use Rattle.audit_report.specs.Outputs.{IsPut}
-use Rattle.audit_report.specs.Shown.{Shows, blocks_text, shown_after}
+use Rattle.audit_report.specs.Shown.{blocks_text, shown_after}
 use Rattle.audit_report.specs.declared.shown_trees.ShownTree.{ShownTree}
-use Rattle.audit_report.proofs.Puts.{part_first, part_then, part_whole, put_then}
-use Rattle.audit_report.proofs.Showing.{blocks_text-append, flat_map_more, shown_after-append, shows_next}
-
-module _ {X : Type 0} (g : X → List Block) (wanted : Bool) (xs : List X) (i : ℕ) (d : X) (low : i < length xs) where
-  -- the block of one item more
-  one_more : (s t u : List ShownTree) (before a b p page : List ℕ) → a ≡ before ++ blocks_text wanted s (flat_map g (take i xs)) → t ≡ shown_after wanted s (flat_map g (take i xs))
-      → p ≡ [] → Shows wanted (g (get_or xs i d)) p t page u → b ≡ a ++ page → Shows wanted (flat_map g (take (i + 1) xs)) before s b u
-  one_more s t u before a b p page text trees empty shows put =
-      let made : page ≡ blocks_text wanted t (g (get_or xs i d)) = shows.text ∙ ap (λ (x : List ℕ). x ++ blocks_text wanted t (g (get_or xs i d))) empty in
-      let next : Shows wanted (g (get_or xs i d)) a t b u = record { text = put ∙ ap (λ (x : List ℕ). a ++ x) made; trees = shows.trees } in
-      shows_next g wanted xs i d low before a b s t u (record { text = text; trees = trees }) next
-
-  pub poured_next : (s t u : List ShownTree) (before a b p page : List ℕ) → a ≡ before ++ blocks_text wanted s (flat_map g (take i xs)) → t ≡ shown_after wanted s (flat_map g (take i xs))
-      → p ≡ [] → Shows wanted (g (get_or xs i d)) p t page u → b ≡ a ++ page → b ≡ before ++ blocks_text wanted s (flat_map g (take (i + 1) xs))
-  poured_next s t u before a b p page text trees empty shows put = (one_more s t u before a b p page text trees empty shows put).text
-
-  pub trees_next : (s t u : List ShownTree) (p page : List ℕ) → t ≡ shown_after wanted s (flat_map g (take i xs)) → Shows wanted (g (get_or xs i d)) p t page u
-      → u ≡ shown_after wanted s (flat_map g (take (i + 1) xs))
-  trees_next s t u p page trees shows =
-      shows.trees ∙ ap (λ z. shown_after wanted z (g (get_or xs i d))) trees ∙ sym (shown_after-append wanted s (flat_map g (take i xs)) (g (get_or xs i d)))
-      ∙ ap (shown_after wanted s) (sym (flat_map_more g xs i d low))
+use Rattle.audit_report.proofs.Puts.{part_first, part_then, put_then}
+use Rattle.audit_report.proofs.Showing.{blocks_text-append, flat_map_more, shown_after-append}
 
 -- the text of the first items is the front of that of all
 front_of : {X : Type 0} (g : X → List Block) (wanted : Bool) (xs : List X) (i : ℕ) (s : List ShownTree)
@@ -38,34 +19,39 @@ front_of g wanted xs i s =
     ∙ ap (blocks_text wanted s) (flat_map-append g (take i xs) (drop i xs))
     ∙ blocks_text-append wanted s (flat_map g (take i xs)) (flat_map g (drop i xs))
 
--- so far a part of the whole was put
-pub poured_part : {X : Type 0} (g : X → List Block) (wanted : Bool) (xs : List X) (i : ℕ) (s : List ShownTree) (before a : List ℕ) → a ≡ before ++ blocks_text wanted s (flat_map g (take i xs))
-    → AddsPrefix before (blocks_text wanted s (flat_map g xs)) a
-poured_part g wanted xs i s before a text =
-    subst (λ (x : List ℕ). AddsPrefix before x a) (sym (front_of g wanted xs i s)) (part_first before _ _ a (part_whole before _ a text))
+module _ {X : Type 0} (g : X → List Block) (wanted : Bool) (xs : List X) (i : ℕ) (d : X) (low : i < length xs) where
+  -- the text of one item more, behind that of the first ones
+  text_more : (s t : List ShownTree) → t ≡ shown_after wanted s (flat_map g (take i xs))
+      → blocks_text wanted s (flat_map g (take i xs)) ++ blocks_text wanted t (g (get_or xs i d)) ≡ blocks_text wanted s (flat_map g (take (i + 1) xs))
+  text_more s t trees =
+      ap (λ z. blocks_text wanted s (flat_map g (take i xs)) ++ blocks_text wanted z (g (get_or xs i d))) trees
+      ∙ sym (blocks_text-append wanted s (flat_map g (take i xs)) (g (get_or xs i d)))
+      ∙ ap (blocks_text wanted s) (sym (flat_map_more g xs i d low))
 
--- the block of one item more, behind the text of the first ones
-text_more : {X : Type 0} (g : X → List Block) (wanted : Bool) (xs : List X) (i : ℕ) (d : X) → i < length xs → (s t u : List ShownTree) (p page : List ℕ)
-    → t ≡ shown_after wanted s (flat_map g (take i xs)) → p ≡ [] → Shows wanted (g (get_or xs i d)) p t page u
-    → blocks_text wanted s (flat_map g (take i xs)) ++ page ≡ blocks_text wanted s (flat_map g (take (i + 1) xs))
-text_more g wanted xs i d low s t u p page trees empty shows =
-    let P : List ℕ = blocks_text wanted s (flat_map g (take i xs)) in
-    let made : page ≡ blocks_text wanted t (g (get_or xs i d)) = shows.text ∙ ap (λ (x : List ℕ). x ++ blocks_text wanted t (g (get_or xs i d))) empty in
-    ap (λ (x : List ℕ). P ++ x) made
-    ∙ ap (λ z. P ++ blocks_text wanted z (g (get_or xs i d))) trees
-    ∙ sym (blocks_text-append wanted s (flat_map g (take i xs)) (g (get_or xs i d)))
-    ∙ ap (blocks_text wanted s) (sym (flat_map_more g xs i d low))
+  pub poured_next : (s t : List ShownTree) (before a b : List ℕ) → a ≡ before ++ blocks_text wanted s (flat_map g (take i xs)) → t ≡ shown_after wanted s (flat_map g (take i xs))
+      → b ≡ a ++ blocks_text wanted t (g (get_or xs i d)) → b ≡ before ++ blocks_text wanted s (flat_map g (take (i + 1) xs))
+  poured_next s t before a b text trees put =
+      put
+      ∙ ap (λ (x : List ℕ). x ++ blocks_text wanted t (g (get_or xs i d))) text
+      ∙ append_assoc before (blocks_text wanted s (flat_map g (take i xs))) (blocks_text wanted t (g (get_or xs i d)))
+      ∙ ap (λ (x : List ℕ). before ++ x) (text_more s t trees)
 
--- and where a block was cut off
-pub poured_cut : {X : Type 0} (g : X → List Block) (wanted : Bool) (xs : List X) (i : ℕ) (d : X) → i < length xs → (s t u : List ShownTree) (before a now p page : List ℕ)
-    → a ≡ before ++ blocks_text wanted s (flat_map g (take i xs)) → t ≡ shown_after wanted s (flat_map g (take i xs))
-    → p ≡ [] → Shows wanted (g (get_or xs i d)) p t page u → AddsPrefix a page now → AddsPrefix before (blocks_text wanted s (flat_map g xs)) now
-poured_cut g wanted xs i d low s t u before a now p page text trees empty shows part =
-    let P : List ℕ = blocks_text wanted s (flat_map g (take i xs)) in
-    let rest : List ℕ = blocks_text wanted (shown_after wanted s (flat_map g (take (i + 1) xs))) (flat_map g (drop (i + 1) xs)) in
-    let all : (P ++ page) ++ rest ≡ blocks_text wanted s (flat_map g xs) =
-    ap (λ (x : List ℕ). x ++ rest) (text_more g wanted xs i d low s t u p page trees empty shows) ∙ sym (front_of g wanted xs (i + 1) s) in
-    subst (λ (x : List ℕ). AddsPrefix before x now) all (part_first before (P ++ page) rest now (part_then before P page a now text part))
+  pub trees_next : (s t u : List ShownTree) → t ≡ shown_after wanted s (flat_map g (take i xs)) → u ≡ shown_after wanted t (g (get_or xs i d))
+      → u ≡ shown_after wanted s (flat_map g (take (i + 1) xs))
+  trees_next s t u trees more =
+      more ∙ ap (λ z. shown_after wanted z (g (get_or xs i d))) trees ∙ sym (shown_after-append wanted s (flat_map g (take i xs)) (g (get_or xs i d)))
+      ∙ ap (shown_after wanted s) (sym (flat_map_more g xs i d low))
+
+  -- where the block of one item more was cut off, a part of the whole was put
+  pub poured_cut : (s t : List ShownTree) (before a now : List ℕ) → a ≡ before ++ blocks_text wanted s (flat_map g (take i xs)) → t ≡ shown_after wanted s (flat_map g (take i xs))
+      → AddsPrefix a (blocks_text wanted t (g (get_or xs i d))) now → AddsPrefix before (blocks_text wanted s (flat_map g xs)) now
+  poured_cut s t before a now text trees part =
+      let P : List ℕ = blocks_text wanted s (flat_map g (take i xs)) in
+      let block : List ℕ = blocks_text wanted t (g (get_or xs i d)) in
+      let rest : List ℕ = blocks_text wanted (shown_after wanted s (flat_map g (take (i + 1) xs))) (flat_map g (drop (i + 1) xs)) in
+      let all : (P ++ block) ++ rest ≡ blocks_text wanted s (flat_map g xs) =
+      ap (λ (x : List ℕ). x ++ rest) (text_more s t trees) ∙ sym (front_of g wanted xs (i + 1) s) in
+      subst (λ (x : List ℕ). AddsPrefix before x now) all (part_first before (P ++ block) rest now (part_then before P block a now text part))
 
 -- ---- one list of blocks after another
 

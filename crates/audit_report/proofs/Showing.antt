@@ -1,10 +1,10 @@
 -- Blocks shown one after the other.
-use Rattle.std.proofs.Common.{◌≡◌, ℕ, List, [], ◌∷◌, ◌++◌, Bool, ◌+◌, ◌<◌, length, take, get_or, refl, sym, ap, ◌∙◌, append_assoc, append-nil, subst}
+use Rattle.std.proofs.Common.{◌≡◌, ℕ, List, [], ◌∷◌, ◌++◌, Bool, ◌+◌, ◌<◌, length, take, get_or, refl, sym, ap, ◌∙◌, append_assoc, append-nil}
 use Rattle.std.proofs.lemmas.Grind.{flat_map-append}
 use Rattle.std.proofs.lemmas.List.{take_more}
 use Rattle.std.specs.List.{flat_map}
 use Rattle.audit_report.specs.Blocks.{Block}
-use Rattle.audit_report.specs.Shown.{Shows, block_text, blocks_text, shown_after, shown_with}
+use Rattle.audit_report.specs.Shown.{block_text, blocks_text, shown_after, shown_with}
 use Rattle.audit_report.specs.declared.shown_trees.ShownTree.{ShownTree}
 
 pub blocks_text-append : (wanted : Bool) (shown : List ShownTree) (xs ys : List Block)
@@ -19,19 +19,6 @@ pub shown_after-append : (wanted : Bool) (shown : List ShownTree) (xs ys : List 
 shown_after-append wanted shown [] ys = refl
 shown_after-append wanted shown (x ∷ xs) ys = shown_after-append wanted (shown_with wanted shown x.locked) xs ys
 
--- first these blocks, then those
-pub shows_both : (wanted : Bool) (xs ys : List Block) (a b c : List ℕ) (s t u : List ShownTree)
-    → Shows wanted xs a s b t → Shows wanted ys b t c u → Shows wanted (xs ++ ys) a s c u
-shows_both wanted xs ys a b c s t u h k = record {
-  text =
-      k.text
-      ∙ ap (λ x. x ++ blocks_text wanted t ys) h.text
-      ∙ append_assoc a (blocks_text wanted s xs) (blocks_text wanted t ys)
-      ∙ ap (λ z. a ++ (blocks_text wanted s xs ++ blocks_text wanted z ys)) h.trees
-      ∙ ap (λ x. a ++ x) (sym (blocks_text-append wanted s xs ys));
-  trees = k.trees ∙ ap (λ z. shown_after wanted z ys) h.trees ∙ sym (shown_after-append wanted s xs ys);
-}
-
 -- the blocks of one item more
 pub flat_map_more : {X : Type 0} (g : X → List Block) (xs : List X) (i : ℕ) (d : X) → i < length xs
     → flat_map g (take (i + 1) xs) ≡ flat_map g (take i xs) ++ g (get_or xs i d)
@@ -39,12 +26,3 @@ flat_map_more g xs i d l =
     ap (flat_map g) (take_more xs i d l)
     ∙ flat_map-append g (take i xs) (get_or xs i d ∷ [])
     ∙ ap (λ t. flat_map g (take i xs) ++ t) (append-nil (g (get_or xs i d)))
-
--- the blocks of the first items, and then those of one more
-pub shows_next : {X : Type 0} (g : X → List Block) (wanted : Bool) (xs : List X) (i : ℕ) (d : X) → i < length xs
-    → (a b c : List ℕ) (s t u : List ShownTree)
-    → Shows wanted (flat_map g (take i xs)) a s b t → Shows wanted (g (get_or xs i d)) b t c u
-    → Shows wanted (flat_map g (take (i + 1) xs)) a s c u
-shows_next g wanted xs i d l a b c s t u h k =
-    let P : List Block → Type 0 = λ bs. Shows wanted bs a s c u in
-    subst P (sym (flat_map_more g xs i d l)) (shows_both wanted _ _ a b c s t u h k)

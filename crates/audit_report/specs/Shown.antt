@@ -1,6 +1,6 @@
 -- The text of blocks, in which a tree stands once for each name, version and source (this project,
 -- after cargo-audit).
-use Rattle.std.specs.Prelude.{◌≡◌, ℕ, codes, List, [], ◌∷◌, ◌++◌, Bool, not, ◌&&◌, bytes_eq, if◌then◌else◌}
+use Rattle.std.specs.Prelude.{ℕ, codes, List, [], ◌∷◌, ◌++◌, Bool, not, ◌&&◌, bytes_eq, if◌then◌else◌}
 use Rattle.std.specs.List.{list_any}
 use Rattle.std.specs.Option.{option_eq}
 use Rattle.audit_lock.specs.declared.resolving.Package.{Package}
@@ -54,10 +54,3 @@ shown_after wanted shown (b ∷ bs) = shown_after wanted (shown_with wanted show
 -- one of these blocks is of a package's name, version and source
 abbrev pub is_among : List Block → Package → Bool
 is_among blocks p = list_any (λ b. is_tree_of p (tree_key b.locked)) blocks
-
--- these blocks were appended to a text, and their trees count as shown
-pub record Shows (wanted : Bool) (blocks : List Block)
-    (before : List ℕ) (shown : List ShownTree) (now : List ℕ)
-    (later : List ShownTree) : Type 0 where
-  pub text : now ≡ before ++ blocks_text wanted shown blocks
-  pub trees : later ≡ shown_after wanted shown blocks

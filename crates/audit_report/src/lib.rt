@@ -57,6 +57,7 @@ mod shown_trees;
 mod status_lines;
 mod summaries;
 mod symbols;
+mod tree_puts;
 mod words;
 
 pub use attributes::push_number;

@@ -1,14 +1,13 @@
 //! A text that is made in memory before it is put anywhere.
-ghost use Rattle.std.specs.Prelude.{◌≡◌, ◌++◌, [], ⊤, OnOk};
+ghost use Rattle.std.specs.Prelude.{◌≡◌, ◌++◌, [], OnOk};
 
 use std::alloc::Global;
-use tame_names::{NoMemory, Sink, SinkFault};
+use tame_names::NoMemory;
 
-/// A text that is made in memory. As an output it fails only where memory runs out.
+/// A text that is made in memory.
 #[derive(Drop)]
 pub struct Page {
     bytes: Vec<u8>,
-    faults: u64,
 }
 
 impl Page {
@@ -18,7 +17,6 @@ impl Page {
     {
         Page {
             bytes: Vec::new(alloc),
-            faults: 0,
         }
     }
 
@@ -42,27 +40,5 @@ impl Page {
         ensures { result.now ≡ self.now.bytes.items }
     {
         self.bytes.as_slice()
-    }
-}
-
-impl Sink for Page {
-    ghost tells = { ⊤ };
-
-    ghost holds = { λ p. p.bytes.items };
-
-    ghost faults = { λ p. p.faults };
-
-    fn sink_faults(&self) -> u64 {
-        self.faults
-    }
-
-    fn put(&mut self, piece: &[u8]) -> Result<(), SinkFault> {
-        match self.bytes.extend_from_slice(piece) {
-            Ok(()) => Ok(()),
-            Err(_) => {
-                self.faults = self.faults.saturating_add(1);
-                Err(SinkFault)
-            }
-        }
     }
 }
