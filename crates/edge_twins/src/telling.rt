@@ -9,6 +9,7 @@ use crate::turns::{Krate, stored};
 use audit_edges::FileCacheDisk;
 use std::io;
 use tame_cache::CacheDisk;
+use tame_sparse::SparseIndex;
 
 type Disk<'a> = Recorder<'a, FileCacheDisk<'a, HostRuntime>>;
 
@@ -45,6 +46,55 @@ fn play<'a>(
     stored(rt.alloc(), krate, disk, body.as_slice(), step.amount)
 }
 
+fn opened<'x>(rt: &'x HostRuntime, folder: &'x str) -> Disk<'x> {
+    Recorder::new(rt.alloc(), FileCacheDisk::new(rt, folder), Some(rt))
+}
+
+/// The cache is opened anew. What waits to be written is written by a look at its file before.
+fn open_again<'x>(
+    rt: &'x HostRuntime,
+    folder: &'x str,
+    disk: &mut Disk<'x>,
+    path: &str,
+) -> io::Result<()> {
+    let _ = disk.peek(path);
+    let told = println!(rt; "again");
+    *disk = opened(rt, folder);
+    told
+}
+
+/// Makes the call of a step.
+fn tell_step<'x>(
+    rt: &'x HostRuntime,
+    folder: &'x str,
+    disk: &mut Disk<'x>,
+    krate: Krate<'_>,
+    step: &Step,
+) -> io::Result<()> {
+    disk.begin(u64::MAX);
+    if step.act == Act::Again {
+        let path = cache_path(rt.alloc(), krate)?;
+        open_again(rt, folder, disk, path.as_str())
+    } else {
+        let _ = play(rt, disk, krate, step)?;
+        Ok(())
+    }
+}
+
+/// Makes the calls of steps.
+fn tell_steps<'x>(
+    rt: &'x HostRuntime,
+    folder: &'x str,
+    disk: &mut Disk<'x>,
+    index: &SparseIndex,
+    steps: &[Step],
+) -> io::Result<()> {
+    for step in steps {
+        tell_step(rt, folder, disk, krate_of(index, step.place)?, step)?;
+    }
+    Ok(())
+}
+
 /// Makes the calls of a number on the cache in a folder. Each is told before it is made, and its
 /// answer behind it.
 pub fn tell_calls<'x>(
@@ -53,22 +103,9 @@ pub fn tell_calls<'x>(
     seed: u64,
     number: u64,
 ) -> io::Result<()> {
-    let alloc = rt.alloc();
-    let index = index_at(alloc, "")?;
     let mut chance = Chance::of(seed.wrapping_mul(1000003).wrapping_add(number));
-    let steps = told_steps(alloc, &mut chance)?;
-    let mut disk = Recorder::new(alloc, FileCacheDisk::new(rt, folder), Some(rt));
-    for step in steps.as_slice() {
-        disk.begin(u64::MAX);
-        let krate = krate_of(&index, step.place)?;
-        if step.act == Act::Again {
-            // what waits to be written is written by a look at its file
-            let _ = disk.peek(cache_path(alloc, krate)?.as_str());
-            println!(rt; "again")?;
-            disk = Recorder::new(alloc, FileCacheDisk::new(rt, folder), Some(rt));
-        } else {
-            let _ = play(rt, &mut disk, krate, step)?;
-        }
-    }
-    Ok(())
+    let steps = told_steps(rt.alloc(), &mut chance)?;
+    let index = index_at(rt.alloc(), "")?;
+    let mut disk = opened(rt, folder);
+    tell_steps(rt, folder, &mut disk, &index, steps.as_slice())
 }

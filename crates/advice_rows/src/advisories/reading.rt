@@ -107,6 +107,8 @@ pub fn word(alloc: Global, row: Row<'_>) -> Result<String, RowFault> {
     let Some(format) = OutputFormat::from_word(word) else {
         return Ok(String::new(alloc));
     };
-    let config = config_of(alloc, format)?;
-    Ok(format_line(alloc, word, &config)?)
+    match config_of(alloc, format) {
+        Ok(config) => Ok(format_line(alloc, word, &config)?),
+        Err(_) => Err(RowFault::NoMemory),
+    }
 }

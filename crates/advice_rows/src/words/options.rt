@@ -18,17 +18,22 @@ pub fn words_of(alloc: Global, row: Row<'_>) -> Result<Vec<String>, RowFault> {
     Ok(words)
 }
 
+/// What words are read as.
+fn words_line(alloc: Global, words: &[String]) -> Result<String, AllocError> {
+    let read = read_words(alloc, words);
+    format!(in alloc; "{read:?}")
+}
+
 /// `words WORD ..`: what the words are read as.
 pub fn words(alloc: Global, row: Row<'_>) -> Result<String, RowFault> {
     let words = words_of(alloc, row)?;
-    let read = read_words(alloc, words.as_slice());
-    Ok(format!(in alloc; "{read:?}")?)
+    Ok(words_line(alloc, words.as_slice())?)
 }
 
-fn lock_of(alloc: Global, fix: &FixCommand) -> Result<String, AllocError> {
+fn lock_of(alloc: Global, fix: &FixCommand) -> Result<String, RowFault> {
     match fix.cargo_lock_path() {
-        Some(path) => format!(in alloc; "at {path}"),
-        None => String::from_str(alloc, "nowhere"),
+        Some(path) => Ok(format!(in alloc; "at {path}")?),
+        None => Ok(String::from_str(alloc, "nowhere")?),
     }
 }
 
@@ -36,15 +41,19 @@ fn lock_of(alloc: Global, fix: &FixCommand) -> Result<String, AllocError> {
 pub fn lock(alloc: Global, row: Row<'_>) -> Result<String, RowFault> {
     let words = words_of(alloc, row)?;
     match read_words(alloc, words.as_slice()) {
-        Ok(Command::Fix(_, fix)) => Ok(lock_of(alloc, &fix)?),
+        Ok(Command::Fix(_, fix)) => lock_of(alloc, &fix),
         _ => Err(RowFault::Unread),
     }
 }
 
+fn options_line(alloc: Global) -> Result<String, AllocError> {
+    let options = AuditCommand::new(alloc);
+    format!(in alloc; "{options:?}")
+}
+
 /// `options`: the options of `audit` where none is given.
 pub fn options(alloc: Global) -> Result<String, RowFault> {
-    let options = AuditCommand::new(alloc);
-    Ok(format!(in alloc; "{options:?}")?)
+    Ok(options_line(alloc)?)
 }
 
 /// `version`: the version, and what `--version` prints.

@@ -1,21 +1,34 @@
 //! The settings of an audit.
 use crate::words::options::words_of;
+use audit_advisory::Settings;
 use audit_settings::{AuditCommand, AuditConfig};
 use audit_words::{Command, read_words};
 use row_fixtures::{Row, RowFault};
-use std::alloc::Global;
+use std::alloc::{AllocError, Global};
+
+/// What a text is read as.
+fn read_line(alloc: Global, text: &str) -> Result<String, AllocError> {
+    let read = AuditConfig::from_toml(alloc, text);
+    format!(in alloc; "{read:?}")
+}
 
 /// `settings TEXT`: the settings, or why there are none.
 pub fn settings(alloc: Global, mut row: Row<'_>) -> Result<String, RowFault> {
     let text = row.text(alloc)?;
-    let read = AuditConfig::from_toml(alloc, text.as_str());
-    Ok(format!(in alloc; "{read:?}")?)
+    Ok(read_line(alloc, text.as_str())?)
+}
+
+/// Settings as a line.
+fn config_line(alloc: Global, config: &AuditConfig) -> Result<String, RowFault> {
+    Ok(format!(in alloc; "{config:?}")?)
 }
 
 /// `defaults`: the settings where nothing is stated.
 pub fn defaults(alloc: Global) -> Result<String, RowFault> {
-    let config = AuditConfig::new(alloc)?;
-    Ok(format!(in alloc; "{config:?}")?)
+    match AuditConfig::new(alloc) {
+        Ok(config) => config_line(alloc, &config),
+        Err(_) => Err(RowFault::NoMemory),
+    }
 }
 
 /// The settings of a text that is one.
@@ -26,10 +39,16 @@ fn config_of(alloc: Global, text: &str) -> Result<AuditConfig, RowFault> {
     }
 }
 
+fn asks_line(alloc: Global, settings: &Settings) -> Result<String, RowFault> {
+    Ok(format!(in alloc; "{settings:?}")?)
+}
+
 /// What settings ask of advisories.
 fn report_line(alloc: Global, config: &AuditConfig) -> Result<String, RowFault> {
-    let settings = config.report_settings(alloc)?;
-    Ok(format!(in alloc; "{settings:?}")?)
+    match config.report_settings(alloc) {
+        Ok(settings) => asks_line(alloc, &settings),
+        Err(_) => Err(RowFault::NoMemory),
+    }
 }
 
 /// `report TEXT`: what the settings ask of advisories.
@@ -63,8 +82,10 @@ fn overridden(
     command: &AuditCommand,
     config: AuditConfig,
 ) -> Result<String, RowFault> {
-    let config = command.override_config(alloc, config)?;
-    Ok(format!(in alloc; "{config:?}")?)
+    match command.override_config(alloc, config) {
+        Ok(config) => config_line(alloc, &config),
+        Err(_) => Err(RowFault::NoMemory),
+    }
 }
 
 /// The settings of a text under a command.

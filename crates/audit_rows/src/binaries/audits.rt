@@ -16,13 +16,26 @@ fn copied(alloc: Global, deny: &[DenyOption]) -> Result<Items<DenyOption>, RowFa
     Ok(copies)
 }
 
-fn auditor_of(alloc: Global, stage: &Stage) -> Result<Auditor, RowFault> {
-    let mut config = AuditConfig::new(alloc)?;
-    config.output.deny = copied(alloc, stage.deny.as_slice())?;
-    match Auditor::new(alloc, &config, &stage.advisories) {
+fn auditor_by(
+    alloc: Global,
+    config: &AuditConfig,
+    advisories: &Items<Text>,
+) -> Result<Auditor, RowFault> {
+    match Auditor::new(alloc, config, advisories) {
         Ok(auditor) => Ok(auditor),
         Err(AuditError::NoMemory) => Err(RowFault::NoMemory),
         Err(_) => Err(RowFault::Unread),
+    }
+}
+
+fn auditor_of(alloc: Global, stage: &Stage) -> Result<Auditor, RowFault> {
+    let deny = copied(alloc, stage.deny.as_slice())?;
+    match AuditConfig::new(alloc) {
+        Ok(mut config) => {
+            config.output.deny = deny;
+            auditor_by(alloc, &config, &stage.advisories)
+        }
+        Err(_) => Err(RowFault::NoMemory),
     }
 }
 
@@ -126,42 +139,83 @@ fn audit_line(
     told(alloc, &audit, wire, files)
 }
 
-/// `audit PATH ..`: the audit of the binaries at these paths.
-pub fn audit(alloc: Global, stage: &mut Stage, words: Row<'_>) -> Result<String, RowFault> {
-    let paths = paths_of(alloc, words)?;
-    let reads = mem::replace(&mut stage.reads, Vec::new(alloc));
-    let mut files = host_with(alloc, stage.laid.as_slice(), &[], reads)?;
-    let auditor = auditor_of(alloc, stage)?;
+/// What the server answers in the next audit.
+fn wire_of(alloc: Global, stage: &mut Stage) -> MemWire {
+    MemWire::new(alloc, mem::replace(&mut stage.script, Items::new(alloc)))
+}
+
+/// The same over these files.
+fn audit_over(
+    alloc: Global,
+    stage: &mut Stage,
+    auditor: &Auditor,
+    paths: &Items<Text>,
+    mut files: MemFiles,
+) -> Result<String, RowFault> {
     let decodes = mem::replace(&mut stage.decodes, Vec::new(alloc));
     let mut decoder = MemDecoder::new(Items::of(decodes));
-    let script = mem::replace(&mut stage.script, Items::new(alloc));
-    let mut wire = MemWire::new(alloc, script);
+    let mut wire = wire_of(alloc, stage);
     audit_line(
         alloc,
         stage,
-        &auditor,
-        &paths,
+        auditor,
+        paths,
         &mut files,
         &mut decoder,
         &mut wire,
     )
 }
 
+/// The same by this auditor.
+fn audit_by(
+    alloc: Global,
+    stage: &mut Stage,
+    auditor: &Auditor,
+    paths: &Items<Text>,
+) -> Result<String, RowFault> {
+    let reads = mem::replace(&mut stage.reads, Vec::new(alloc));
+    match host_with(alloc, stage.laid.as_slice(), &[], reads) {
+        Ok(files) => audit_over(alloc, stage, auditor, paths, files),
+        Err(fault) => Err(fault),
+    }
+}
+
+/// `audit PATH ..`: the audit of the binaries at these paths.
+pub fn audit(alloc: Global, stage: &mut Stage, words: Row<'_>) -> Result<String, RowFault> {
+    let paths = paths_of(alloc, words)?;
+    match auditor_of(alloc, stage) {
+        Ok(auditor) => audit_by(alloc, stage, &auditor, &paths),
+        Err(fault) => Err(fault),
+    }
+}
+
+fn audited_line(alloc: Global, audited: &Audited) -> Result<String, AllocError> {
+    let mut out = String::from_str(alloc, "Audited")?;
+    push_audited(&mut out, audited)?;
+    Ok(out)
+}
+
+/// The audit of the lockfile at a path by this auditor.
+fn lockfile_by(
+    alloc: Global,
+    stage: &mut Stage,
+    auditor: &Auditor,
+    mut files: MemFiles,
+    path: &str,
+) -> Result<String, AllocError> {
+    let mut wire = wire_of(alloc, stage);
+    let (lock, disk) = (FileLock::unlocked(), &mut stage.disk);
+    match auditor.audit_lockfile(alloc, &mut files, path, &lock, &mut wire, disk) {
+        Ok(audited) => audited_line(alloc, &audited),
+        Err(fault) => format!(in alloc; "{fault:?}"),
+    }
+}
+
 /// `lockfile PATH`: the audit of the lockfile at this path.
 pub fn lockfile(alloc: Global, stage: &mut Stage, words: Row<'_>) -> Result<String, RowFault> {
-    let mut files = host_with(alloc, stage.laid.as_slice(), &[], Vec::new(alloc))?;
-    let auditor = auditor_of(alloc, stage)?;
-    let script = mem::replace(&mut stage.script, Items::new(alloc));
-    let mut wire = MemWire::new(alloc, script);
-    let (path, lock, disk) = (words.rest(), FileLock::unlocked(), &mut stage.disk);
-    let answer = auditor.audit_lockfile(alloc, &mut files, path, &lock, &mut wire, disk);
-    let mut out = String::new(alloc);
-    match &answer {
-        Ok(audited) => {
-            out.push_str("Audited")?;
-            push_audited(&mut out, audited)?;
-        }
-        Err(fault) => write!(out, "{fault:?}")?,
+    let files = host_with(alloc, stage.laid.as_slice(), &[], Vec::new(alloc))?;
+    match auditor_of(alloc, stage) {
+        Ok(auditor) => Ok(lockfile_by(alloc, stage, &auditor, files, words.rest())?),
+        Err(fault) => Err(fault),
     }
-    Ok(out)
 }

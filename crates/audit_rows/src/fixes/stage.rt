@@ -46,12 +46,21 @@ fn audit_of(alloc: Global, database: &Database, lockfile: Lockfile) -> Result<Au
     })
 }
 
+/// The audit of a lockfile, with the advisories.
+fn laid_with(alloc: Global, database: Database, lockfile: Lockfile) -> Result<Laid, RowFault> {
+    match audit_of(alloc, &database, lockfile) {
+        Ok(audited) => Ok(Laid { database, audited }),
+        Err(fault) => Err(fault),
+    }
+}
+
 /// The audit of the lockfile that was laid, with its advisories.
 fn laid_of(alloc: Global, texts: &LaidTexts) -> Result<Laid, RowFault> {
     let lockfile = texts.lockfile(alloc)?;
-    let database = texts.database(alloc)?;
-    let audited = audit_of(alloc, &database, lockfile)?;
-    Ok(Laid { database, audited })
+    match texts.database(alloc) {
+        Ok(database) => laid_with(alloc, database, lockfile),
+        Err(fault) => Err(fault),
+    }
 }
 
 impl Stage {

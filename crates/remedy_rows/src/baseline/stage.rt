@@ -48,20 +48,76 @@ fn settings_of(alloc: Global, ignore: Items<Text>) -> Result<Settings, RowFault>
     })
 }
 
+/// The report under settings, of which these packages are yanked.
+fn report_under(
+    alloc: Global,
+    database: &Database,
+    lockfile: &Lockfile,
+    settings: &Settings,
+    yanked: &[Text],
+) -> Result<Report, RowFault> {
+    let places = packages_named(alloc, lockfile.packages(), yanked)?;
+    let mut count = Comparisons { made: 0 };
+    let mut report = Report::generate(alloc, database, lockfile, settings, &mut count)?;
+    match report.add_yanked(alloc, places.as_slice()) {
+        Ok(()) => Ok(report),
+        Err(_) => Err(RowFault::NoMemory),
+    }
+}
+
 fn report_of(
     alloc: Global,
     database: &Database,
     lockfile: &Lockfile,
-    row: Row<'_>,
+    mut row: Row<'_>,
 ) -> Result<Report, RowFault> {
-    let mut row = row;
     let yanked = listed(alloc, &mut row)?;
-    let settings = settings_of(alloc, listed(alloc, &mut row)?)?;
-    let mut count = Comparisons { made: 0 };
-    let mut report = Report::generate(alloc, database, lockfile, &settings, &mut count)?;
-    let places = packages_named(alloc, lockfile.packages(), yanked.as_slice())?;
-    report.add_yanked(alloc, places.as_slice())?;
-    Ok(report)
+    let ignore = listed(alloc, &mut row)?;
+    match settings_of(alloc, ignore) {
+        Ok(settings) => report_under(alloc, database, lockfile, &settings, yanked.as_slice()),
+        Err(fault) => Err(fault),
+    }
+}
+
+/// The audit of a lockfile that has this report.
+fn audited_with(lockfile: Lockfile, report: Report, alloc: Global) -> Audited {
+    let exit = u8::from(report_fails(&report, &[]));
+    Audited {
+        lockfile,
+        report,
+        verdicts: Items::new(alloc),
+        turns: Items::new(alloc),
+        exit,
+    }
+}
+
+/// The audit of a lockfile by a database, with both.
+fn laid_with(
+    alloc: Global,
+    database: Database,
+    lockfile: Lockfile,
+    row: Row<'_>,
+) -> Result<Laid, RowFault> {
+    match report_of(alloc, &database, &lockfile, row) {
+        Ok(report) => Ok(Laid {
+            database,
+            audited: audited_with(lockfile, report, alloc),
+        }),
+        Err(fault) => Err(fault),
+    }
+}
+
+/// The same of the lockfile of a text.
+fn laid_of(
+    alloc: Global,
+    database: Database,
+    texts: &LaidTexts,
+    row: Row<'_>,
+) -> Result<Laid, RowFault> {
+    match texts.lockfile(alloc) {
+        Ok(lockfile) => laid_with(alloc, database, lockfile, row),
+        Err(fault) => Err(fault),
+    }
 }
 
 impl Stage {
@@ -83,17 +139,9 @@ impl Stage {
     fn make_audit(&mut self, alloc: Global, row: Row<'_>) -> Result<String, RowFault> {
         self.texts.end(alloc)?;
         let database = self.texts.database(alloc)?;
-        let lockfile = self.texts.lockfile(alloc)?;
-        let report = report_of(alloc, &database, &lockfile, row)?;
-        let exit = u8::from(report_fails(&report, &[]));
-        let audited = Audited {
-            lockfile,
-            report,
-            verdicts: Items::new(alloc),
-            turns: Items::new(alloc),
-            exit,
-        };
-        self.laid = Some(Laid { database, audited });
+        let laid = laid_of(alloc, database, &self.texts, row)?;
+        let exit = laid.audited.exit;
+        self.laid = Some(laid);
         Ok(format!(in alloc; "{exit}")?)
     }
 

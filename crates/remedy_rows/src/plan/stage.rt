@@ -107,39 +107,64 @@ impl Stage {
         Ok(())
     }
 
+    fn clear(&mut self, alloc: Global) {
+        *self = Stage::new(alloc);
+    }
+
+    /// `advisory ID NAME PATCHED UNAFFECTED LINE`
+    fn add_advisory(&mut self, alloc: Global, words: Row<'_>) -> Result<(), RowFault> {
+        let text = advisory_text(alloc, words)?;
+        Ok(self.advisories.add(Text::from_string(text))?)
+    }
+
+    /// `record NAME VERSION ..`
+    fn add_record(&mut self, alloc: Global, row: Row<'_>) -> Result<(), RowFault> {
+        let mut words = row;
+        let name = words.word();
+        let body = lines_of(alloc, name, words.rest())?;
+        self.add_file(alloc, row, entry_bytes(alloc, body.as_bytes())?)
+    }
+
+    /// `body NAME BODY`
+    fn add_body(&mut self, alloc: Global, row: Row<'_>) -> Result<(), RowFault> {
+        let mut words = row;
+        let _name = words.word();
+        let body = body_of(alloc, words.word())?;
+        self.add_file(alloc, row, entry_bytes(alloc, body.as_slice())?)
+    }
+
+    /// `file NAME BYTES`
+    fn add_bytes(&mut self, alloc: Global, row: Row<'_>) -> Result<(), RowFault> {
+        let mut words = row;
+        let _name = words.word();
+        let bytes = words.bytes(alloc)?;
+        self.add_file(alloc, row, bytes)
+    }
+
+    /// `fail NUMBERS`
+    fn set_failing(&mut self, alloc: Global, mut words: Row<'_>) -> Result<(), RowFault> {
+        let failing = words.numbers(alloc)?;
+        self.failing = numbers(failing);
+        Ok(())
+    }
+
     /// What a step lays.
     fn lay(&mut self, alloc: Global, row: Row<'_>) -> Result<(), RowFault> {
         let mut words = row;
         match words.word() {
-            "clear" => *self = Stage::new(alloc),
-            "package" => push_package(&mut self.lock, words)?,
-            "|" => write!(self.lock, "{}\n", words.rest())?,
-            "advisory" => {
-                let text = advisory_text(alloc, words)?;
-                self.advisories.add(Text::from_string(text))?;
+            "clear" => {
+                self.clear(alloc);
+                Ok(())
             }
-            "record" => {
-                let place = words;
-                let name = words.word();
-                let body = lines_of(alloc, name, words.rest())?;
-                self.add_file(alloc, place, entry_bytes(alloc, body.as_bytes())?)?;
-            }
-            "body" => {
-                let place = words;
-                let _name = words.word();
-                let body = body_of(alloc, words.word())?;
-                self.add_file(alloc, place, entry_bytes(alloc, body.as_slice())?)?;
-            }
-            "file" => {
-                let place = words;
-                let _name = words.word();
-                let bytes = words.bytes(alloc)?;
-                self.add_file(alloc, place, bytes)?;
-            }
-            "fail" => self.failing = numbers(words.numbers(alloc)?),
-            _ => return Err(RowFault::Unread),
+            "package" => Ok(push_package(&mut self.lock, words)?),
+            "|" => Ok(write!(self.lock, "{}\n", words.rest())?),
+            "advisory" => self.add_advisory(alloc, words),
+            "record" => self.add_record(alloc, words),
+            "body" => self.add_body(alloc, words),
+            "file" => self.add_bytes(alloc, words),
+            "fail" => self.set_failing(alloc, words),
+            _ => Err(RowFault::Unread),
         }
-        Ok(())
     }
 
     /// The answer of a step, which tells nothing.

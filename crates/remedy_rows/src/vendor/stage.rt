@@ -6,7 +6,7 @@ use row_fixtures::{
 use std::alloc::Global;
 use tame_cache::MemCacheDisk;
 use tame_entry::{HttpRevision, Revision};
-use tame_names::{FileFault, Files, Items, MemFiles, ReadAnswer, join};
+use tame_names::{FileFault, Files, Items, Listed, MemFiles, ReadAnswer, join};
 use tame_sparse::SparseIndex;
 
 /// The digest of the bytes `abc`.
@@ -58,15 +58,10 @@ fn quiet(alloc: Global) -> Result<String, RowFault> {
     Ok(String::from_str(alloc, "-")?)
 }
 
-/// `list PATH`
-fn list(alloc: Global, files: &mut MemFiles, path: &str) -> Result<String, RowFault> {
-    let entries = match files.list(alloc, path) {
-        Ok(Some(entries)) => entries,
-        Ok(None) => return Ok(String::from_str(alloc, "no folder")?),
-        Err(fault) => return done(alloc, Err(fault)),
-    };
+/// The entries of a folder.
+fn entries_line(alloc: Global, entries: &[Listed]) -> Result<String, RowFault> {
     let mut out = String::from_str(alloc, "folder:")?;
-    for entry in entries.as_slice() {
+    for entry in entries {
         let slash = if entry.file { "" } else { "/" };
         match &entry.name {
             Some(name) => write!(out, " {name}{slash}")?,
@@ -74,6 +69,15 @@ fn list(alloc: Global, files: &mut MemFiles, path: &str) -> Result<String, RowFa
         }
     }
     Ok(out)
+}
+
+/// `list PATH`
+fn list(alloc: Global, files: &mut MemFiles, path: &str) -> Result<String, RowFault> {
+    match files.list(alloc, path) {
+        Ok(Some(entries)) => entries_line(alloc, entries.as_slice()),
+        Ok(None) => Ok(String::from_str(alloc, "no folder")?),
+        Err(fault) => done(alloc, Err(fault)),
+    }
 }
 
 /// `read PATH`
@@ -138,20 +142,26 @@ impl Stage {
         quiet(alloc)
     }
 
+    /// `host FAILING`
+    fn set_host(&mut self, alloc: Global, mut row: Row<'_>) -> Result<String, RowFault> {
+        let failing = Items::of(row.numbers(alloc)?);
+        self.files = MemFiles::new(alloc, Items::new(alloc), failing);
+        quiet(alloc)
+    }
+
+    /// `lay PATH BYTES`
+    fn lay(&mut self, alloc: Global, mut row: Row<'_>) -> Result<String, RowFault> {
+        let path = row.word();
+        let bytes = row.bytes(alloc)?;
+        done(alloc, self.files.create(path, bytes.as_slice()))
+    }
+
     /// A step on the host.
     pub fn host_step(&mut self, alloc: Global, mut row: Row<'_>) -> Result<String, RowFault> {
         match row.word() {
-            "host" => {
-                let failing = Items::of(row.numbers(alloc)?);
-                self.files = MemFiles::new(alloc, Items::new(alloc), failing);
-                quiet(alloc)
-            }
+            "host" => self.set_host(alloc, row),
             "make" => done(alloc, self.files.make_dirs(row.word())),
-            "lay" => {
-                let path = row.word();
-                let bytes = row.bytes(alloc)?;
-                done(alloc, self.files.create(path, bytes.as_slice()))
-            }
+            "lay" => self.lay(alloc, row),
             "list" => list(alloc, &mut self.files, row.word()),
             "read" => read(alloc, &mut self.files, row.word()),
             _ => Err(RowFault::Unread),
