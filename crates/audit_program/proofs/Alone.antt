@@ -104,13 +104,13 @@ memory_run tells asking same before err err_faults outcome quiet fails ended =
         start_rose = λ failed other. cc (is, other);
       };
       complete = λ told ready stayed. let P : Option RunFault → Type 0 = λ o. IsComplete o in subst P (sym is) tt;
-      unaudited = if_none outcome.audited _ (record {
+      without_lockfile = if_none outcome.audited _ (record {
         started = λ told_files told. memory_starts (asking_generates asking before.host) before.starts outcome.fault (inl is);
         at_most = λ told. inl refl;
         one_start = λ failed other. cc (is, other);
         files = λ told. host_stays _ before.host;
       });
-      unmade = if_none outcome.audited _ (if_none outcome.binaries _ (record {
+      without_audit = if_none outcome.audited _ (if_none outcome.binaries _ (record {
         out = λ told. let P : Option RunFault → Type 0 = λ o. IsPutBy before.out (plain_text asking) o before.out in subst P (sym is) (put_memory before.out (plain_text asking) before.out (part_none before.out (plain_text asking)));
         err = ended;
         early = λ other. (quiet.wire, quiet.disk, quiet.decoder);
@@ -122,7 +122,7 @@ memory_run tells asking same before err err_faults outcome quiet fails ended =
           ordered = λ told_starts. let P : Option RunFault → Type 0 = λ o. AddsRunCall (IsOrderedTaskCall task before.host before.starts before.starts) before.failed before.failed o in subst P (sym is) (inl refl);
         }));
       };
-      kept = λ told_wire told. keeps_nothing before.exchanges before.exchanges before.files;
+      kept = λ told_wire told. keeps_nothing before.exchanges before.exchanges before.cache;
       leaves = leaves_nothing tells asking same before before.out before.out_faults err err_faults quiet;
     }
 
@@ -160,19 +160,19 @@ usage_run tells place same before err err_faults outcome quiet fails ended =
         start_rose = λ failed other. cc (is, other);
       };
       complete = λ told ready stayed. absurd ready;
-      unaudited = if_none outcome.audited _ (record {
+      without_lockfile = if_none outcome.audited _ (record {
         started = λ told_files told. refl;
         at_most = λ told. inl refl;
         one_start = λ failed other. cc (is, other);
         files = λ told. host_stays _ before.host;
       });
-      unmade = if_none outcome.audited _ (if_none outcome.binaries _ (record {
+      without_audit = if_none outcome.audited _ (if_none outcome.binaries _ (record {
         out = λ told. put_nothing before.out outcome.fault;
         err = ended;
         early = λ other. (quiet.wire, quiet.disk, quiet.decoder);
       }));
       failed = λ told. record { calls = refl; unaudited = tt };
-      kept = λ told_wire told. keeps_nothing before.exchanges before.exchanges before.files;
+      kept = λ told_wire told. keeps_nothing before.exchanges before.exchanges before.cache;
       leaves = leaves_nothing tells (Err (words_fault.Usage place)) same before before.out before.out_faults err err_faults quiet;
     }
 
@@ -220,13 +220,13 @@ plain_run tells asking same before out out_faults err err_faults outcome quiet p
         start_rose = λ failed is. no_print outcome.fault (fault.Start failed) puts.fault is (λ no. absurd no);
       };
       complete = λ told ready stayed. made_complete before (printed before out out_faults err err_faults) outcome.fault puts.fault puts.rose stayed;
-      unaudited = if_none outcome.audited _ (record {
+      without_lockfile = if_none outcome.audited _ (record {
         started = λ told_files told. plain.start outcome.fault;
         at_most = λ told. inl refl;
         one_start = λ failed is. no_print outcome.fault (fault.Start failed) puts.fault is (λ no. absurd no);
         files = λ told. host_stays _ before.host;
       });
-      unmade = if_none outcome.audited _ (if_none outcome.binaries _ (record {
+      without_audit = if_none outcome.audited _ (if_none outcome.binaries _ (record {
         out = puts.put;
         err = λ told. let P : List ℕ → Type 0 = λ place. IsEnded place before.err [] outcome.fault err before.err_faults err_faults in subst P (sym plain.place) (puts.ended told);
         early = λ other. (quiet.wire, quiet.disk, quiet.decoder);
@@ -238,7 +238,7 @@ plain_run tells asking same before out out_faults err err_faults outcome quiet p
           ordered = λ told_starts. quiet_print (IsOrderedTaskCall task before.host before.starts before.starts) before.failed outcome.fault puts.fault;
         }));
       };
-      kept = λ told_wire told. keeps_nothing before.exchanges before.exchanges before.files;
+      kept = λ told_wire told. keeps_nothing before.exchanges before.exchanges before.cache;
       leaves = leaves_nothing tells asking same before out out_faults err err_faults quiet;
     }
 

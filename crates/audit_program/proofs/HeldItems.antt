@@ -1,5 +1,5 @@
 -- The plan that a run made.
-use Rattle.std.proofs.Common.{◌≡◌, List, Some, None, Result, Ok, Err, sym, subst, ◌∙◌}
+use Rattle.std.proofs.Common.{◌≡◌, pos, List, Some, None, Result, Ok, Err, sym, subst, ◌∙◌}
 use Rattle.tame_sparse.specs.declared.network.Exchange.{Exchange}
 use Rattle.audit_asked.specs.declared.asking.Asked.{Asked}
 use Rattle.audit_program.specs.declared.faults.RunFault.{RunFault}
@@ -13,7 +13,8 @@ use Rattle.upgrade_plan.specs.Plans.{IsPlanBy}
 use Rattle.upgrade_plan.specs.declared.plans.PlanItem.{PlanItem}
 use Rattle.audit_program.specs.HonestRuns.{IsHonestRun}
 use Rattle.audit_program.specs.Makings.{IsMade, IsReadOnly, Making, plan_in}
-use Rattle.audit_program.specs.TaskRuns.{Ending, IsGivenRun}
+use Rattle.audit_program.specs.TaskRuns.{Ending, IsGivenRun, IsTaskRun}
+use Rattle.audit_program.specs.Tasks.{task_asked}
 use Rattle.audit_program.specs.Worlds.{Telling, World, moment_of}
 use Rattle.audit_program.specs.declared.makings.Made.{Made}
 use Rattle.audit_program.specs.declared.makings.Made.TheVariants as made
@@ -48,7 +49,7 @@ plan_made (Baseline path) m (Ok (made.Planned others)) items h is = absurd h.0
 plan_made (WriteBaseline path) m (Ok (made.Planned others)) items h is = absurd h.0
 plan_made (Vendor more) m (Ok (made.Planned others)) items h is = absurd h.0
 
-pub held_items : (tells : Telling) (task : Task) (given : Asked) (before now : World) (end : Ending) (items : List PlanItem) (audited : Audited) (added : List Exchange)
+held_items : (tells : Telling) (task : Task) (given : Asked) (before now : World) (end : Ending) (items : List PlanItem) (audited : Audited) (added : List Exchange)
     → IsGivenRun tells task given before now end audited → end.plan ≡ Some items → checks_of given.config ≡ Online → IsHonestRun tells before now added
     → ArePlannedByHeld given.advisories audited added items
 held_items tells task given before now end items audited added run is online honest =
@@ -65,3 +66,16 @@ held_items tells task given before now end items audited added run is online hon
       kept = honest.serving.kept;
     })
     planned.0
+
+same_asked : {E : Type 0} (r : Result Asked E) (a b : Asked) → r ≡ Ok a → r ≡ Ok b → a ≡ b
+same_asked r a b first second = cc (first, second)
+
+-- by what was asked for before the run
+pub asked_items : (tells : Telling) (task : Task) (given : Asked) (before now : World) (end : Ending) (items : List PlanItem) (audited : Audited) (added : List Exchange)
+    → IsTaskRun tells task before now end audited → tells.files → task_asked task before.host (pos 0) ≡ Ok given → end.plan ≡ Some items → checks_of given.config ≡ Online
+    → IsHonestRun tells before now added → ArePlannedByHeld given.advisories audited added items
+asked_items tells task given before now end items audited added whole told gives is online honest =
+    let P : Asked → Type 0 = λ a. checks_of a.config ≡ Online → ArePlannedByHeld a.advisories audited added items in
+    let asked : World = record before { host = whole.there; starts = whole.generated } in
+    let held : P whole.given = λ is_online. held_items tells task whole.given asked now end items audited added whole.run is is_online (record { follow = honest.follow; serving = honest.serving }) in
+    subst P (same_asked _ whole.given given (whole.gives told) gives) held online

@@ -4,6 +4,7 @@ pub mod Completing
 pub mod Ended
 pub mod FaultCases
 pub mod Finishing
+pub mod GivenEnds
 pub mod HeldItems
 pub mod HeldVerdicts
 pub mod Leaving

@@ -58,9 +58,9 @@ task_run tells told task same stays before now outcome decoder h = record {
   ends = h.ends;
   causes = h.causes;
   complete = h.complete;
-  unaudited = if_none_then outcome.audited _ _ (λ k. record { started = k.started; at_most = k.at_most; one_start = k.one_start; files = k.files }) h.unaudited;
-  unmade = if_none_then outcome.audited _ _ (λ m. if_none_then outcome.binaries _ _
-      (λ k. record { out = k.out; err = k.err; early = λ other. ((k.early other).0, (k.early other).1, decoder) }) m) h.unmade;
+  without_lockfile = if_none_then outcome.audited _ _ (λ k. record { started = k.started; at_most = k.at_most; one_start = k.one_start; files = k.files }) h.without_lockfile;
+  without_audit = if_none_then outcome.audited _ _ (λ m. if_none_then outcome.binaries _ _
+      (λ k. record { out = k.out; err = k.err; early = λ other. ((k.early other).0, (k.early other).1, decoder) }) m) h.without_audit;
   failed = h.failed;
   kept = h.kept;
   leaves = record {
@@ -128,8 +128,8 @@ binaries_run tells told command more same stays before now outcome runner h unst
   ends = h.ends;
   causes = h.causes;
   complete = h.complete;
-  unaudited = if_none_then outcome.audited _ _ (λ k. record { started = λ told_files told_starts. unstarted; at_most = λ told_starts. inl unstarted; one_start = k.one_start; files = k.files }) h.unaudited;
-  unmade = if_none_then outcome.audited _ _ (λ m. if_none_then outcome.binaries _ _ (λ k. record { out = k.out; err = k.err; early = k.early }) m) h.unmade;
+  without_lockfile = if_none_then outcome.audited _ _ (λ k. record { started = λ told_files told_starts. unstarted; at_most = λ told_starts. inl unstarted; one_start = k.one_start; files = k.files }) h.without_lockfile;
+  without_audit = if_none_then outcome.audited _ _ (λ m. if_none_then outcome.binaries _ _ (λ k. record { out = k.out; err = k.err; early = k.early }) m) h.without_audit;
   failed = λ here. record { calls = (h.failed here).calls; unaudited = tt };
   kept = h.kept;
   leaves = record {

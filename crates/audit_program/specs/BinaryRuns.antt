@@ -53,12 +53,12 @@ scan_of given more world = record {
 pub record AreTogether (tells : Telling) (checks : Checks) (before now : World)
     (answers : List BinaryAnswer) : Type 0 where
   pub headline : checks ≡ Online → tells.wire → tells.disk
-      → AllHeld checks before.exchanges now.exchanges before.files answers
+      → AllHeld checks before.exchanges now.exchanges before.cache answers
   pub turns : AreTurns (asked_in checks answers) before.wire_faults before.disk_faults
       now.wire_faults now.disk_faults (turns_in answers)
   pub asked : checks ≡ Online → tells.wire
       → AddsAsked (asked_in checks answers) before.exchanges now.exchanges
-  pub others : tells.disk → KeepsOthers (asked_in checks answers) before.files now.files
+  pub others : tells.disk → KeepsOthers (asked_in checks answers) before.cache now.cache
   pub folders : tells.disk
       → MakesAskedFolders (asked_in checks answers) before.folders now.folders
   pub files_failed : CountRoseBy (files_failed answers) before.file_faults now.file_faults

@@ -62,7 +62,7 @@ pub record IsTaskOf (tells : Telling) (task : Task) (given : Asked) (same : Unca
   -- where the text is no lockfile, nothing is asked of the wire and the cache
   pub refused : (f : LockfileFault) → locked given.text ≡ Err f → same.wire × same.disk
   pub kept : tells.wire → tells.disk
-      → StaysKept before.exchanges now.exchanges before.files now.files
+      → StaysKept before.exchanges now.exchanges before.cache now.cache
   pub asks : (packages : List Package) → locked given.text ≡ Ok packages
       → AsksOnly tells.wire tells.disk (asked_of (checks_of given.config) packages)
       (holding_of before) (holding_of now)
@@ -88,6 +88,6 @@ pub record AreBinariesOf (tells : Telling) (command : AuditCommand) (more : BinC
   pub causes : HasCauses IsPrintFault before now outcome.fault
   pub files : tells.files → now.host ≡ before.host
   pub kept : tells.wire → tells.disk
-      → StaysKept before.exchanges now.exchanges before.files now.files
+      → StaysKept before.exchanges now.exchanges before.cache now.cache
   pub calls : CallsBy (checks_of given.config) tells.disk same.wire same.disk
       (holding_of before) (holding_of now)

@@ -66,6 +66,9 @@ abbrev pub OfBinaries : (AuditCommand → BinCommand → Type 0) → Asking → 
 OfBinaries P (Ok (job.Binaries command more)) = P command more
 OfBinaries P _ = ⊥
 
+abbrev pub AsksBinaries : Asking → Type 0
+AsksBinaries asking = OfBinaries (λ command more. Unit {0}) asking
+
 -- where it is audits of binaries, this is so of them
 abbrev pub IfBinaries : (AuditCommand → BinCommand → Type 0) → Asking → Type 0
 IfBinaries P (Ok (job.Binaries command more)) = P command more

@@ -8,7 +8,7 @@ use Rattle.audit_asked.specs.declared.asking.Asked.{Asked}
 use Rattle.audit_core.specs.Checks.{asked_of, checks_of}
 use Rattle.audit_core.specs.Leaves.{AsksOnly, CallsBy}
 use Rattle.audit_program.specs.Causes.{Accepts}
-use Rattle.audit_program.specs.Jobs.{Asking, IfTask, NeedsNoHost, OfBinaries}
+use Rattle.audit_program.specs.Jobs.{Asking, AsksBinaries, IfTask, NeedsNoHost}
 use Rattle.audit_program.specs.Tasks.{AsksWith, ReadsCache, Settles, WritesFiles, asking_place, task_asked}
 use Rattle.audit_program.specs.Worlds.{Telling, Uncalled, World, holding_of}
 
@@ -18,22 +18,24 @@ pub record Leaves (tells : Telling) (asking : Asking) (same : Uncalled) (before 
   pub uncalled : NeedsNoHost asking
       → same.files × same.decoder × same.runner × same.wire × same.disk
   -- nothing is decoded but for audits of binaries, which start nothing
-  pub undecoded : (OfBinaries (λ command more. Unit {0}) asking → ⊥) → same.decoder
-  pub unstarted : OfBinaries (λ command more. Unit {0}) asking → same.runner
-  -- what the host has stays, but for standard input where it is the lockfile, and for the files of
-  -- a baseline or a registry that are written behind an audit
+  pub undecoded : (AsksBinaries asking → ⊥) → same.decoder
+  pub unstarted : AsksBinaries asking → same.runner
+  -- what the host has stays, but for standard input where it is the lockfile; where a baseline or a
+  -- registry is to be written, `audits` says which files are
   pub files_same : tells.files → (AsksWith WritesFiles asking → ⊥)
       → StaysButInput (IsInput (asking_place asking)) before.host now.host
   -- nothing is asked of the wire and the cache where what the host has gives no lockfile
   pub unaccepted : tells.files → IfTask (λ task. ((given : Asked) (packages : List Package)
       → task_asked task before.host (pos 0) ≡ Ok given → locked given.text ≡ Ok packages → ⊥)
       → same.wire × same.disk) asking
-  -- by the packages of what it gives
+  -- of a lockfile that it gives: what may change of exchanges, cache and folders is what belongs to
+  -- the paths of its packages
   pub asks : tells.files → (given : Asked) (packages : List Package)
       → Accepts asking before.host given packages
       → AsksOnly tells.wire tells.disk (asked_of (checks_of given.config) packages)
       (holding_of before) (holding_of now)
-  -- by the settings; a plan and a registry read the cache even where checks are off
+  -- the wire is called online alone, and so are files changed; the cache isn't called where checks
+  -- are off, but for a plan and a registry, which read it
   pub calls : tells.files → (config : AuditConfig) → Settles asking before.host config
       → CallsBy (checks_of config) tells.disk same.wire
       ((AsksWith ReadsCache asking → ⊥) → same.disk) (holding_of before) (holding_of now)

@@ -19,8 +19,9 @@ HasAsked (Ok (job.Binaries command more)) outcome = IsSome outcome.binaries
 HasAsked (Ok (job.Generate n)) outcome = IsSome outcome.generated
 HasAsked _ outcome = Unit {0}
 
--- that is so of a run without a fault, and where a put failed; a registry that isn't made leaves the
--- audit; there is none where a fault is early; and a plan with an audit alone
+-- a run without a fault has what was asked for, and so has one where a put failed; a registry that
+-- couldn't be made leaves the audit; an early fault leaves no audit; and there is no plan without the
+-- audit of a lockfile
 pub record HasAudits (asking : Asking) (outcome : Outcome) : Type 0 where
   pub has : (outcome.fault ≡ None) ⊎ (outcome.fault ≡ Some run_fault.Print)
       → HasAsked asking outcome

@@ -10,7 +10,7 @@ use Rattle.audit_program.specs.Jobs.{Asking, IfBinaries, OfBinaries, OfTask}
 use Rattle.audit_program.specs.Leaves.{Leaves}
 use Rattle.audit_program.specs.Outcomes.{EndsBy, HasAudits}
 use Rattle.audit_program.specs.TaskRuns.{IsTaskRun, ending}
-use Rattle.audit_program.specs.Unaudited.{HasFailedCalls, IsUnaudited, IsUnmade}
+use Rattle.audit_program.specs.Unaudited.{HasFailedCalls, IsWithoutAudit, IsWithoutLockfile}
 use Rattle.audit_program.specs.Worlds.{Telling, Uncalled, World}
 use Rattle.audit_program.specs.declared.outcomes.Outcome.{Outcome}
 use Rattle.audit_program.specs.declared.faults.RunFault.TheVariants as fault
@@ -35,7 +35,8 @@ pub record AreAudits (tells : Telling) (asking : Asking) (same : Uncalled) (befo
   pub binaries : IfSome outcome.binaries (λ b. OfBinaries (λ command more.
       AreBinariesRun tells command more before now
       (ending outcome.fault outcome.status outcome.plan) b) asking)
-  -- the same of a part of them, where memory ran out before all were answered
+  -- where memory ran out before all were answered: wire and cache weren't called, or the first of
+  -- them are answered so, and the next one at most was begun
   pub partly : IfBinaries (λ command more. outcome.fault ≡ Some fault.NoMemory
       → IfNone outcome.binaries ((same.wire × same.disk)
       ⊎ ArePartlyRun tells command more before now)) asking
@@ -45,8 +46,7 @@ pub record AreAudits (tells : Telling) (asking : Asking) (same : Uncalled) (befo
 -- a run, from what is outside before it to what is outside behind it
 pub record IsRun (tells : Telling) (asking : Asking) (same : Uncalled) (before now : World)
     (outcome : Outcome) : Type 0 where
-  -- the audits: what each says, what is made of it, what of its output was put, which steps were
-  -- started, and the status
+  -- what each audit says, what is made and put of it, which steps were started, and the status
   pub audits : AreAudits tells asking same before now outcome
   -- where there is an audit
   pub has : HasAudits asking outcome
@@ -54,19 +54,21 @@ pub record IsRun (tells : Telling) (asking : Asking) (same : Uncalled) (before n
   pub ends : EndsBy asking outcome
   -- why it has a fault, and which counts rose then
   pub causes : HasCauses (CauseOf tells.files asking before.host) before now outcome.fault
-  -- a run that has all that it asks for, and of which no call on host or outputs fails, ends without
-  -- a fault but want of memory, or that a registry couldn't be made
+  -- where the host gives all that is asked for, and no call on its files, start or output fails, it
+  -- ends without a fault but want of memory, or that a registry couldn't be made
   pub complete : tells.files → IsReady asking before.host → AllStayed before now
       → IsComplete outcome.fault
-  -- without an audit of a lockfile: what was started, and what stays of what the host has
-  pub unaudited : IfNone outcome.audited (IsUnaudited tells asking before now outcome.fault)
-  -- without an audit of what the host has: what is put, and what stays
-  pub unmade : IfNone outcome.audited (IfNone outcome.binaries
-      (IsUnmade tells asking same before now outcome.fault))
-  -- which calls on the host failed; without an audit it was one of asking
+  -- where no lockfile was audited, as for help, made packages and every audit of binaries: at most
+  -- one start, and what the host has stays
+  pub without_lockfile : IfNone outcome.audited
+      (IsWithoutLockfile tells asking before now outcome.fault)
+  -- where neither a lockfile nor binaries were audited: what is put, and what isn't called
+  pub without_audit : IfNone outcome.audited (IfNone outcome.binaries
+      (IsWithoutAudit tells asking same before now outcome.fault))
+  -- which calls on the host failed; where no lockfile was audited it was one of asking
   pub failed : tells.files → HasFailedCalls tells.runner asking before now outcome
   -- however it ends, a kept disk is kept at every moment where the exchanges were honest
   pub kept : tells.wire → tells.disk
-      → StaysKept before.exchanges now.exchanges before.files now.files
+      → StaysKept before.exchanges now.exchanges before.cache now.cache
   -- however it ends, what it leaves of what is outside, by the words and what the host had
   pub leaves : Leaves tells asking same before now

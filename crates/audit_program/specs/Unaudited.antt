@@ -1,4 +1,4 @@
--- What a run does that has no audit (this project).
+-- What a run does that audits no lockfile, or nothing of what the host has (this project).
 use Rattle.std.specs.Prelude.{◌≡◌, ◌≢◌, ℕ, [], Option, Some, IfNone}
 use Rattle.tame_names.specs.Standing.{IsInput, StaysButInput}
 use Rattle.audit_asked.specs.Starts.{StartsAtMost}
@@ -15,7 +15,7 @@ use Rattle.audit_program.specs.declared.tasks.Task.{Task}
 -- without an audit of a lockfile: at most the start that generates one, as it ended, and one start
 -- failed where that is the fault; and what the host has stays, but for standard input where it is
 -- the lockfile
-pub record IsUnaudited (tells : Telling) (asking : Asking) (before now : World)
+pub record IsWithoutLockfile (tells : Telling) (asking : Asking) (before now : World)
     (reason : Option RunFault) : Type 0 where
   pub started : tells.files → tells.runner
       → StartsWhere (asking_generates asking before.host) before.starts now.starts reason
@@ -23,9 +23,10 @@ pub record IsUnaudited (tells : Telling) (asking : Asking) (before now : World)
   pub one_start : (failed : ℕ) → reason ≡ Some (fault.Start failed) → failed ≡ 1
   pub files : tells.files → StaysButInput (IsInput (asking_place asking)) before.host now.host
 
--- without any audit of what the host has: the text that is asked for is put, as the lines for made
--- packages are, and the fault's line; and but for want of memory all that is outside stays
-pub record IsUnmade (tells : Telling) (asking : Asking) (same : Uncalled) (before now : World)
+-- neither a lockfile nor binaries were audited: the text that is asked for is put, as the lines for
+-- made packages are, and the fault's line; but for want of memory wire and cache weren't called, and
+-- nothing was decoded
+pub record IsWithoutAudit (tells : Telling) (asking : Asking) (same : Uncalled) (before now : World)
     (reason : Option RunFault) : Type 0 where
   pub out : tells.out → IsPutBy before.out (plain_text asking) reason now.out
   pub err : tells.err → IsEnded (asking_place asking) before.err [] reason now.err
@@ -34,14 +35,14 @@ pub record IsUnmade (tells : Telling) (asking : Asking) (same : Uncalled) (befor
 
 -- ---- calls on the host that failed
 
--- one of asking; and of what was started until then the runner tells
+-- it was one of asking; the runner tells what was started before it
 pub record HasFailedAsking (told : Type 0) (task : Task) (before now : World)
     (reason : Option RunFault) : Type 0 where
   pub call : AddsRunCall (IsTaskCall task before.host) before.failed now.failed reason
   pub ordered : told → AddsRunCall (IsOrderedTaskCall task before.host before.starts now.starts)
       before.failed now.failed reason
 
--- by what is asked for; without an audit of a lockfile it was one of asking
+-- which failed, by what is asked for; without an audit of a lockfile it was one of asking
 pub record HasFailedCalls (told : Type 0) (asking : Asking) (before now : World)
     (outcome : Outcome) : Type 0 where
   pub calls : AddsCalls asking before.host before.failed now.failed outcome.fault

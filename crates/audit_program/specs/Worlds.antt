@@ -16,7 +16,7 @@ use Rattle.audit_binaries.specs.Decoding.{DecoderAnswers}
 pub record World : Type 0 where
   pub exchanges : List Exchange
   pub wire_faults : ℕ
-  pub files : Disk
+  pub cache : Disk
   pub folders : List (List ℕ)
   pub disk_faults : ℕ
   pub host : Host
@@ -34,11 +34,11 @@ pub record World : Type 0 where
 -- by its fields in their order
 abbrev pub world : List Exchange → ℕ → Disk → List (List ℕ) → ℕ → Host → List FailedCall → ℕ
     → DecoderAnswers → ℕ → List Started → ℕ → List ℕ → ℕ → List ℕ → ℕ → World
-world exchanges wire_faults files folders disk_faults host failed file_faults decodes
+world exchanges wire_faults cache folders disk_faults host failed file_faults decodes
     decode_faults starts start_faults out out_faults err err_faults = record {
       exchanges = exchanges;
       wire_faults = wire_faults;
-      files = files;
+      cache = cache;
       folders = folders;
       disk_faults = disk_faults;
       host = host;
@@ -103,7 +103,7 @@ moment exchanges files wire_faults disk_faults = record {
 }
 
 abbrev pub moment_of : World → Moment
-moment_of w = moment w.exchanges w.files w.wire_faults w.disk_faults
+moment_of w = moment w.exchanges w.cache w.wire_faults w.disk_faults
 
 abbrev pub outside_of : World → Outside
 outside_of w = record {
@@ -115,4 +115,4 @@ outside_of w = record {
 }
 
 abbrev pub holding_of : World → Holding
-holding_of w = record { exchanges = w.exchanges; files = w.files; folders = w.folders }
+holding_of w = record { exchanges = w.exchanges; files = w.cache; folders = w.folders }

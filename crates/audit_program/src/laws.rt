@@ -1,5 +1,5 @@
 //! Laws on runs: what follows from the contract of `run`.
-ghost use Rattle.std.specs.Prelude.{◌≡◌, ℕ, List, Ok, Some};
+ghost use Rattle.std.specs.Prelude.{◌≡◌, ℕ, pos, List, Ok, Some};
 ghost use Rattle.tame_sparse.specs.declared.network.Exchange.{Exchange};
 ghost use Rattle.audit_lock.specs.declared.resolving.Package.{Package};
 ghost use Rattle.audit_settings.specs.declared.configs.AuditConfig.{AuditConfig};
@@ -12,10 +12,9 @@ ghost use Rattle.upgrade_plan.specs.HeldPlans.{ArePlannedByHeld};
 ghost use Rattle.upgrade_plan.specs.declared.plans.PlanItem.{PlanItem};
 ghost use Rattle.audit_program.specs.Causes.{Accepts};
 ghost use Rattle.audit_program.specs.HonestRuns.{AsksOnline, IsHonestRun};
-ghost use Rattle.audit_program.specs.Jobs.{Asking, NeedsNoHost, OfTask, asking_of};
+ghost use Rattle.audit_program.specs.Jobs.{Asking, NeedsNoHost, asking_of};
 ghost use Rattle.audit_program.specs.Runs.{IsRun};
-ghost use Rattle.audit_program.specs.TaskRuns.{Ending, IsGivenRun, IsTaskRun};
-ghost use Rattle.audit_program.specs.Tasks.{AsksWith, ReadsCache, Settles};
+ghost use Rattle.audit_program.specs.Tasks.{AsksWith, ReadsCache, Settles, task_asked};
 ghost use Rattle.audit_program.specs.Worlds.{World, telling, uncalled};
 ghost use Rattle.audit_program.specs.declared.outcomes.Outcome.{Outcome};
 ghost use Rattle.audit_program.specs.declared.tasks.Job.TheVariants as Job;
@@ -39,11 +38,14 @@ pub fn runs_match_the_server<
     O: Sink,
     E: Sink,
 >()
-    ensures { (words : List (List ℕ)) (before now : World) (end : Ending) (audited : Audited)
-        (added : List Exchange)
-        → OfTask (λ task. IsTaskRun
-        (telling F.tells P.tells R.tells W.tells D.tells O.tells E.tells) task before now end
-        audited) (asking_of words)
+    ensures { (files files_now : F) (decoder decoder_now : P) (runner runner_now : R)
+        (wire wire_now : W) (disk disk_now : D) (words : List (List ℕ)) (before now : World)
+        (outcome : Outcome) (audited : Audited) (added : List Exchange)
+        → IsRun (telling F.tells P.tells R.tells W.tells D.tells O.tells E.tells)
+        (asking_of words)
+        (uncalled (files_now ≡ files) (decoder_now ≡ decoder) (runner_now ≡ runner)
+        (wire_now ≡ wire) (disk_now ≡ disk)) before now outcome
+        → outcome.audited ≡ Some audited
         → F.tells → AsksOnline (asking_of words) before.host → IsHonestRun
         (telling F.tells P.tells R.tells W.tells D.tells O.tells E.tells) before now added
         → AreVerdicts (IsVerdictByHeldAt added audited.turns) (judged_of Online audited.lockfile)
@@ -63,11 +65,17 @@ pub fn plans_of_runs_tell_what_the_server_held<
     O: Sink,
     E: Sink,
 >()
-    ensures { (task : Task) (given : Asked) (before now : World) (end : Ending)
-        (items : List PlanItem) (audited : Audited) (added : List Exchange)
-        → IsGivenRun (telling F.tells P.tells R.tells W.tells D.tells O.tells E.tells) task given
-        before now end audited
-        → end.plan ≡ Some items → checks_of given.config ≡ Online → IsHonestRun
+    ensures { (files files_now : F) (decoder decoder_now : P) (runner runner_now : R)
+        (wire wire_now : W) (disk disk_now : D) (task : Task) (given : Asked)
+        (before now : World) (outcome : Outcome) (items : List PlanItem) (audited : Audited)
+        (added : List Exchange)
+        → IsRun (telling F.tells P.tells R.tells W.tells D.tells O.tells E.tells)
+        (Ok (Job.Lockfile task))
+        (uncalled (files_now ≡ files) (decoder_now ≡ decoder) (runner_now ≡ runner)
+        (wire_now ≡ wire) (disk_now ≡ disk)) before now outcome
+        → outcome.audited ≡ Some audited → outcome.plan ≡ Some items
+        → F.tells → task_asked task before.host (pos 0) ≡ Ok given
+        → checks_of given.config ≡ Online → IsHonestRun
         (telling F.tells P.tells R.tells W.tells D.tells O.tells E.tells) before now added
         → ArePlannedByHeld given.advisories audited added items }
 {}

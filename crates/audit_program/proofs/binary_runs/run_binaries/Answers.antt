@@ -55,13 +55,13 @@ returns-in-Ok g c starts start_faults =
       complete = λ told ready quiet.
           print_complete _ _ outcome.fault h.causes.cause
           (record { print = h.causes.print_rose; file = λ path is. no_print outcome.fault _ h.causes.cause is (λ no. absurd no); start = λ failed is. no_print outcome.fault _ h.causes.cause is (λ no. absurd no) }) quiet;
-      unaudited = if_none outcome.audited _ (record {
+      without_lockfile = if_none outcome.audited _ (record {
         started = λ told_files told. refl;
         at_most = λ told. inl refl;
         one_start = λ failed is. no_print outcome.fault _ h.causes.cause is (λ no. absurd no);
         files = first_of (search rules, grind (arith, common_steps));
       });
-      unmade = if_none outcome.audited _ (if_none_by outcome.binaries _ (λ none. record {
+      without_audit = if_none outcome.audited _ (if_none_by outcome.binaries _ (λ none. record {
         out = λ told. rw (of_none outcome.binaries _ none h.out) (put_nothing (g.O.Sink.holds c.args.out.now) outcome.fault);
         err = λ told. of_none outcome.binaries _ none (h.err told);
         early = λ other. unfinished outcome.binaries outcome.fault h.causes.cause none h.has other;
@@ -109,8 +109,8 @@ returns-in-Err g c starts start_faults =
       causes = record { cause = cause; print_rose = first_of (search rules, grind (arith, common_steps)); file_rose = file_rose; crate_rose = first_of (search rules, grind (arith, common_steps)); store_rose = first_of (search rules, grind (arith, common_steps)); start_rose = first_of (search rules, grind (arith, common_steps)) };
       complete = λ told ready quiet.
           binaries_complete g.F.Files.tells command host ready.0 _ _ outcome.fault ready.1 told cause (record { print = first_of (search rules, grind (arith, common_steps)); file = file_rose; start = first_of (search rules, grind (arith, common_steps)) }) quiet;
-      unaudited = if_none outcome.audited _ (record { started = λ told_files told. refl; at_most = λ told. inl refl; one_start = first_of (search rules, grind (arith, common_steps)); files = first_of (search rules, grind (arith, common_steps)) });
-      unmade = if_none outcome.audited _ (if_none outcome.binaries _ (record { out = first_of (search rules, grind (arith, common_steps)); err = first_of (search rules, grind (arith, common_steps)); early = λ other. (refl, refl, refl) }));
+      without_lockfile = if_none outcome.audited _ (record { started = λ told_files told. refl; at_most = λ told. inl refl; one_start = first_of (search rules, grind (arith, common_steps)); files = first_of (search rules, grind (arith, common_steps)) });
+      without_audit = if_none outcome.audited _ (if_none outcome.binaries _ (record { out = first_of (search rules, grind (arith, common_steps)); err = first_of (search rules, grind (arith, common_steps)); early = λ other. (refl, refl, refl) }));
       failed = λ told. record {
         calls = asking_calls command paths host _ _ c.in-Err.fault outcome.fault end (c.in-Err.ensures.failed told);
         unaudited = tt;

@@ -1,7 +1,9 @@
+use Rattle.audit_program.specs.TaskRuns.{ending}
 use Rattle.audit_program.specs.Worlds.{telling}
-use Rattle.audit_program.proofs.HeldItems.{held_items}
+use Rattle.audit_program.proofs.HeldItems.{asked_items}
 use Rattle.audit_program.proofs.laws.plans_of_runs_tell_what_the_server_held.Goals as goal
 
 pub returns : goal.returns
-returns g c task given before now end items audited added run is online honest =
-    held_items (telling g.F.Files.tells g.P.Decoder.tells g.R.Runner.tells g.W.Wire.tells g.D.CacheDisk.tells g.O.Sink.tells g.E.Sink.tells) task given before now end items audited added run is online honest
+returns g c files files_now decoder decoder_now runner runner_now wire wire_now disk disk_now task given before now outcome items audited added run has planned told gives online honest =
+    asked_items (telling g.F.Files.tells g.P.Decoder.tells g.R.Runner.tells g.W.Wire.tells g.D.CacheDisk.tells g.O.Sink.tells g.E.Sink.tells) task given before now
+    (ending outcome.fault outcome.status outcome.plan) items audited added (rw has at run.audits.audited) told gives planned online honest

@@ -68,7 +68,7 @@ returns-in-Ok g c decodes decode_faults =
       };
       complete = λ told ready quiet.
           task_complete g.F.Files.tells task host _ _ fault ready told cause (record { print = h.causes.print_rose; file = file_rose; start = start_rose }) quiet;
-      unaudited = if_none_by audited _ (λ none.
+      without_lockfile = if_none_by audited _ (λ none.
           let left = of_none audited _ none h.unaudited in
           record {
             started = λ told_files told. of_none audited _ none
@@ -78,7 +78,7 @@ returns-in-Ok g c decodes decode_faults =
             one_start = λ failed is. of_none audited _ none (audited_some audited _ (h.start_audit failed is));
             files = λ told. rw (left.files told) (c.in-Ok.ensures.same told);
           });
-      unmade = if_none_by audited _ (λ none.
+      without_audit = if_none_by audited _ (λ none.
           let left = of_none audited _ none h.unaudited in
           if_none c.run_given.result.binaries _ (record {
             out = λ told. rw left.out (put_nothing (g.O.Sink.holds c.args.out.now) fault);
@@ -141,14 +141,14 @@ returns-in-Err g c decodes decode_faults =
       };
       complete = λ told ready quiet.
           task_complete g.F.Files.tells task host _ _ c.failed.result.fault ready told cause (record { print = search rules; file = file_rose; start = start_rose }) quiet;
-      unaudited = if_none audited _ (record {
+      without_lockfile = if_none audited _ (record {
         started = λ told_files told. failed_starts (task_generates task host) _ _ c.in-Err.fault c.failed.result.fault (rw c.from.ensures at c.failed.ensures.fault)
             (c.in-Err.ensures.at_most told) (c.in-Err.ensures.started told_files told);
         at_most = c.in-Err.ensures.at_most;
         one_start = λ failed is. asked_one c.in-Err.fault c.failed.result.fault failed (rw c.from.ensures at c.failed.ensures.fault) is;
         files = search rules;
       });
-      unmade = if_none audited _ (if_none c.failed.result.binaries _ (record {
+      without_audit = if_none audited _ (if_none c.failed.result.binaries _ (record {
         out = search rules;
         err = search rules;
         early = λ other. (refl, refl, tt);
