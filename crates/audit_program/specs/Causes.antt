@@ -45,8 +45,8 @@ pub record Refuses (told : Type 0) (task : Task) (host : Host) (reason : RunFaul
       → task_asked task host (status_told {T = Unit {0}} (Err asked)) ≡ Err (refused asked)
   pub only : IsAskFault (baseline_path task.remedy) asked
 
--- by what the host has, by the lockfile's text, or by what is made of the audit; which count rose is
--- said by `HasCauses`
+-- by what the host has, by the lockfile's text, or by what is made of the audit; which count rose
+-- is said by `HasCauses`
 abbrev pub TaskCause : Type 0 → Task → Host → RunFault → Type 0
 TaskCause told task host (fault.Lockfile reason) = HasNoLockfile told task host reason
 TaskCause told task host (fault.Vendor reason) = IsMakingFault task.remedy (fault.Vendor reason)

@@ -15,8 +15,8 @@ use Rattle.audit_program.specs.declared.faults.RunFault.TheVariants as fault
 use Rattle.audit_program.specs.declared.tasks.Job.TheVariants as job
 use Rattle.audit_program.specs.declared.tasks.Task.{Task}
 
--- what the host has gives all that the audit of a lockfile asks for, whatever a start that generates
--- one would end with; and the text is a lockfile
+-- what the host has gives all that the audit of a lockfile asks for, whatever a start that
+-- generates one would end with; and the text is a lockfile
 pub record IsTaskReady (task : Task) (host : Host) : Type 0 where
   pub given : Asked
   pub gives : (status : ℤ) → task_asked task host status ≡ Ok given

@@ -20,8 +20,8 @@ HasAsked (Ok (job.Generate n)) outcome = IsSome outcome.generated
 HasAsked _ outcome = Unit {0}
 
 -- a run without a fault has what was asked for, and so has one where a put failed; a registry that
--- couldn't be made leaves the audit; an early fault leaves no audit; and there is no plan without the
--- audit of a lockfile
+-- couldn't be made leaves the audit; an early fault leaves no audit; and there is no plan without
+-- the audit of a lockfile
 pub record HasAudits (asking : Asking) (outcome : Outcome) : Type 0 where
   pub has : (outcome.fault ≡ None) ⊎ (outcome.fault ≡ Some run_fault.Print)
       → HasAsked asking outcome
@@ -40,8 +40,8 @@ pub record EndsBy (asking : Asking) (outcome : Outcome) : Type 0 where
   pub usage : (place : ℕ) → asking ≡ Err (words_fault.Usage place)
       → (outcome.fault ≡ Some (run_fault.Usage place)) ⊎ (outcome.fault ≡ Some run_fault.NoMemory)
 
--- a text is put, and nothing is done but that: the run ends without a fault, with a put that failed,
--- or for want of memory
+-- a text is put, and nothing is done but that: the run ends without a fault, with a put that
+-- failed, or for want of memory
 pub record PutsAlone (out_tells err_tells : Type 0) (text out out_now : List ℕ)
     (out_faults out_faults_now : ℕ) (err err_now : List ℕ) (err_faults err_faults_now : ℕ)
     (outcome : Outcome) : Type 0 where

@@ -22,8 +22,8 @@ use Rattle.audit_program.specs.declared.makings.Made.TheVariants as made
 
 -- ---- the output without an audit
 
--- the text for help or of the version, with a newline, and the lines for made packages; nothing else
--- is printed without an audit of what the host has
+-- the text for help or of the version, with a newline, and the lines for made packages; nothing
+-- else is printed without an audit of what the host has
 abbrev pub plain_text : Asking → List ℕ
 plain_text (Ok job.Help) = HELP_TEXT.now ++ codes "\n"
 plain_text (Ok job.Version) = codes "cargo-audit 0.22.2\n"

@@ -1,4 +1,5 @@
--- A run of the program: what it answers and what it leaves, by what its words ask for (this project).
+-- A run of the program: what it answers and what it leaves, by what its words ask for (this
+-- project).
 use Rattle.std.specs.Prelude.{◌≡◌, ◌⊎◌, Some, Ok, IfSome, IfNone}
 use Rattle.audit_core.specs.Turns.{StaysKept}
 use Rattle.audit_generator.specs.Moments.{IsGenerated}

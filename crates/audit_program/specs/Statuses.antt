@@ -30,9 +30,9 @@ abbrev pub fix_plan_of : Bool → List Advisory → Audited → FixPlan
 fix_plan_of dry_run advisories audited =
     fix_plan dry_run advisories audited.lockfile audited.report.vulnerabilities
 
--- of a run that ends without a fault: the exit of the audit, or that of a plan that is started whole;
--- else by what was made of the audit: a plan by its items, the findings that a baseline doesn't list
--- by whether there is one, and 0 for a baseline or a registry
+-- of a run that ends without a fault: the exit of the audit, or that of a plan that is started
+-- whole; else by what was made of the audit: a plan by its items, the findings that a baseline
+-- doesn't list by whether there is one, and 0 for a baseline or a registry
 abbrev pub made_status : List Advisory → Audited → Made → ℕ
 made_status advisories audited made.Report = audited.exit
 made_status advisories audited (made.Fix dry_run) =

@@ -22,8 +22,8 @@ abbrev pub baseline_path : Remedy → Option (List ℕ)
 baseline_path (Baseline path) = Some path
 baseline_path _ = None
 
--- what it asks of its host, or the first refusal; where a lockfile is to be generated, by the status
--- that its start ends with
+-- what it asks of its host, or the first refusal; where a lockfile is to be generated, by the
+-- status that its start ends with
 abbrev pub task_asked : Task → Host → ℤ → Result Asked Refused
 task_asked task host status = asked task.command (baseline_path task.remedy) host status
 

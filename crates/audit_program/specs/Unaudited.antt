@@ -24,8 +24,8 @@ pub record IsWithoutLockfile (tells : Telling) (asking : Asking) (before now : W
   pub files : tells.files → StaysButInput (IsInput (asking_place asking)) before.host now.host
 
 -- neither a lockfile nor binaries were audited: the text that is asked for is put, as the lines for
--- made packages are, and the fault's line; but for want of memory wire and cache weren't called, and
--- nothing was decoded
+-- made packages are, and the fault's line; but for want of memory wire and cache weren't called,
+-- and nothing was decoded
 pub record IsWithoutAudit (tells : Telling) (asking : Asking) (same : Uncalled) (before now : World)
     (reason : Option RunFault) : Type 0 where
   pub out : tells.out → IsPutBy before.out (plain_text asking) reason now.out
