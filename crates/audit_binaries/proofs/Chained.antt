@@ -89,17 +89,6 @@ grown_cut tells scan began ended path told h = grown_begun tells scan began ende
 pub grown_then : (a b c : List Exchange) → Grown a b → Grown b c → Grown a c
 grown_then a b c h k = (h.0 ++ k.0, k.1 ∙ ap (λ (xs : List Exchange). xs ++ k.0) h.1 ∙ append_assoc a h.0 k.0)
 
--- ---- the outside by its parts
-
-abbrev pub Around : List Exchange → Disk → ℕ → ℕ → List (List ℕ) → List FailedCall → ℕ → ℕ → Outside
-Around exchanges files wire_faults disk_faults folders failed file_faults decode_faults = record {
-  moment = record { exchanges = exchanges; files = files; wire_faults = wire_faults; disk_faults = disk_faults };
-  folders = folders;
-  failed = failed;
-  file_faults = file_faults;
-  decode_faults = decode_faults;
-}
-
 -- ---- want of memory
 
 pub if_err : {A E : Type 0} {P : Type 0} (r : Result A E) → P → IfErr r (λ _. P)

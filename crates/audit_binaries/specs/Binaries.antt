@@ -3,6 +3,8 @@ use Rattle.std.specs.Prelude.{◌≡◌, ◌≢◌, ◌≤◌, ◌⊎◌, ℕ, L
 use Rattle.tame_names.specs.Counts.{CountRose}
 use Rattle.tame_names.specs.Standing.{Host}
 use Rattle.tame_names.specs.declared.host.FailedCall.{FailedCall}
+use Rattle.tame_cache.specs.Kept.{Disk}
+use Rattle.tame_sparse.specs.declared.network.Exchange.{Exchange}
 use Rattle.audit_lock.specs.Locked.{locked}
 use Rattle.audit_lock.specs.declared.lockfiles.LockfileFault.{LockfileFault}
 use Rattle.audit_lock.specs.declared.lockfiles.LockfileFault.TheVariants as lockfile_fault
@@ -40,6 +42,22 @@ pub record Outside : Type 0 where
   pub failed : List FailedCall
   pub file_faults : ℕ
   pub decode_faults : ℕ
+
+-- by its fields in their order
+abbrev pub outside : List Exchange → Disk → ℕ → ℕ → List (List ℕ) → List FailedCall → ℕ → ℕ
+    → Outside
+outside exchanges files wire_faults disk_faults folders failed file_faults decode_faults = record {
+  moment = record {
+    exchanges = exchanges;
+    files = files;
+    wire_faults = wire_faults;
+    disk_faults = disk_faults;
+  };
+  folders = folders;
+  failed = failed;
+  file_faults = file_faults;
+  decode_faults = decode_faults;
+}
 
 -- what binaries are audited by: the auditor, the limits, what stands at paths, and what the decoder
 -- answers

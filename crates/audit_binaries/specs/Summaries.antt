@@ -1,6 +1,9 @@
 -- What the answers for binaries come to (this project, after cargo-audit).
-use Rattle.std.specs.Prelude.{◌≡◌, ℕ, suc, List, [], ◌∷◌, ◌++◌, map, Bool, true, false, ◌||◌}
+use Rattle.std.specs.Prelude.{◌≡◌, ◌⊎◌, ℕ, suc, List, [], ◌∷◌, ◌++◌, map, Bool, true, false, Some, if◌then◌else◌, ◌||◌}
 use Rattle.std.specs.List.{list_any}
+use Rattle.tame_names.specs.Counts.{CountRoseBy}
+use Rattle.tame_names.specs.declared.host.FailedCall.{FailedCall}
+use Rattle.tame_names.specs.declared.host.FileCall.TheVariants as file_call
 use Rattle.audit_advisory.specs.Exits.{report_fails, self_fails}
 use Rattle.audit_advisory.specs.declared.outputs.DenyOption.{DenyOption}
 use Rattle.tame_entry.specs.ServerMaps.{ServerMap}
@@ -8,11 +11,14 @@ use Rattle.tame_cache.specs.Kept.{Disk, IsKept}
 use Rattle.tame_sparse.specs.Exchanges.{crates_io_index}
 use Rattle.tame_sparse.specs.Honest.{AreHonest}
 use Rattle.tame_sparse.specs.declared.network.Exchange.{Exchange}
+use Rattle.audit_core.specs.Audits.{AreTurns, KeepsOthers, MakesAskedFolders}
 use Rattle.audit_core.specs.Checks.{asked_of, judged_of}
 use Rattle.audit_core.specs.Turns.{AreAddressed}
 use Rattle.audit_core.specs.Verdicts.{AreVerdicts, IsVerdictByHeldAt}
 use Rattle.audit_core.specs.declared.asking.Turn.{Turn}
 use Rattle.audit_core.specs.declared.checking.Checks.{Checks}
+use Rattle.audit_core.specs.declared.checking.Checks.TheVariants.{Online}
+use Rattle.audit_binaries.specs.Binaries.{Outside, Tells}
 use Rattle.audit_binaries.specs.declared.answers.BinaryAnswer.{BinaryAnswer}
 use Rattle.audit_binaries.specs.declared.answers.BinaryAnswer.TheVariants.{Audited, Refused}
 use Rattle.audit_binaries.specs.declared.answers.BinaryFault.{BinaryFault}
@@ -36,6 +42,13 @@ summary_of deny self_advisories answers = record {
   vulnerabilities_found = list_any (is_found deny) answers;
   errors_encountered = list_any is_refused answers || self_fails deny self_advisories;
 }
+
+-- the exit: 1 where vulnerabilities were found, else 2 where errors were, else 0
+abbrev pub summary_status : MultiFileReportSummary → ℕ
+summary_status summary =
+    if summary.vulnerabilities_found then 1
+    else if summary.errors_encountered then 2
+    else 0
 
 -- ---- the audits, all together
 
@@ -103,3 +116,37 @@ abbrev pub decodes_failed : List BinaryAnswer → ℕ
 decodes_failed [] = 0
 decodes_failed (Audited found audited ∷ answers) = decodes_failed answers
 decodes_failed (Refused f ∷ answers) = with_if_decode f (decodes_failed answers)
+
+-- ---- readings that failed
+
+abbrev pub reading_of : List ℕ → FailedCall
+reading_of path = record { call = file_call.Read; path = Some path }
+
+-- a failed reading was added for some of these paths, in their order, once each
+abbrev pub AddsReadings : List (List ℕ) → List FailedCall → List FailedCall → Type 0
+AddsReadings [] before now = now ≡ before
+AddsReadings (path ∷ paths) before now =
+    AddsReadings paths before now ⊎ AddsReadings paths (before ++ reading_of path ∷ []) now
+
+-- ---- what is so of all of them
+
+-- online, over an honest server and a disk that is kept for what it held, the verdicts of each
+-- audit are the table's over what the server held when asked; the turns go on from the entry to the
+-- exit, and the wire's list grows by their exchanges alone, in that order; no file changes but
+-- those of the paths that are asked for, and no folders are made but those above them; one fault
+-- licenses one refusal
+pub record AreTogether (tells : Tells) (checks : Checks) (began ended : Outside)
+    (answers : List BinaryAnswer) : Type 0 where
+  pub headline : checks ≡ Online → tells.wire → tells.disk → AllHeld checks
+      began.moment.exchanges ended.moment.exchanges began.moment.files answers
+  pub turns : AreTurns (asked_in checks answers) began.moment.wire_faults
+      began.moment.disk_faults ended.moment.wire_faults ended.moment.disk_faults
+      (turns_in answers)
+  pub asked : checks ≡ Online → tells.wire
+      → AddsAsked (asked_in checks answers) began.moment.exchanges ended.moment.exchanges
+  pub others : tells.disk
+      → KeepsOthers (asked_in checks answers) began.moment.files ended.moment.files
+  pub folders : tells.disk
+      → MakesAskedFolders (asked_in checks answers) began.folders ended.folders
+  pub files_failed : CountRoseBy (files_failed answers) began.file_faults ended.file_faults
+  pub decodes_failed : CountRoseBy (decodes_failed answers) began.decode_faults ended.decode_faults

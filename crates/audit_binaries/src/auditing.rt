@@ -1,12 +1,10 @@
 //! Audits of binaries, one after the other.
 ghost use Rattle.std.specs.Prelude.{◌≡◌, ◌≢◌, ℕ, List, IfOk, IfErr, Ok, Err};
 ghost use Rattle.audit_core.specs.Auditors.{self_advisories};
-ghost use Rattle.audit_core.specs.Audits.{AreTurns, KeepsOthers, MakesAskedFolders};
 ghost use Rattle.audit_core.specs.Turns.{StaysKept};
 ghost use Rattle.audit_core.specs.declared.checking.Checks.TheVariants as Checks;
-ghost use Rattle.audit_binaries.specs.Binaries.{AreBinaries, ArePartly, IsBinary, IsCutOff};
-ghost use Rattle.tame_names.specs.Counts.{CountRoseBy};
-ghost use Rattle.audit_binaries.specs.Summaries.{AddsAsked, AllHeld, AreRefused, asked_in, decodes_failed, files_failed, summary_of, turns_in};
+ghost use Rattle.audit_binaries.specs.Binaries.{AreBinaries, ArePartly, IsBinary, IsCutOff, outside};
+ghost use Rattle.audit_binaries.specs.Summaries.{AreRefused, AreTogether, summary_of};
 
 use crate::answers::{BinariesAudit, BinaryAnswer, BinaryFault};
 use crate::decoders::Decoder;
@@ -43,30 +41,10 @@ pub fn audit_binary<F: Files, P: Decoder, W: Wire, D: CacheDisk>(
           host = F.host files.old;
           answers = P.answers decoder.old;
         })
-        (record {
-          moment = record {
-            exchanges = W.exchanges wire.old;
-            files = D.past disk.old;
-            wire_faults = W.faults wire.old;
-            disk_faults = D.faults disk.old;
-          };
-          folders = D.folders disk.old;
-          failed = F.failed files.old;
-          file_faults = F.faults files.old;
-          decode_faults = P.faults decoder.old;
-        })
-        (record {
-          moment = record {
-            exchanges = W.exchanges wire.new;
-            files = D.past disk.new;
-            wire_faults = W.faults wire.new;
-            disk_faults = D.faults disk.new;
-          };
-          folders = D.folders disk.new;
-          failed = F.failed files.new;
-          file_faults = F.faults files.new;
-          decode_faults = P.faults decoder.new;
-        })
+        (outside (W.exchanges wire.old) (D.past disk.old) (W.faults wire.old) (D.faults disk.old)
+        (D.folders disk.old) (F.failed files.old) (F.faults files.old) (P.faults decoder.old))
+        (outside (W.exchanges wire.new) (D.past disk.new) (W.faults wire.new) (D.faults disk.new)
+        (D.folders disk.new) (F.failed files.new) (F.faults files.new) (P.faults decoder.new))
         path.now) }
 
     // where memory ran out, what was done of it
@@ -78,30 +56,10 @@ pub fn audit_binary<F: Files, P: Decoder, W: Wire, D: CacheDisk>(
           host = F.host files.old;
           answers = P.answers decoder.old;
         })
-        (record {
-          moment = record {
-            exchanges = W.exchanges wire.old;
-            files = D.past disk.old;
-            wire_faults = W.faults wire.old;
-            disk_faults = D.faults disk.old;
-          };
-          folders = D.folders disk.old;
-          failed = F.failed files.old;
-          file_faults = F.faults files.old;
-          decode_faults = P.faults decoder.old;
-        })
-        (record {
-          moment = record {
-            exchanges = W.exchanges wire.new;
-            files = D.past disk.new;
-            wire_faults = W.faults wire.new;
-            disk_faults = D.faults disk.new;
-          };
-          folders = D.folders disk.new;
-          failed = F.failed files.new;
-          file_faults = F.faults files.new;
-          decode_faults = P.faults decoder.new;
-        })
+        (outside (W.exchanges wire.old) (D.past disk.old) (W.faults wire.old) (D.faults disk.old)
+        (D.folders disk.old) (F.failed files.old) (F.faults files.old) (P.faults decoder.old))
+        (outside (W.exchanges wire.new) (D.past disk.new) (W.faults wire.new) (D.faults disk.new)
+        (D.folders disk.new) (F.failed files.new) (F.faults files.new) (P.faults decoder.new))
         path.now) }
 
     // whatever the answer: what stays, and what is kept
@@ -155,30 +113,10 @@ fn audit_each<F: Files, P: Decoder, W: Wire, D: CacheDisk>(
           host = F.host files.old;
           answers = P.answers decoder.old;
         })
-        (record {
-          moment = record {
-            exchanges = W.exchanges wire.old;
-            files = D.past disk.old;
-            wire_faults = W.faults wire.old;
-            disk_faults = D.faults disk.old;
-          };
-          folders = D.folders disk.old;
-          failed = F.failed files.old;
-          file_faults = F.faults files.old;
-          decode_faults = P.faults decoder.old;
-        })
-        (record {
-          moment = record {
-            exchanges = W.exchanges wire.new;
-            files = D.past disk.new;
-            wire_faults = W.faults wire.new;
-            disk_faults = D.faults disk.new;
-          };
-          folders = D.folders disk.new;
-          failed = F.failed files.new;
-          file_faults = F.faults files.new;
-          decode_faults = P.faults decoder.new;
-        })
+        (outside (W.exchanges wire.old) (D.past disk.old) (W.faults wire.old) (D.faults disk.old)
+        (D.folders disk.old) (F.failed files.old) (F.faults files.old) (P.faults decoder.old))
+        (outside (W.exchanges wire.new) (D.past disk.new) (W.faults wire.new) (D.faults disk.new)
+        (D.folders disk.new) (F.failed files.new) (F.faults files.new) (P.faults decoder.new))
         paths.now) }
     ensures cut { IfErr result (λ _. ArePartly
         (record { files = F.tells; decoder = P.tells; wire = W.tells; disk = D.tells })
@@ -188,30 +126,10 @@ fn audit_each<F: Files, P: Decoder, W: Wire, D: CacheDisk>(
           host = F.host files.old;
           answers = P.answers decoder.old;
         })
-        (record {
-          moment = record {
-            exchanges = W.exchanges wire.old;
-            files = D.past disk.old;
-            wire_faults = W.faults wire.old;
-            disk_faults = D.faults disk.old;
-          };
-          folders = D.folders disk.old;
-          failed = F.failed files.old;
-          file_faults = F.faults files.old;
-          decode_faults = P.faults decoder.old;
-        })
-        (record {
-          moment = record {
-            exchanges = W.exchanges wire.new;
-            files = D.past disk.new;
-            wire_faults = W.faults wire.new;
-            disk_faults = D.faults disk.new;
-          };
-          folders = D.folders disk.new;
-          failed = F.failed files.new;
-          file_faults = F.faults files.new;
-          decode_faults = P.faults decoder.new;
-        })
+        (outside (W.exchanges wire.old) (D.past disk.old) (W.faults wire.old) (D.faults disk.old)
+        (D.folders disk.old) (F.failed files.old) (F.faults files.old) (P.faults decoder.old))
+        (outside (W.exchanges wire.new) (D.past disk.new) (W.faults wire.new) (D.faults disk.new)
+        (D.folders disk.new) (F.failed files.new) (F.faults files.new) (P.faults decoder.new))
         paths.now) }
     ensures files_same { F.tells → F.host files.new ≡ F.host files.old }
     ensures decoder_same { P.tells → (other : List ℕ) (bound : ℕ)
@@ -268,58 +186,24 @@ pub fn audit_binaries<F: Files, P: Decoder, W: Wire, D: CacheDisk>(
           host = F.host files.old;
           answers = P.answers decoder.old;
         })
-        (record {
-          moment = record {
-            exchanges = W.exchanges wire.old;
-            files = D.past disk.old;
-            wire_faults = W.faults wire.old;
-            disk_faults = D.faults disk.old;
-          };
-          folders = D.folders disk.old;
-          failed = F.failed files.old;
-          file_faults = F.faults files.old;
-          decode_faults = P.faults decoder.old;
-        })
-        (record {
-          moment = record {
-            exchanges = W.exchanges wire.new;
-            files = D.past disk.new;
-            wire_faults = W.faults wire.new;
-            disk_faults = D.faults disk.new;
-          };
-          folders = D.folders disk.new;
-          failed = F.failed files.new;
-          file_faults = F.faults files.new;
-          decode_faults = P.faults decoder.new;
-        })
+        (outside (W.exchanges wire.old) (D.past disk.old) (W.faults wire.old) (D.faults disk.old)
+        (D.folders disk.old) (F.failed files.old) (F.faults files.old) (P.faults decoder.old))
+        (outside (W.exchanges wire.new) (D.past disk.new) (W.faults wire.new) (D.faults disk.new)
+        (D.folders disk.new) (F.failed files.new) (F.faults files.new) (P.faults decoder.new))
         paths.now b.answers) }
     ensures summary { IfOk result (λ b. b.summary
         ≡ summary_of auditor.now.deny (self_advisories auditor.now.database) b.answers) }
 
-    // online, over an honest server and a disk that is kept for what it held, the verdicts of each
-    // audit are the table's over what the server held when asked
-    ensures headline { auditor.now.checks ≡ Checks.Online → W.tells → D.tells → IfOk result (λ b.
-        AllHeld auditor.now.checks (W.exchanges wire.old) (W.exchanges wire.new)
-        (D.past disk.old) b.answers) }
-
-    // all together: the turns go on from the entry to the exit, and the wire's list grows by their
-    // exchanges alone, in that order; no file changes but those of the paths that are asked for;
-    // one fault licenses one refusal
-    ensures turns { IfOk result (λ b. AreTurns (asked_in auditor.now.checks b.answers)
-        (W.faults wire.old) (D.faults disk.old) (W.faults wire.new) (D.faults disk.new)
-        (turns_in b.answers)) }
-    ensures asked { auditor.now.checks ≡ Checks.Online → W.tells → IfOk result (λ b.
-        AddsAsked (asked_in auditor.now.checks b.answers)
-        (W.exchanges wire.old) (W.exchanges wire.new)) }
-    ensures others { D.tells → IfOk result (λ b.
-        KeepsOthers (asked_in auditor.now.checks b.answers) (D.past disk.old) (D.past disk.new)) }
-    ensures folders { D.tells → IfOk result (λ b.
-        MakesAskedFolders (asked_in auditor.now.checks b.answers)
-        (D.folders disk.old) (D.folders disk.new)) }
-    ensures files_failed { IfOk result (λ b.
-        CountRoseBy (files_failed b.answers) (F.faults files.old) (F.faults files.new)) }
-    ensures decodes_failed { IfOk result (λ b.
-        CountRoseBy (decodes_failed b.answers) (P.faults decoder.old) (P.faults decoder.new)) }
+    // all together: the headline, the turns and exchanges, the other files and folders, and how
+    // many failed
+    ensures together { IfOk result (λ b. AreTogether
+        (record { files = F.tells; decoder = P.tells; wire = W.tells; disk = D.tells })
+        auditor.now.checks
+        (outside (W.exchanges wire.old) (D.past disk.old) (W.faults wire.old) (D.faults disk.old)
+        (D.folders disk.old) (F.failed files.old) (F.faults files.old) (P.faults decoder.old))
+        (outside (W.exchanges wire.new) (D.past disk.new) (W.faults wire.new) (D.faults disk.new)
+        (D.folders disk.new) (F.failed files.new) (F.faults files.new) (P.faults decoder.new))
+        b.answers) }
     ensures refused { IfOk result (λ b. AreRefused b.answers
         → (wire.new ≡ wire.old) × (disk.new ≡ disk.old)) }
 
@@ -332,30 +216,10 @@ pub fn audit_binaries<F: Files, P: Decoder, W: Wire, D: CacheDisk>(
           host = F.host files.old;
           answers = P.answers decoder.old;
         })
-        (record {
-          moment = record {
-            exchanges = W.exchanges wire.old;
-            files = D.past disk.old;
-            wire_faults = W.faults wire.old;
-            disk_faults = D.faults disk.old;
-          };
-          folders = D.folders disk.old;
-          failed = F.failed files.old;
-          file_faults = F.faults files.old;
-          decode_faults = P.faults decoder.old;
-        })
-        (record {
-          moment = record {
-            exchanges = W.exchanges wire.new;
-            files = D.past disk.new;
-            wire_faults = W.faults wire.new;
-            disk_faults = D.faults disk.new;
-          };
-          folders = D.folders disk.new;
-          failed = F.failed files.new;
-          file_faults = F.faults files.new;
-          decode_faults = P.faults decoder.new;
-        })
+        (outside (W.exchanges wire.old) (D.past disk.old) (W.faults wire.old) (D.faults disk.old)
+        (D.folders disk.old) (F.failed files.old) (F.faults files.old) (P.faults decoder.old))
+        (outside (W.exchanges wire.new) (D.past disk.new) (W.faults wire.new) (D.faults disk.new)
+        (D.folders disk.new) (F.failed files.new) (F.faults files.new) (P.faults decoder.new))
         paths.now) }
 
     // whatever the answer: what stays, and what is kept

@@ -33,3 +33,4 @@ pub use laws::answers_are_exact;
 pub use limits::BinaryLimits;
 pub use memory_decoders::MemDecoder;
 pub use plain_decoders::PlainDecoder;
+pub use summaries::summary_status;

@@ -53,3 +53,17 @@ pub(crate) fn summary_of(
         errors_encountered: has_refused(answers) || self_fails(deny, self_advisories),
     }
 }
+
+/// The exit status of a summary: 1 where vulnerabilities were found, else 2 where errors were, else
+/// 0.
+pub fn summary_status(summary: MultiFileReportSummary) -> u8
+    ensures { result ≡ spec.summary_status summary }
+{
+    if summary.vulnerabilities_found {
+        1
+    } else if summary.errors_encountered {
+        2
+    } else {
+        0
+    }
+}

@@ -11,24 +11,23 @@ use Rattle.audit_words.specs.declared.commands.WordsFault.{WordsFault}
 use Rattle.audit_words.specs.declared.commands.WordsFault.TheVariants as words_fault
 use Rattle.audit_program.specs.Calls.{AddsCalls, AddsRunCall, StartsWhere}
 use Rattle.audit_program.specs.Causes.{CauseOf}
-use Rattle.audit_program.specs.Completes.{IsComplete}
-use Rattle.audit_program.specs.Faults.{IsPrintFault}
+use Rattle.audit_remedies.specs.Faults.{IsPrintFault, fault_status}
 use Rattle.audit_program.specs.Jobs.{Asking, asking_by}
 use Rattle.audit_program.specs.Outcomes.{HasAsked, PutsAlone}
-use Rattle.audit_program.specs.Outputs.{IsEnded, IsPutBy, plain_text}
+use Rattle.audit_remedies.specs.Outputs.{IsEnded, IsPutBy}
+use Rattle.audit_program.specs.Unaudited.{plain_text}
 use Rattle.audit_program.specs.Runs.{IsGeneratedRun, IsRun}
-use Rattle.audit_program.specs.Statuses.{fault_status}
 use Rattle.audit_program.specs.Tasks.{IsOrderedTaskCall, IsTaskCall, asking_generates, asking_place}
 use Rattle.audit_program.specs.Worlds.{Telling, Uncalled, World}
 use Rattle.audit_program.specs.declared.outcomes.Outcome.{Outcome}
-use Rattle.audit_program.specs.declared.faults.RunFault.{RunFault}
-use Rattle.audit_program.specs.declared.faults.RunFault.TheVariants as fault
+use Rattle.audit_remedies.specs.declared.faults.RunFault.{RunFault}
+use Rattle.audit_remedies.specs.declared.faults.RunFault.TheVariants as fault
 use Rattle.audit_program.specs.declared.tasks.Job.TheVariants as job
-use Rattle.audit_program.proofs.Completing.{made_complete}
-use Rattle.audit_program.proofs.FaultCases.{no_print, print_case}
+use Rattle.audit_program.proofs.FaultCases.{no_print}
+use Rattle.audit_remedies.proofs.FaultCases.{print_case}
 use Rattle.audit_program.proofs.Leaving.{IsUncalled, all_binaries, all_tasks, host_stays, leaves_nothing, printed}
 use Rattle.audit_program.proofs.Nones.{all_some, if_none, if_some, none_some}
-use Rattle.audit_program.proofs.Putting.{put_memory, put_nothing}
+use Rattle.audit_remedies.proofs.Putting.{put_memory, put_nothing}
 use Rattle.audit_program.proofs.Readings.{none_added}
 use Rattle.audit_program.proofs.Starting.{memory_starts}
 
@@ -93,7 +92,7 @@ memory_run tells asking same before err err_faults outcome quiet fails ended =
       ends = record {
         status = λ e other. status_by outcome fault.NoMemory e is fails.status other;
         plain = λ none. cc (is, none);
-        usage = λ place broken. inr is;
+        usage = λ broken words none. cc (is, none);
       };
       causes = record {
         cause = let P : Option RunFault → Type 0 = λ o. IfSome o (CauseOf tells.files asking before.host) in subst P (sym is) (memory_cause tells.files asking before.host);
@@ -103,7 +102,6 @@ memory_run tells asking same before err err_faults outcome quiet fails ended =
         store_rose = λ at other. cc (is, other);
         start_rose = λ failed other. cc (is, other);
       };
-      complete = λ told ready stayed. let P : Option RunFault → Type 0 = λ o. IsComplete o in subst P (sym is) tt;
       without_lockfile = if_none outcome.audited _ (record {
         started = λ told_files told. memory_starts (asking_generates asking before.host) before.starts outcome.fault (inl is);
         at_most = λ told. inl refl;
@@ -149,7 +147,7 @@ usage_run tells place same before err err_faults outcome quiet fails ended =
       ends = record {
         status = λ e other. status_by outcome (fault.Usage place) e is fails.status other;
         plain = λ none. cc (is, none);
-        usage = λ other broken. inl (let same : place ≡ other = cc (broken) in rw same at is);
+        usage = λ broken words none. cc (is, none);
       };
       causes = record {
         cause = let P : Option RunFault → Type 0 = λ o. IfSome o (CauseOf tells.files (Err (words_fault.Usage place)) before.host) in subst P (sym is) refl;
@@ -159,7 +157,6 @@ usage_run tells place same before err err_faults outcome quiet fails ended =
         store_rose = λ at other. cc (is, other);
         start_rose = λ failed other. cc (is, other);
       };
-      complete = λ told ready stayed. absurd ready;
       without_lockfile = if_none outcome.audited _ (record {
         started = λ told_files told. refl;
         at_most = λ told. inl refl;
@@ -185,7 +182,7 @@ pub record IsPlain (tells : Telling) (asking : Asking) (before : World) : Type 0
   pub start : (o : Option RunFault) → StartsWhere (asking_generates asking before.host) before.starts before.starts o
   pub calls : (o : Option RunFault) → AddsCalls asking before.host before.failed before.failed o
   pub place : asking_place asking ≡ []
-  pub usage : (place : ℕ) → asking ≡ Err (words_fault.Usage place) → ⊥
+  pub usage : (broken : WordsFault) → asking ≡ Err broken → ⊥
 
 pub plain_run : (tells : Telling) (asking : Asking) (same : Uncalled) (before : World) (out : List ℕ) (out_faults : ℕ) (err : List ℕ) (err_faults : ℕ) (outcome : Outcome) → IsUncalled same
     → IsPlain tells asking before
@@ -209,7 +206,7 @@ plain_run tells asking same before out out_faults err err_faults outcome quiet p
       ends = record {
         status = puts.status;
         plain = λ none. if_none outcome.audited _ (if_none outcome.binaries _ (puts.none none));
-        usage = λ place broken. absurd (plain.usage place broken);
+        usage = λ broken words none. plain.usage broken words;
       };
       causes = record {
         cause = if_some outcome.fault _ _ plain.cause puts.fault;
@@ -219,7 +216,6 @@ plain_run tells asking same before out out_faults err err_faults outcome quiet p
         store_rose = λ at is. no_print outcome.fault _ puts.fault is (λ no. absurd no);
         start_rose = λ failed is. no_print outcome.fault (fault.Start failed) puts.fault is (λ no. absurd no);
       };
-      complete = λ told ready stayed. made_complete before (printed before out out_faults err err_faults) outcome.fault puts.fault puts.rose stayed;
       without_lockfile = if_none outcome.audited _ (record {
         started = λ told_files told. plain.start outcome.fault;
         at_most = λ told. inl refl;
@@ -261,13 +257,13 @@ generated_by (Err reason) n is = cc (is)
 -- ---- of a text
 
 pub help_plain : (tells : Telling) (before : World) → IsPlain tells (Ok job.Help) before
-help_plain tells before = record { cause = λ f only. only; start = λ o. refl; calls = λ o. refl; place = refl; usage = λ place is. cc (is) }
+help_plain tells before = record { cause = λ f only. only; start = λ o. refl; calls = λ o. refl; place = refl; usage = λ broken is. cc (is) }
 
 pub version_plain : (tells : Telling) (before : World) → IsPlain tells (Ok job.Version) before
-version_plain tells before = record { cause = λ f only. only; start = λ o. refl; calls = λ o. refl; place = refl; usage = λ place is. cc (is) }
+version_plain tells before = record { cause = λ f only. only; start = λ o. refl; calls = λ o. refl; place = refl; usage = λ broken is. cc (is) }
 
 pub generate_plain : (tells : Telling) (n : ℕ) (before : World) → IsPlain tells (Ok (job.Generate n)) before
-generate_plain tells n before = record { cause = λ f only. only; start = λ o. refl; calls = λ o. refl; place = refl; usage = λ place is. cc (is) }
+generate_plain tells n before = record { cause = λ f only. only; start = λ o. refl; calls = λ o. refl; place = refl; usage = λ broken is. cc (is) }
 
 -- a run of words that break a rule ends with its fault, or for want of memory
 pub broken_run : (tells : Telling) (place : ℕ) (same : Uncalled) (before : World) (err : List ℕ) (err_faults : ℕ) (outcome : Outcome) → IsUncalled same

@@ -20,12 +20,13 @@ use Rattle.audit_asked.specs.declared.asking.Asked.{Asked}
 use Rattle.audit_asked.specs.declared.faults.AskFault.{AskFault}
 use Rattle.audit_asked.specs.declared.faults.AskFault.TheVariants as ask
 use Rattle.audit_asked.specs.declared.binaries.AskedForBinaries.{AskedForBinaries}
-use Rattle.audit_program.specs.declared.faults.RunFault.{RunFault}
-use Rattle.audit_program.specs.declared.faults.RunFault.TheVariants as fault
+use Rattle.audit_remedies.specs.declared.faults.RunFault.{RunFault}
+use Rattle.audit_remedies.specs.declared.faults.RunFault.TheVariants as fault
 use Rattle.audit_asked.specs.declared.runners.Started.{Started}
 use Rattle.audit_program.specs.Causes.{BinariesCause, IsAskedFault, TaskCause}
-use Rattle.audit_program.specs.Faults.{by_ask}
-use Rattle.audit_program.specs.Tasks.{baseline_path, task_asked}
+use Rattle.audit_remedies.specs.Faults.{by_ask}
+use Rattle.audit_remedies.specs.Remedies.{baseline_path}
+use Rattle.audit_program.specs.Tasks.{task_asked}
 use Rattle.audit_program.specs.declared.tasks.Task.{Task}
 use Rattle.audit_program.proofs.FaultCases.{ends_with}
 use Rattle.tame_names.specs.Counts.{CountRoseBy}

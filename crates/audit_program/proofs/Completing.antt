@@ -8,11 +8,13 @@ use Rattle.audit_settings.specs.declared.commands.AuditCommand.{AuditCommand}
 use Rattle.audit_asked.specs.Asked.{status_told}
 use Rattle.audit_asked.specs.ForBinaries.{asked_for_binaries}
 use Rattle.audit_asked.specs.declared.binaries.AskedForBinaries.{AskedForBinaries}
-use Rattle.audit_program.specs.declared.faults.RunFault.{RunFault}
-use Rattle.audit_program.specs.declared.faults.RunFault.TheVariants as fault
-use Rattle.audit_program.specs.Faults.{IsPrintFault}
-use Rattle.audit_program.specs.Causes.{BinariesCause, HasNoLockfile, Refuses, RefusesBinaries, TaskCause}
-use Rattle.audit_program.specs.Completes.{AllStayed, IsComplete, IsTaskReady}
+use Rattle.audit_remedies.specs.declared.faults.RunFault.{RunFault}
+use Rattle.audit_remedies.specs.declared.faults.RunFault.TheVariants as fault
+use Rattle.audit_remedies.specs.Faults.{IsPrintFault}
+use Rattle.audit_program.specs.Causes.{BinariesCause, CauseOf, HasCauses, HasNoLockfile, Refuses, RefusesBinaries, TaskCause}
+use Rattle.audit_program.specs.Completes.{AllStayed, IsComplete, IsReady, IsTaskReady}
+use Rattle.audit_program.specs.Jobs.{Asking}
+use Rattle.audit_program.specs.declared.tasks.Job.TheVariants as job
 use Rattle.audit_program.specs.Worlds.{World}
 use Rattle.audit_program.specs.declared.tasks.Task.{Task}
 use Rattle.audit_program.proofs.FaultCases.{decided, is_decided, not_asked, not_read}
@@ -26,7 +28,7 @@ none_failed : (failed before now : ℕ) → 0 < failed → CountStayed before no
 none_failed failed before now some quiet rose = let same = quiet.0 in let low = quiet.1 in omega (arith, some, same, low, rose)
 
 -- what a fault tells of a count that rose
-pub record HasRose (before now : World) (o : Option RunFault) : Type 0 where
+record HasRose (before now : World) (o : Option RunFault) : Type 0 where
   pub print : o ≡ Some fault.Print → CountRose before.out_faults now.out_faults ⊎ CountRose before.err_faults now.err_faults
   pub file : (path : List ℕ) → o ≡ Some (fault.File path) → CountRose before.file_faults now.file_faults
   pub start : (failed : ℕ) → o ≡ Some (fault.Start failed) → CountRoseBy failed before.start_faults now.start_faults
@@ -49,7 +51,7 @@ readable told task host reason ready here cause =
     let none = cause.lockfile in
     cc (mine, other, lock, none)
 
-pub task_complete : (told : Type 0) (task : Task) (host : Host) (before now : World) (o : Option RunFault) (ready : IsTaskReady task host) → told
+task_complete : (told : Type 0) (task : Task) (host : Host) (before now : World) (o : Option RunFault) (ready : IsTaskReady task host) → told
     → IfSome o (TaskCause told task host) → HasRose before now o → AllStayed before now → IsComplete o
 task_complete told task host before now None ready here cause rose quiet = tt
 task_complete told task host before now (Some fault.NoMemory) ready here cause rose quiet = tt
@@ -75,7 +77,7 @@ accepted : (told : Type 0) (command : AuditCommand) (host : Host) (given : Asked
     → RefusesBinaries told command host reason → ⊥
 accepted told command host given reason mine here by cause = let other = cause.gives here (decided reason cause.asked cause.is by) in cc (mine, other)
 
-pub binaries_complete : (told : Type 0) (command : AuditCommand) (host : Host) (given : AskedForBinaries) (before now : World) (o : Option RunFault) → asked_for_binaries command host ≡ Ok given → told
+binaries_complete : (told : Type 0) (command : AuditCommand) (host : Host) (given : AskedForBinaries) (before now : World) (o : Option RunFault) → asked_for_binaries command host ≡ Ok given → told
     → IfSome o (BinariesCause told command host) → HasRose before now o → AllStayed before now → IsComplete o
 binaries_complete told command host given before now None gives here cause rose quiet = tt
 binaries_complete told command host given before now (Some fault.NoMemory) gives here cause rose quiet = tt
@@ -95,7 +97,7 @@ binaries_complete told command host given before now (Some (fault.File path)) gi
 binaries_complete told command host given before now (Some (fault.Start failed)) gives here cause rose quiet = not_read (fault.Start failed) cause.asked cause.is cause.only refl
 
 -- of made packages, and where a text alone is printed
-pub print_complete : (before now : World) (o : Option RunFault) → IfSome o IsPrintFault → HasRose before now o → AllStayed before now → IsComplete o
+print_complete : (before now : World) (o : Option RunFault) → IfSome o IsPrintFault → HasRose before now o → AllStayed before now → IsComplete o
 print_complete before now None only rose quiet = tt
 print_complete before now (Some fault.NoMemory) only rose quiet = tt
 print_complete before now (Some fault.Print) only rose quiet =
@@ -113,23 +115,16 @@ print_complete before now (Some (fault.Lockfile reason)) only rose quiet = absur
 print_complete before now (Some (fault.Generate status)) only rose quiet = absurd only
 print_complete before now (Some (fault.Start failed)) only rose quiet = absurd only
 
--- nothing but the output failed
-by_print : (before now : World) (o : Option RunFault) → IfSome o IsPrintFault → (o ≡ Some fault.Print → CountRose before.out_faults now.out_faults) → HasRose before now o
-by_print before now None only rose = record { print = λ is. cc; file = λ path is. cc; start = λ failed is. cc }
-by_print before now (Some fault.Print) only rose = record { print = λ is. inl (rose refl); file = λ path is. cc; start = λ failed is. cc }
-by_print before now (Some fault.NoMemory) only rose = record { print = λ is. cc; file = λ path is. cc; start = λ failed is. cc }
-by_print before now (Some (fault.Advisory place reason)) only rose = absurd only
-by_print before now (Some (fault.Baseline line)) only rose = absurd only
-by_print before now (Some (fault.Vendor reason)) only rose = absurd only
-by_print before now (Some (fault.Usage place)) only rose = absurd only
-by_print before now (Some (fault.Settings reason)) only rose = absurd only
-by_print before now (Some (fault.Missing path)) only rose = absurd only
-by_print before now (Some (fault.NotUtf8 path)) only rose = absurd only
-by_print before now (Some (fault.TooLarge path len)) only rose = absurd only
-by_print before now (Some (fault.File path)) only rose = absurd only
-by_print before now (Some (fault.Lockfile reason)) only rose = absurd only
-by_print before now (Some (fault.Generate status)) only rose = absurd only
-by_print before now (Some (fault.Start failed)) only rose = absurd only
+-- ---- of any words
 
-pub made_complete : (before now : World) (o : Option RunFault) → IfSome o IsPrintFault → (o ≡ Some fault.Print → CountRose before.out_faults now.out_faults) → AllStayed before now → IsComplete o
-made_complete before now o only rose quiet = print_complete before now o only (by_print before now o only rose) quiet
+pub all_complete : (told : Type 0) (asking : Asking) (before now : World) (o : Option RunFault) → told → HasCauses (CauseOf told asking before.host) before now o → IsReady asking before.host
+    → AllStayed before now → IsComplete o
+all_complete told (Ok (job.Lockfile task)) before now o here h ready quiet =
+    task_complete told task before.host before now o ready here h.cause (record { print = h.print_rose; file = h.file_rose; start = h.start_rose }) quiet
+all_complete told (Ok (job.Binaries command more)) before now o here h ready quiet =
+    binaries_complete told command before.host ready.0 before now o ready.1 here h.cause (record { print = h.print_rose; file = h.file_rose; start = h.start_rose }) quiet
+all_complete told (Ok (job.Generate n)) before now o here h ready quiet =
+    print_complete before now o h.cause (record { print = h.print_rose; file = h.file_rose; start = h.start_rose }) quiet
+all_complete told (Ok job.Help) before now o here h ready quiet = absurd ready
+all_complete told (Ok job.Version) before now o here h ready quiet = absurd ready
+all_complete told (Err broken) before now o here h ready quiet = absurd ready

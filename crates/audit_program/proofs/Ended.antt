@@ -3,10 +3,10 @@ use Rattle.std.proofs.Common.{◌≡◌, ◌⊎◌, ◌≤◌, inl, inr, ℕ, Li
 use Rattle.std.specs.Prelude.{OnOk, IfErr}
 use Rattle.tame_names.specs.Counts.{CountStayed, CountRose}
 use Rattle.tame_names.specs.Output.{AddsPrefix}
-use Rattle.audit_program.specs.declared.faults.RunFault.{RunFault}
-use Rattle.audit_program.specs.declared.faults.RunFault.TheVariants as fault
-use Rattle.audit_program.specs.FaultLines.{fault_line}
-use Rattle.audit_program.specs.Outputs.{IsEnded, IsLinePut, IsPutBy}
+use Rattle.audit_remedies.specs.declared.faults.RunFault.{RunFault}
+use Rattle.audit_remedies.specs.declared.faults.RunFault.TheVariants as fault
+use Rattle.audit_remedies.specs.FaultLines.{fault_line}
+use Rattle.audit_remedies.specs.Outputs.{IsEnded, IsLinePut, IsPutBy}
 
 pub not_both : (before now : ℕ) → CountStayed before now → CountRose before now → ⊥
 not_both before now quiet rose = let same = quiet.0 in let low = quiet.1 in omega (arith, same, low, rose)

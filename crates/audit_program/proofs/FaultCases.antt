@@ -7,42 +7,24 @@ use Rattle.tame_names.specs.Counts.{CountRose}
 use Rattle.audit_asked.specs.Refusals.{IsReadFault, is_told}
 use Rattle.audit_asked.specs.declared.faults.AskFault.{AskFault}
 use Rattle.audit_asked.specs.declared.faults.AskFault.TheVariants as ask
-use Rattle.audit_output.specs.declared.putting.PrintFault.{PrintFault}
 use Rattle.audit_output.specs.declared.putting.PrintFault.TheVariants as print
-use Rattle.audit_program.specs.declared.faults.RunFault.{RunFault}
-use Rattle.audit_program.specs.declared.faults.RunFault.TheVariants as fault
+use Rattle.audit_remedies.specs.declared.faults.RunFault.{RunFault}
+use Rattle.audit_remedies.specs.declared.faults.RunFault.TheVariants as fault
 use Rattle.audit_program.specs.Causes.{BinariesCause}
-use Rattle.audit_program.specs.Faults.{IsPrintFault, by_ask, by_print}
-use Rattle.audit_program.specs.Finishes.{IsFinishFault}
-use Rattle.audit_program.specs.Makings.{IsFileOf, IsMakingFault}
-use Rattle.audit_program.specs.Statuses.{IsEarly, is_early}
-use Rattle.audit_program.specs.Tasks.{MakesRegistry}
-use Rattle.audit_program.specs.declared.tasks.Remedy.{Remedy}
-use Rattle.audit_program.specs.declared.tasks.Remedy.TheVariants.{Report, Fix, Plan, Baseline, WriteBaseline, Vendor}
+use Rattle.audit_remedies.specs.Faults.{IsPrintFault, by_ask, IsEarly, is_early}
+use Rattle.audit_remedies.specs.Finishes.{IsFinishFault}
+use Rattle.audit_remedies.specs.Makings.{IsFileOf, IsMakingFault}
+use Rattle.audit_remedies.specs.Remedies.{MakesRegistry}
+use Rattle.audit_remedies.specs.declared.remedies.Remedy.{Remedy}
+use Rattle.audit_remedies.specs.declared.remedies.Remedy.TheVariants.{Report, Fix, Plan, Baseline, WriteBaseline, Vendor}
 use Rattle.vendor_registry.specs.declared.faults.VendorFault.{VendorFault}
 use Rattle.vendor_registry.specs.declared.faults.VendorFault.TheVariants as vendor_fault
+use Rattle.audit_remedies.proofs.FaultCases.{print_case}
 
 -- a run that fails with a fault ends with it, or for want of memory
 pub ends_with : (P : RunFault → Type 0) (o : Option RunFault) (f : RunFault) → (o ≡ Some f) ⊎ (o ≡ Some fault.NoMemory) → P f → P fault.NoMemory → IfSome o P
 ends_with P o f (inl is) mine memory = let Q : Option RunFault → Type 0 = λ x. IfSome x P in subst Q (sym is) mine
 ends_with P o f (inr is) mine memory = let Q : Option RunFault → Type 0 = λ x. IfSome x P in subst Q (sym is) memory
-
--- a fault of printing is that of a put, or want of memory
-pub print_case : (P : RunFault → Type 0) (f : RunFault) → IsPrintFault f → P fault.Print → P fault.NoMemory → P f
-print_case P fault.Print only print memory = print
-print_case P fault.NoMemory only print memory = memory
-print_case P (fault.Usage place) only print memory = absurd only
-print_case P (fault.Settings reason) only print memory = absurd only
-print_case P (fault.Missing path) only print memory = absurd only
-print_case P (fault.NotUtf8 path) only print memory = absurd only
-print_case P (fault.TooLarge path len) only print memory = absurd only
-print_case P (fault.File path) only print memory = absurd only
-print_case P (fault.Lockfile reason) only print memory = absurd only
-print_case P (fault.Advisory n reason) only print memory = absurd only
-print_case P (fault.Baseline line) only print memory = absurd only
-print_case P (fault.Vendor reason) only print memory = absurd only
-print_case P (fault.Generate status) only print memory = absurd only
-print_case P (fault.Start failed) only print memory = absurd only
 
 -- what no fault of printing is
 pub no_print : {X : Type 0} (o : Option RunFault) (f : RunFault) → IfSome o IsPrintFault → o ≡ Some f → (IsPrintFault f → X) → X
@@ -241,10 +223,6 @@ pub decided : (f : RunFault) (e : AskFault) → f ≡ by_ask e → IsTrue (is_de
 decided f e is so = told_so e (subst (λ (x : RunFault). IsTrue (is_decided x)) is so)
 
 -- ---- faults of printing
-
-pub is_print : (e : PrintFault) → IsPrintFault (by_print e)
-is_print print.Put = tt
-is_print print.NoMemory = tt
 
 -- ---- audits of binaries
 

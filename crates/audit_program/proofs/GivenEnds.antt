@@ -10,21 +10,20 @@ use Rattle.audit_asked.specs.declared.asking.Asked.{Asked}
 use Rattle.audit_output.specs.declared.putting.PrintFault.{PrintFault}
 use Rattle.audit_output.specs.declared.putting.PrintFault.TheVariants as print
 use Rattle.vendor_registry.specs.declared.faults.VendorFault.TheVariants as vendor_fault
-use Rattle.audit_program.specs.Calls.{AddsFileCalls, AddsMakingCalls, AddsRegistryCalls}
+use Rattle.audit_remedies.specs.Calls.{AddsFileCalls, AddsMakingCalls, AddsRegistryCalls}
 use Rattle.audit_program.specs.Causes.{HasCauses, IsAskedFault, IsAuditFault}
-use Rattle.audit_program.specs.Faults.{IsPrintFault, by_print}
-use Rattle.audit_program.specs.Finishes.{IsFinishFault}
-use Rattle.audit_program.specs.Makings.{IsMakingFault}
+use Rattle.audit_remedies.specs.Faults.{IsPrintFault, by_print, fault_status}
+use Rattle.audit_remedies.specs.Finishes.{IsFinishFault}
+use Rattle.audit_remedies.specs.Makings.{IsMakingFault}
 use Rattle.audit_program.specs.Outcomes.{EndsBy, HasAudits}
-use Rattle.audit_program.specs.Statuses.{fault_status}
 use Rattle.audit_program.specs.Worlds.{World}
-use Rattle.audit_program.specs.declared.faults.RunFault.{RunFault}
-use Rattle.audit_program.specs.declared.faults.RunFault.TheVariants as fault
+use Rattle.audit_remedies.specs.declared.faults.RunFault.{RunFault}
+use Rattle.audit_remedies.specs.declared.faults.RunFault.TheVariants as fault
 use Rattle.audit_program.specs.declared.outcomes.Outcome.{Outcome}
 use Rattle.audit_program.specs.declared.tasks.Job.{Job}
 use Rattle.audit_program.specs.declared.tasks.Job.TheVariants as job
-use Rattle.audit_program.specs.declared.tasks.Remedy.{Remedy}
-use Rattle.audit_program.specs.declared.tasks.Remedy.TheVariants.{Report, Fix, Plan, Baseline, WriteBaseline, Vendor}
+use Rattle.audit_remedies.specs.declared.remedies.Remedy.{Remedy}
+use Rattle.audit_remedies.specs.declared.remedies.Remedy.TheVariants.{Report, Fix, Plan, Baseline, WriteBaseline, Vendor}
 use Rattle.audit_program.specs.declared.tasks.Task.{Task}
 use Rattle.audit_program.proofs.FaultCases.{ends_with, finish_case, has_fault, making_case, memory_no_print, same_fault}
 use Rattle.audit_program.proofs.Nones.{all_some, if_none}
@@ -67,7 +66,7 @@ pub failed_ends : (it : Job) (outcome : Outcome) (f : RunFault) → IsEndOf f ou
 failed_ends it outcome f end status = record {
   status = status;
   plain = λ none. has_fault f outcome.fault end none;
-  usage = λ place is. not_err _ _ _ refl is;
+  usage = λ broken is. not_err _ _ _ refl is;
 }
 
 -- ---- where the audit failed

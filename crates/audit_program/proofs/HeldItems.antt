@@ -2,7 +2,7 @@
 use Rattle.std.proofs.Common.{◌≡◌, pos, List, Some, None, Result, Ok, Err, sym, subst, ◌∙◌}
 use Rattle.tame_sparse.specs.declared.network.Exchange.{Exchange}
 use Rattle.audit_asked.specs.declared.asking.Asked.{Asked}
-use Rattle.audit_program.specs.declared.faults.RunFault.{RunFault}
+use Rattle.audit_remedies.specs.declared.faults.RunFault.{RunFault}
 use Rattle.audit_core.specs.Auditors.{auditor_of}
 use Rattle.audit_core.specs.Checks.{checks_of}
 use Rattle.audit_core.specs.declared.checking.Checks.TheVariants.{Online}
@@ -12,14 +12,15 @@ use Rattle.upgrade_plan.specs.HeldPlans.{ArePlannedByHeld}
 use Rattle.upgrade_plan.specs.Plans.{IsPlanBy}
 use Rattle.upgrade_plan.specs.declared.plans.PlanItem.{PlanItem}
 use Rattle.audit_program.specs.HonestRuns.{IsHonestRun}
-use Rattle.audit_program.specs.Makings.{IsMade, IsReadOnly, Making, plan_in}
-use Rattle.audit_program.specs.TaskRuns.{Ending, IsGivenRun, IsTaskRun}
+use Rattle.audit_remedies.specs.Makings.{IsMade, IsReadOnly, Making, plan_in}
+use Rattle.audit_remedies.specs.Endings.{Ending}
+use Rattle.audit_program.specs.TaskRuns.{IsGivenRun, IsTaskRun}
 use Rattle.audit_program.specs.Tasks.{task_asked}
 use Rattle.audit_program.specs.Worlds.{Telling, World, moment_of}
-use Rattle.audit_program.specs.declared.makings.Made.{Made}
-use Rattle.audit_program.specs.declared.makings.Made.TheVariants as made
-use Rattle.audit_program.specs.declared.tasks.Remedy.{Remedy}
-use Rattle.audit_program.specs.declared.tasks.Remedy.TheVariants.{Report, Fix, Plan, Baseline, WriteBaseline, Vendor}
+use Rattle.audit_remedies.specs.declared.makings.Made.{Made}
+use Rattle.audit_remedies.specs.declared.makings.Made.TheVariants as made
+use Rattle.audit_remedies.specs.declared.remedies.Remedy.{Remedy}
+use Rattle.audit_remedies.specs.declared.remedies.Remedy.TheVariants.{Report, Fix, Plan, Baseline, WriteBaseline, Vendor}
 use Rattle.audit_program.specs.declared.tasks.Task.{Task}
 
 some_none : {X : Type 0} (items : List PlanItem) → Some items ≡ None → X

@@ -9,14 +9,15 @@ use Rattle.audit_core.specs.declared.checking.Checks.{Checks}
 use Rattle.audit_core.specs.declared.checking.Checks.TheVariants.{Online}
 use Rattle.audit_program.specs.HonestRuns.{AsksOnline, IsHonestRun}
 use Rattle.audit_program.specs.Jobs.{Asking, OfTask}
-use Rattle.audit_program.specs.Makings.{IsMade, Making}
-use Rattle.audit_program.specs.TaskRuns.{Ending, IsTaskRun}
+use Rattle.audit_remedies.specs.Makings.{IsMade, Making}
+use Rattle.audit_remedies.specs.Endings.{Ending}
+use Rattle.audit_program.specs.TaskRuns.{IsTaskRun}
 use Rattle.audit_program.specs.Worlds.{Telling, World}
-use Rattle.audit_program.specs.declared.faults.RunFault.{RunFault}
-use Rattle.audit_program.specs.declared.makings.Made.{Made}
+use Rattle.audit_remedies.specs.declared.faults.RunFault.{RunFault}
+use Rattle.audit_remedies.specs.declared.makings.Made.{Made}
 use Rattle.audit_program.specs.declared.tasks.Job.TheVariants as job
-use Rattle.audit_program.specs.declared.tasks.Remedy.{Remedy}
-use Rattle.audit_program.specs.declared.tasks.Remedy.TheVariants.{Report, Fix, Plan, Baseline, WriteBaseline, Vendor}
+use Rattle.audit_remedies.specs.declared.remedies.Remedy.{Remedy}
+use Rattle.audit_remedies.specs.declared.remedies.Remedy.TheVariants.{Report, Fix, Plan, Baseline, WriteBaseline, Vendor}
 
 -- nothing is asked for what is made of an audit
 made_unasked : (remedy : Remedy) (m : Making) (it : Result Made RunFault) → IsMade remedy m it → m.ended.exchanges ≡ m.left.exchanges

@@ -56,7 +56,7 @@ leaves_nothing tells asking same before out out_faults err err_faults quiet = re
   undecoded = λ other. quiet.decoder;
   unstarted = λ is. quiet.runner;
   files_same = λ told unwritten. host_stays _ before.host;
-  unaccepted = λ told. all_tasks _ asking (λ task none. (quiet.wire, quiet.disk));
+  unaccepted = λ told none. all_tasks _ asking (λ task. (quiet.wire, quiet.disk));
   asks = λ told given packages accepts. asks_nothing _ _ _ _;
   calls = λ told config settles. calls_nothing _ _ _ _ _ quiet.wire (λ unread. quiet.disk);
 }

@@ -3,7 +3,6 @@ pub mod Asking
 pub mod Completing
 pub mod Ended
 pub mod FaultCases
-pub mod Finishing
 pub mod GivenEnds
 pub mod HeldItems
 pub mod HeldVerdicts
@@ -11,9 +10,7 @@ pub mod Leaving
 pub mod Made
 pub mod Nones
 pub mod Outsides
-pub mod Putting
 pub mod ReadSince
 pub mod Readings
 pub mod Reported
 pub mod Starting
-pub mod Stocked

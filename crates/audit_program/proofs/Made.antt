@@ -1,31 +1,29 @@
 -- What was made of an audit, by how it ended.
-use Rattle.std.proofs.Common.{◌≡◌, ◌≢◌, ◌⊎◌, ◌≤◌, inl, inr, ℕ, List, [], ◌∷◌, Option, Some, None, Err, refl, sym, subst, arith}
+use Rattle.std.proofs.Common.{◌≡◌, ◌⊎◌, ◌≤◌, inl, inr, ℕ, List, [], ◌∷◌, Option, Some, None, refl, sym, subst, arith}
 use Rattle.std.specs.Prelude.{IfNone, IsSome}
 use Rattle.tame_names.specs.Standing.{Host}
 use Rattle.tame_names.specs.declared.host.FailedCall.{FailedCall}
-use Rattle.audit_words.specs.declared.commands.VendorCommand.{VendorCommand}
 use Rattle.audit_core.specs.declared.asking.Turn.{Turn}
 use Rattle.audit_core.specs.Turns.{Chains}
 use Rattle.audit_asked.specs.declared.runners.Started.{Started}
-use Rattle.audit_program.specs.declared.faults.RunFault.{RunFault}
-use Rattle.audit_program.specs.declared.faults.RunFault.TheVariants as fault
-use Rattle.vendor_registry.specs.declared.faults.VendorFault.{VendorFault}
+use Rattle.audit_remedies.specs.declared.faults.RunFault.{RunFault}
+use Rattle.audit_remedies.specs.declared.faults.RunFault.TheVariants as fault
 use Rattle.vendor_registry.specs.declared.faults.VendorFault.TheVariants as vendor_fault
 use Rattle.audit_asked.specs.Calls.{AddsBy}
 use Rattle.audit_asked.specs.declared.faults.AskFault.{AskFault}
 use Rattle.audit_asked.specs.declared.faults.AskFault.TheVariants as ask
-use Rattle.audit_program.specs.Calls.{AddsFileCalls, AddsMakingCalls, AddsRegistryCalls, AddsRunCall, AddsTaskCalls}
+use Rattle.audit_remedies.specs.Calls.{AddsFileCalls, AddsMakingCalls, AddsRegistryCalls}
+use Rattle.audit_program.specs.Calls.{AddsRunCall, AddsTaskCalls}
 use Rattle.audit_program.specs.Tasks.{IsTaskCall}
 use Rattle.audit_program.specs.declared.tasks.Task.{Task}
-use Rattle.audit_program.specs.Finishes.{IsFinishFault}
-use Rattle.audit_program.specs.Faults.{by_ask}
-use Rattle.audit_program.specs.Makings.{IsMade, IsMakingFault, IsReadOnly, IsVendorEnd, Making, vendoring_in}
-use Rattle.vendor_registry.specs.Vendoring.{IsRegistryRefused}
-use Rattle.audit_program.specs.declared.tasks.Remedy.{Remedy}
-use Rattle.audit_program.specs.declared.tasks.Remedy.TheVariants.{Report, Fix, Plan, Baseline, WriteBaseline, Vendor}
+use Rattle.audit_remedies.specs.Finishes.{IsFinishFault}
+use Rattle.audit_remedies.specs.Faults.{by_ask}
+use Rattle.audit_remedies.specs.Makings.{IsMakingFault}
+use Rattle.audit_remedies.specs.declared.remedies.Remedy.{Remedy}
+use Rattle.audit_remedies.specs.declared.remedies.Remedy.TheVariants.{Report, Fix, Plan, Baseline, WriteBaseline, Vendor}
 use Rattle.audit_program.proofs.FaultCases.{finish_case, making_case}
-use Rattle.audit_program.specs.Steps.{AreStarted, FailedBy}
-use Rattle.audit_program.proofs.Finishing.{all_started, each_none}
+use Rattle.audit_remedies.specs.Steps.{AreStarted, FailedBy}
+use Rattle.audit_remedies.proofs.Finishing.{all_started, each_none}
 
 -- the counts of the disk don't fall in turns
 pub chain_grows : (wire disk : ℕ) (ts : List Turn) (last_wire last_disk : ℕ) → Chains wire disk ts last_wire last_disk → disk ≤ last_disk
@@ -38,26 +36,6 @@ chain_grows wire disk (t ∷ ts) last_wire last_disk h =
     omega (arith, more, a, b, c)
 
 -- ---- a registry
-
-refused_as : (more : VendorCommand) (m : Making) (reason : VendorFault) (end : RunFault) → IsRegistryRefused (vendoring_in more m) reason → IsReadOnly m
-    → (end ≡ fault.Vendor reason) × (reason ≢ vendor_fault.NoMemory) → IsMade (Vendor more) m (Err end)
-refused_as more m reason end refused read is = let P : RunFault → Type 0 = λ e. IsMade (Vendor more) m (Err e) in subst P (sym is.0) ((is.1, refused), read)
-
-pub registry_refused : (more : VendorCommand) (m : Making) (reason : VendorFault) (end : RunFault) → IsVendorEnd reason end → IsRegistryRefused (vendoring_in more m) reason → IsReadOnly m
-    → IsMade (Vendor more) m (Err end)
-registry_refused more m vendor_fault.NoMemory end is refused read = let P : RunFault → Type 0 = λ e. IsMade (Vendor more) m (Err e) in subst P (sym is) (refused, read)
-registry_refused more m (vendor_fault.Name n) end is refused read = refused_as more m (vendor_fault.Name n) end refused read is
-registry_refused more m (vendor_fault.Store n) end is refused read = refused_as more m (vendor_fault.Store n) end refused read is
-registry_refused more m (vendor_fault.Absent n) end is refused read = refused_as more m (vendor_fault.Absent n) end refused read is
-registry_refused more m (vendor_fault.Record n) end is refused read = refused_as more m (vendor_fault.Record n) end refused read is
-registry_refused more m (vendor_fault.NoVersion n) end is refused read = refused_as more m (vendor_fault.NoVersion n) end refused read is
-registry_refused more m (vendor_fault.NoCrate n) end is refused read = refused_as more m (vendor_fault.NoCrate n) end refused read is
-registry_refused more m (vendor_fault.TooLarge n len) end is refused read = refused_as more m (vendor_fault.TooLarge n len) end refused read is
-registry_refused more m (vendor_fault.Digest n found) end is refused read = refused_as more m (vendor_fault.Digest n found) end refused read is
-registry_refused more m (vendor_fault.NotEmpty count) end is refused read = refused_as more m (vendor_fault.NotEmpty count) end refused read is
-registry_refused more m vendor_fault.NotADirectory end is refused read = refused_as more m vendor_fault.NotADirectory end refused read is
-registry_refused more m (vendor_fault.File path) end is refused read = refused_as more m (vendor_fault.File path) end refused read is
-registry_refused more m (vendor_fault.ReadBack why) end is refused read = refused_as more m (vendor_fault.ReadBack why) end refused read is
 
 -- ---- failed calls, by how a run ends
 

@@ -6,7 +6,8 @@ use Rattle.audit_binaries.specs.declared.answers.BinariesAudit.{BinariesAudit}
 use Rattle.audit_core.specs.declared.auditing.Audited.{Audited}
 use Rattle.audit_program.specs.BinaryRuns.{AreBinariesRun, ArePartlyRun}
 use Rattle.audit_program.specs.Runs.{IsRun}
-use Rattle.audit_program.specs.TaskRuns.{Ending, IsGivenRun, IsTaskRun}
+use Rattle.audit_remedies.specs.Endings.{Ending}
+use Rattle.audit_program.specs.TaskRuns.{IsGivenRun, IsTaskRun}
 use Rattle.audit_program.specs.Worlds.{Telling, Uncalled, World}
 use Rattle.audit_program.specs.declared.outcomes.Outcome.{Outcome}
 use Rattle.audit_program.specs.declared.tasks.Job.TheVariants as job
@@ -57,7 +58,6 @@ task_run tells told task same stays before now outcome decoder h = record {
   has = h.has;
   ends = h.ends;
   causes = h.causes;
-  complete = h.complete;
   without_lockfile = if_none_then outcome.audited _ _ (λ k. record { started = k.started; at_most = k.at_most; one_start = k.one_start; files = k.files }) h.without_lockfile;
   without_audit = if_none_then outcome.audited _ _ (λ m. if_none_then outcome.binaries _ _
       (λ k. record { out = k.out; err = k.err; early = λ other. ((k.early other).0, (k.early other).1, decoder) }) m) h.without_audit;
@@ -80,10 +80,8 @@ binaries_beside : (tells : Telling) (told : Type 0) (command : AuditCommand) (mo
     → AreBinariesRun tells command more before now end b → AreBinariesRun (record tells { runner = told }) command more before now end b
 binaries_beside tells told command more before now end b h = record {
   given = h.given;
-  there = h.there;
-  failed = h.failed;
-  file_faults = h.file_faults;
-  asked = record { gives = h.asked.gives; is_there = h.asked.is_there; is_failed = h.asked.is_failed; later = h.asked.later };
+  entry = h.entry;
+  asked = record { gives = h.asked.gives; host = h.asked.host; failed = h.asked.failed; later = h.asked.later; same = h.asked.same };
   run = record {
     answered = h.run.answered;
     summary = h.run.summary;
@@ -107,10 +105,8 @@ partly_beside : (tells : Telling) (told : Type 0) (command : AuditCommand) (more
 partly_beside tells told command more P before now (inl unasked) = inl unasked
 partly_beside tells told command more P before now (inr h) = inr (record {
   given = h.given;
-  there = h.there;
-  failed = h.failed;
-  file_faults = h.file_faults;
-  asked = record { gives = h.asked.gives; is_there = h.asked.is_there; is_failed = h.asked.is_failed; later = h.asked.later };
+  entry = h.entry;
+  asked = record { gives = h.asked.gives; host = h.asked.host; failed = h.asked.failed; later = h.asked.later; same = h.asked.same };
   partly = h.partly;
 })
 
@@ -127,7 +123,6 @@ binaries_run tells told command more same stays before now outcome runner h unst
   has = h.has;
   ends = h.ends;
   causes = h.causes;
-  complete = h.complete;
   without_lockfile = if_none_then outcome.audited _ _ (λ k. record { started = λ told_files told_starts. unstarted; at_most = λ told_starts. inl unstarted; one_start = k.one_start; files = k.files }) h.without_lockfile;
   without_audit = if_none_then outcome.audited _ _ (λ m. if_none_then outcome.binaries _ _ (λ k. record { out = k.out; err = k.err; early = k.early }) m) h.without_audit;
   failed = λ here. record { calls = (h.failed here).calls; unaudited = tt };
@@ -137,7 +132,7 @@ binaries_run tells told command more same stays before now outcome runner h unst
     undecoded = h.leaves.undecoded;
     unstarted = λ is. runner;
     files_same = h.leaves.files_same;
-    unaccepted = λ here. tt;
+    unaccepted = λ here none. tt;
     asks = h.leaves.asks;
     calls = h.leaves.calls;
   };

@@ -14,11 +14,12 @@ use Rattle.audit_asked.specs.Calls.{AddsBy}
 use Rattle.audit_asked.specs.ForBinaries.{IsForBinariesCall}
 use Rattle.audit_asked.specs.declared.faults.AskFault.{AskFault}
 use Rattle.audit_asked.specs.declared.faults.AskFault.TheVariants as ask
-use Rattle.audit_program.specs.declared.faults.RunFault.{RunFault}
-use Rattle.audit_program.specs.declared.faults.RunFault.TheVariants as run_fault
-use Rattle.audit_program.specs.Faults.{IsPrintFault, by_ask}
-use Rattle.audit_program.specs.Calls.{AddsBinCalls, AddsReadings, reading_of}
-use Rattle.audit_program.proofs.FaultCases.{print_case}
+use Rattle.audit_remedies.specs.declared.faults.RunFault.{RunFault}
+use Rattle.audit_remedies.specs.declared.faults.RunFault.TheVariants as run_fault
+use Rattle.audit_remedies.specs.Faults.{IsPrintFault, by_ask}
+use Rattle.audit_program.specs.Calls.{AddsBinCalls}
+use Rattle.audit_binaries.specs.Summaries.{AddsReadings, reading_of}
+use Rattle.audit_remedies.proofs.FaultCases.{print_case}
 
 -- at most one of a path
 abbrev AtMost : List ℕ → List FailedCall → List FailedCall → Type 0

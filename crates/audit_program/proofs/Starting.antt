@@ -7,12 +7,12 @@ use Rattle.audit_asked.specs.Starts.{RunStarts, RunStartsWhere, StartsAtMost}
 use Rattle.audit_asked.specs.declared.asking.Asked.{Asked}
 use Rattle.audit_asked.specs.declared.faults.AskFault.{AskFault}
 use Rattle.audit_asked.specs.declared.faults.AskFault.TheVariants as ask
-use Rattle.audit_program.specs.declared.faults.RunFault.{RunFault}
-use Rattle.audit_program.specs.declared.faults.RunFault.TheVariants as fault
+use Rattle.audit_remedies.specs.declared.faults.RunFault.{RunFault}
+use Rattle.audit_remedies.specs.declared.faults.RunFault.TheVariants as fault
 use Rattle.audit_asked.specs.declared.runners.Started.{Started}
 use Rattle.audit_program.specs.Calls.{StartsUnaudited, StartsWhere}
 use Rattle.audit_program.specs.Causes.{BinariesCause, IsAskedFault}
-use Rattle.audit_program.specs.Faults.{by_ask}
+use Rattle.audit_remedies.specs.Faults.{by_ask}
 use Rattle.audit_program.specs.declared.tasks.Task.{Task}
 use Rattle.audit_program.proofs.FaultCases.{not_read}
 

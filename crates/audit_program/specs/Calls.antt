@@ -2,29 +2,21 @@
 use Rattle.std.specs.Prelude.{◌≡◌, ◌⊎◌, ◌++◌, ◌∷◌, [], ℕ, pos, List, Bool, true, false, Option, Some, None, Ok}
 use Rattle.tame_names.specs.Standing.{Host}
 use Rattle.tame_names.specs.declared.host.FailedCall.{FailedCall}
-use Rattle.tame_names.specs.declared.host.FileCall.TheVariants as file_call
 use Rattle.audit_settings.specs.declared.commands.AuditCommand.{AuditCommand}
-use Rattle.audit_asked.specs.Calls.{IsCallOn}
 use Rattle.audit_asked.specs.ForBinaries.{IsForBinariesCall}
 use Rattle.audit_asked.specs.Starts.{AddsStart, StartsAtMost}
-use Rattle.audit_program.specs.declared.faults.RunFault.{RunFault}
-use Rattle.audit_program.specs.declared.faults.RunFault.TheVariants as fault
+use Rattle.audit_binaries.specs.Summaries.{AddsReadings}
+use Rattle.audit_remedies.specs.declared.faults.RunFault.{RunFault}
+use Rattle.audit_remedies.specs.declared.faults.RunFault.TheVariants as fault
 use Rattle.audit_asked.specs.declared.runners.Started.{Started}
-use Rattle.tame_local.specs.Calls.{IsCallFor}
-use Rattle.vendor_registry.specs.declared.faults.VendorFault.TheVariants as vendor_fault
 use Rattle.audit_program.specs.Jobs.{Asking}
 use Rattle.audit_program.specs.Tasks.{IsTaskCall}
 use Rattle.audit_program.specs.declared.tasks.Job.TheVariants as job
-use Rattle.audit_program.specs.declared.tasks.Remedy.{Remedy}
-use Rattle.audit_program.specs.declared.tasks.Remedy.TheVariants.{Vendor, WriteBaseline}
+use Rattle.audit_remedies.specs.declared.remedies.Remedy.TheVariants.{Vendor}
 use Rattle.audit_program.specs.declared.tasks.Task.{Task}
+use Rattle.audit_remedies.specs.Calls.{AddsOne, AddsMakingCalls}
 
 -- ---- failed calls in asking
-
--- a call that may fail was added
-abbrev pub AddsOne : (List ℕ → FailedCall → Type 0) → List FailedCall → List FailedCall → Type 0
-AddsOne may before now =
-    (path : List ℕ) × (call : FailedCall) × (now ≡ before ++ call ∷ []) × may path call
 
 -- a fault of the files added one call to the failed ones, which may end a run with its path; where
 -- memory ran out one may have been added; any other answer added none
@@ -37,15 +29,6 @@ AddsRunCall may before now _ = now ≡ before
 
 -- ---- failed readings of binaries
 
-abbrev pub reading_of : List ℕ → FailedCall
-reading_of path = record { call = file_call.Read; path = Some path }
-
--- a failed reading was added for some of these paths, in their order, once each
-abbrev pub AddsReadings : List (List ℕ) → List FailedCall → List FailedCall → Type 0
-AddsReadings [] before now = now ≡ before
-AddsReadings (path ∷ paths) before now =
-    AddsReadings paths before now ⊎ AddsReadings paths (before ++ reading_of path ∷ []) now
-
 -- a fault of the files comes in asking; where memory ran out, a call may have failed in asking, or
 -- readings of binaries; and readings where the run ended with its output, or with a part of it
 abbrev pub AddsBinCalls : AuditCommand → List (List ℕ) → Host → List FailedCall
@@ -57,31 +40,6 @@ AddsBinCalls command paths host before now (Some fault.NoMemory) =
 AddsBinCalls command paths host before now (Some fault.Print) = AddsReadings paths before now
 AddsBinCalls command paths host before now None = AddsReadings paths before now
 AddsBinCalls command paths host before now (Some _) = now ≡ before
-
--- ---- failed calls in making something of an audit
-
--- a file couldn't be made at this path, which is told; where memory ran out that may have come
--- before
-abbrev pub AddsFileCalls : List ℕ → List FailedCall → List FailedCall → Option RunFault → Type 0
-AddsFileCalls path before now (Some (fault.File told)) =
-    (call : FailedCall) × (now ≡ before ++ call ∷ []) × IsCallOn file_call.Create path told call
-AddsFileCalls path before now (Some fault.NoMemory) =
-    (now ≡ before) ⊎ AddsOne (IsCallOn file_call.Create path) before now
-AddsFileCalls path before now _ = now ≡ before
-
--- a call for what is at the path that is told, where a registry couldn't be made for it
-abbrev pub AddsRegistryCalls : List FailedCall → List FailedCall → Option RunFault → Type 0
-AddsRegistryCalls before now (Some (fault.Vendor (vendor_fault.File told))) =
-    (call : FailedCall) × (now ≡ before ++ call ∷ []) × IsCallFor told call
-AddsRegistryCalls before now (Some fault.NoMemory) =
-    (now ≡ before) ⊎ AddsOne IsCallFor before now
-AddsRegistryCalls before now _ = now ≡ before
-
--- else none failed
-abbrev pub AddsMakingCalls : Remedy → List FailedCall → List FailedCall → Option RunFault → Type 0
-AddsMakingCalls (WriteBaseline path) before now reason = AddsFileCalls path before now reason
-AddsMakingCalls (Vendor more) before now reason = AddsRegistryCalls before now reason
-AddsMakingCalls remedy before now reason = now ≡ before
 
 -- ---- by what is asked for
 
@@ -106,8 +64,8 @@ AddsCalls _ host before now reason = now ≡ before
 -- ---- starts
 
 -- without an audit, where a lockfile is generated: the start that generates it, as it ended; where
--- a call on the files failed it may have been made or not, and where memory ran out it may have
--- ended in any way
+-- a call on the files failed it may have been made or not, and where memory ran out too, and may
+-- have ended in any way
 abbrev pub StartsUnaudited : List Started → List Started → Option RunFault → Type 0
 StartsUnaudited before now (Some (fault.Generate status)) = AddsStart (Some status) before now
 StartsUnaudited before now (Some (fault.Start failed)) = AddsStart None before now

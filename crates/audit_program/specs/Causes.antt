@@ -14,13 +14,14 @@ use Rattle.audit_asked.specs.ForBinaries.{asked_for_binaries}
 use Rattle.audit_asked.specs.Refusals.{IsAskFault, IsReadFault, is_told, refused}
 use Rattle.audit_asked.specs.declared.asking.Asked.{Asked}
 use Rattle.audit_asked.specs.declared.faults.AskFault.{AskFault}
-use Rattle.audit_program.specs.declared.faults.RunFault.{RunFault}
-use Rattle.audit_program.specs.declared.faults.RunFault.TheVariants as fault
+use Rattle.audit_remedies.specs.declared.faults.RunFault.{RunFault}
+use Rattle.audit_remedies.specs.declared.faults.RunFault.TheVariants as fault
 use Rattle.vendor_registry.specs.declared.faults.VendorFault.TheVariants as vendor_fault
-use Rattle.audit_program.specs.Faults.{IsPrintFault, by_ask}
+use Rattle.audit_remedies.specs.Faults.{IsPrintFault, by_ask}
 use Rattle.audit_program.specs.Jobs.{Asking, OfTask}
-use Rattle.audit_program.specs.Makings.{IsMakingFault}
-use Rattle.audit_program.specs.Tasks.{baseline_path, task_asked}
+use Rattle.audit_remedies.specs.Makings.{IsMakingFault}
+use Rattle.audit_remedies.specs.Remedies.{baseline_path}
+use Rattle.audit_program.specs.Tasks.{task_asked}
 use Rattle.audit_program.specs.Worlds.{World}
 use Rattle.audit_program.specs.declared.tasks.Job.TheVariants as job
 use Rattle.audit_program.specs.declared.tasks.Task.{Task}
@@ -35,8 +36,8 @@ pub record HasNoLockfile (told : Type 0) (task : Task) (host : Host) (reason : L
   pub lockfile : locked given.text ≡ Err reason
   pub no_memory : reason ≢ lockfile_fault.NoMemory
 
--- what was asked isn't given, for this reason: what the host has gives this refusal, where the
--- host decides it
+-- what is asked of the host isn't given, for this reason, which what the host has gives, where it
+-- decides it
 pub record Refuses (told : Type 0) (task : Task) (host : Host) (reason : RunFault)
     : Type 0 where
   pub asked : AskFault
@@ -79,7 +80,7 @@ IsUsage (words_fault.Usage place) (fault.Usage told) = told ≡ place
 IsUsage reason fault.NoMemory = Unit {0}
 IsUsage reason _ = ⊥
 
--- a text and made packages are printed alone
+-- by what is asked for; help, the version and made packages fail by their put alone
 abbrev pub CauseOf : Type 0 → Asking → Host → RunFault → Type 0
 CauseOf told (Ok (job.Lockfile task)) host reason = TaskCause told task host reason
 CauseOf told (Ok (job.Binaries command more)) host reason = BinariesCause told command host reason

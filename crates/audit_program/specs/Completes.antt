@@ -10,8 +10,8 @@ use Rattle.audit_asked.specs.declared.binaries.AskedForBinaries.{AskedForBinarie
 use Rattle.audit_program.specs.Jobs.{Asking}
 use Rattle.audit_program.specs.Tasks.{task_asked}
 use Rattle.audit_program.specs.Worlds.{World}
-use Rattle.audit_program.specs.declared.faults.RunFault.{RunFault}
-use Rattle.audit_program.specs.declared.faults.RunFault.TheVariants as fault
+use Rattle.audit_remedies.specs.declared.faults.RunFault.{RunFault}
+use Rattle.audit_remedies.specs.declared.faults.RunFault.TheVariants as fault
 use Rattle.audit_program.specs.declared.tasks.Job.TheVariants as job
 use Rattle.audit_program.specs.declared.tasks.Task.{Task}
 

@@ -12,18 +12,20 @@ use Rattle.audit_core.specs.Checks.{asked_of, checks_of}
 use Rattle.audit_core.specs.Leaves.{AsksOnly, CallsBy}
 use Rattle.audit_core.specs.Turns.{StaysKept}
 use Rattle.audit_program.specs.BinaryRuns.{IsGivenBinariesRun, scan_of, tells_of}
-use Rattle.audit_program.specs.Calls.{AddsMakingCalls}
+use Rattle.audit_remedies.specs.Calls.{AddsMakingCalls}
 use Rattle.audit_program.specs.Causes.{HasCauses, IsAskedFault}
 use Rattle.audit_program.specs.Completes.{CountsGrow}
-use Rattle.audit_program.specs.Faults.{IsPrintFault}
+use Rattle.audit_remedies.specs.Faults.{IsPrintFault}
 use Rattle.audit_program.specs.Outcomes.{EndsBy, HasAudits}
-use Rattle.audit_program.specs.Outputs.{IsEnded}
-use Rattle.audit_program.specs.TaskRuns.{IsGivenRun, ending}
-use Rattle.audit_program.specs.Tasks.{ReadsCache, WritesFiles, task_place}
+use Rattle.audit_remedies.specs.Outputs.{IsEnded}
+use Rattle.audit_program.specs.TaskRuns.{IsGivenRun}
+use Rattle.audit_remedies.specs.Endings.{ending}
+use Rattle.audit_remedies.specs.Remedies.{ReadsCache, WritesFiles}
+use Rattle.audit_program.specs.Tasks.{task_place}
 use Rattle.audit_program.specs.Worlds.{Telling, Uncalled, World, holding_of, outside_of}
 use Rattle.audit_program.specs.declared.outcomes.Outcome.{Outcome}
-use Rattle.audit_program.specs.declared.faults.RunFault.{RunFault}
-use Rattle.audit_program.specs.declared.faults.RunFault.TheVariants as fault
+use Rattle.audit_remedies.specs.declared.faults.RunFault.{RunFault}
+use Rattle.audit_remedies.specs.declared.faults.RunFault.TheVariants as fault
 use Rattle.audit_program.specs.declared.tasks.Job.TheVariants as job
 use Rattle.audit_program.specs.declared.tasks.Task.{Task}
 

@@ -10,8 +10,8 @@ use Rattle.audit_words.specs.declared.commands.FixCommand.{FixCommand}
 use Rattle.audit_words.specs.declared.commands.WordsFault.{WordsFault}
 use Rattle.audit_program.specs.declared.tasks.Job.{Job}
 use Rattle.audit_program.specs.declared.tasks.Job.TheVariants as job
-use Rattle.audit_program.specs.declared.tasks.Remedy.{Remedy}
-use Rattle.audit_program.specs.declared.tasks.Remedy.TheVariants.{Report, Fix, Plan, Baseline, WriteBaseline, Vendor}
+use Rattle.audit_remedies.specs.declared.remedies.Remedy.{Remedy}
+use Rattle.audit_remedies.specs.declared.remedies.Remedy.TheVariants.{Report, Fix, Plan, Baseline, WriteBaseline, Vendor}
 use Rattle.audit_program.specs.declared.tasks.Task.{Task}
 
 -- the audit that `fix` makes: a lockfile that is named behind it stands for that of `audit`

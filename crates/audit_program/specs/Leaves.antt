@@ -1,7 +1,6 @@
 -- What a run leaves of what is outside, whatever its answer (this project).
-use Rattle.std.specs.Prelude.{◌≡◌, List, pos, Ok}
+use Rattle.std.specs.Prelude.{List}
 use Rattle.tame_names.specs.Standing.{IsInput, StaysButInput}
-use Rattle.audit_lock.specs.Locked.{locked}
 use Rattle.audit_lock.specs.declared.resolving.Package.{Package}
 use Rattle.audit_settings.specs.declared.configs.AuditConfig.{AuditConfig}
 use Rattle.audit_asked.specs.declared.asking.Asked.{Asked}
@@ -9,7 +8,8 @@ use Rattle.audit_core.specs.Checks.{asked_of, checks_of}
 use Rattle.audit_core.specs.Leaves.{AsksOnly, CallsBy}
 use Rattle.audit_program.specs.Causes.{Accepts}
 use Rattle.audit_program.specs.Jobs.{Asking, AsksBinaries, IfTask, NeedsNoHost}
-use Rattle.audit_program.specs.Tasks.{AsksWith, ReadsCache, Settles, WritesFiles, asking_place, task_asked}
+use Rattle.audit_program.specs.Tasks.{AsksWith, Settles, asking_place}
+use Rattle.audit_remedies.specs.Remedies.{ReadsCache, WritesFiles}
 use Rattle.audit_program.specs.Worlds.{Telling, Uncalled, World, holding_of}
 
 pub record Leaves (tells : Telling) (asking : Asking) (same : Uncalled) (before now : World)
@@ -21,13 +21,13 @@ pub record Leaves (tells : Telling) (asking : Asking) (same : Uncalled) (before 
   pub undecoded : (AsksBinaries asking → ⊥) → same.decoder
   pub unstarted : AsksBinaries asking → same.runner
   -- what the host has stays, but for standard input where it is the lockfile; where a baseline or a
-  -- registry is to be written, `audits` says which files are
+  -- registry is to be written, `audits` says which files are, and `without_lockfile` that none is
   pub files_same : tells.files → (AsksWith WritesFiles asking → ⊥)
       → StaysButInput (IsInput (asking_place asking)) before.host now.host
   -- nothing is asked of the wire and the cache where what the host has gives no lockfile
-  pub unaccepted : tells.files → IfTask (λ task. ((given : Asked) (packages : List Package)
-      → task_asked task before.host (pos 0) ≡ Ok given → locked given.text ≡ Ok packages → ⊥)
-      → same.wire × same.disk) asking
+  pub unaccepted : tells.files → ((given : Asked) (packages : List Package)
+      → Accepts asking before.host given packages → ⊥)
+      → IfTask (λ task. same.wire × same.disk) asking
   -- of a lockfile that it gives: what may change of exchanges, cache and folders is what belongs to
   -- the paths of its packages
   pub asks : tells.files → (given : Asked) (packages : List Package)

@@ -1,15 +1,14 @@
 -- Which audits a run has, and how it ends (this project).
-use Rattle.std.specs.Prelude.{◌≡◌, ◌⊎◌, ℕ, List, [], Some, None, Ok, Err, IsSome, IfSome, IfNone}
+use Rattle.std.specs.Prelude.{◌≡◌, ◌≢◌, ◌⊎◌, ℕ, List, [], Some, None, Ok, Err, IsSome, IsTrue, IfSome, IfNone}
 use Rattle.tame_names.specs.Counts.{CountRose}
-use Rattle.audit_words.specs.declared.commands.WordsFault.TheVariants as words_fault
+use Rattle.audit_words.specs.declared.commands.WordsFault.{WordsFault}
 use Rattle.vendor_registry.specs.declared.faults.VendorFault.{VendorFault}
-use Rattle.audit_program.specs.Faults.{IsPrintFault}
+use Rattle.audit_remedies.specs.Faults.{IsEarly, IsPrintFault, fault_status, is_early}
 use Rattle.audit_program.specs.Jobs.{Asking}
-use Rattle.audit_program.specs.Outputs.{IsEnded, IsPutBy}
-use Rattle.audit_program.specs.Statuses.{IsEarlyBy, fault_status}
+use Rattle.audit_remedies.specs.Outputs.{IsEnded, IsPutBy}
 use Rattle.audit_program.specs.declared.outcomes.Outcome.{Outcome}
-use Rattle.audit_program.specs.declared.faults.RunFault.{RunFault}
-use Rattle.audit_program.specs.declared.faults.RunFault.TheVariants as run_fault
+use Rattle.audit_remedies.specs.declared.faults.RunFault.{RunFault}
+use Rattle.audit_remedies.specs.declared.faults.RunFault.TheVariants as run_fault
 use Rattle.audit_program.specs.declared.tasks.Job.TheVariants as job
 
 -- it has what was asked for
@@ -18,6 +17,11 @@ HasAsked (Ok (job.Lockfile task)) outcome = IsSome outcome.audited
 HasAsked (Ok (job.Binaries command more)) outcome = IsSome outcome.binaries
 HasAsked (Ok (job.Generate n)) outcome = IsSome outcome.generated
 HasAsked _ outcome = Unit {0}
+
+-- it comes before any audit; the file of a baseline is made behind it
+abbrev pub IsEarlyBy : Asking → RunFault → Type 0
+IsEarlyBy (Ok (job.Lockfile task)) reason = IsEarly task.remedy reason
+IsEarlyBy _ reason = IsTrue (is_early reason)
 
 -- a run without a fault has what was asked for, and so has one where a put failed; a registry that
 -- couldn't be made leaves the audit; an early fault leaves no audit; and there is no plan without
@@ -31,14 +35,14 @@ pub record HasAudits (asking : Asking) (outcome : Outcome) : Type 0 where
       → (outcome.audited ≡ None) × (outcome.binaries ≡ None))
   pub no_plan : IfNone outcome.audited (outcome.plan ≡ None)
 
--- the status is that of the fault, and 0 where a text alone is printed; words that break a rule end
--- with the fault of that rule, or for want of memory
+-- the status is that of the fault, and 0 where help, the version or the lines for made packages are
+-- printed; words that break a rule end with a fault, which is that of the rule or want of memory
+-- (`CauseOf`)
 pub record EndsBy (asking : Asking) (outcome : Outcome) : Type 0 where
   pub status : (f : RunFault) → outcome.fault ≡ Some f → outcome.status ≡ fault_status f
   pub plain : outcome.fault ≡ None
       → IfNone outcome.audited (IfNone outcome.binaries (outcome.status ≡ 0))
-  pub usage : (place : ℕ) → asking ≡ Err (words_fault.Usage place)
-      → (outcome.fault ≡ Some (run_fault.Usage place)) ⊎ (outcome.fault ≡ Some run_fault.NoMemory)
+  pub usage : (broken : WordsFault) → asking ≡ Err broken → outcome.fault ≢ None
 
 -- a text is put, and nothing is done but that: the run ends without a fault, with a put that
 -- failed, or for want of memory

@@ -6,15 +6,15 @@ use Rattle.audit_generator.specs.Moments.{IsGenerated}
 use Rattle.audit_generator.specs.declared.generating.Generated.{Generated}
 use Rattle.audit_program.specs.BinaryRuns.{AreBinariesRun, ArePartlyRun}
 use Rattle.audit_program.specs.Causes.{CauseOf, HasCauses}
-use Rattle.audit_program.specs.Completes.{AllStayed, IsComplete, IsReady}
 use Rattle.audit_program.specs.Jobs.{Asking, IfBinaries, OfBinaries, OfTask}
 use Rattle.audit_program.specs.Leaves.{Leaves}
 use Rattle.audit_program.specs.Outcomes.{EndsBy, HasAudits}
-use Rattle.audit_program.specs.TaskRuns.{IsTaskRun, ending}
+use Rattle.audit_program.specs.TaskRuns.{IsTaskRun}
+use Rattle.audit_remedies.specs.Endings.{ending}
 use Rattle.audit_program.specs.Unaudited.{HasFailedCalls, IsWithoutAudit, IsWithoutLockfile}
 use Rattle.audit_program.specs.Worlds.{Telling, Uncalled, World}
 use Rattle.audit_program.specs.declared.outcomes.Outcome.{Outcome}
-use Rattle.audit_program.specs.declared.faults.RunFault.TheVariants as fault
+use Rattle.audit_remedies.specs.declared.faults.RunFault.TheVariants as fault
 use Rattle.audit_program.specs.declared.tasks.Job.TheVariants as job
 
 -- these are the two audits of so many made packages
@@ -36,8 +36,8 @@ pub record AreAudits (tells : Telling) (asking : Asking) (same : Uncalled) (befo
   pub binaries : IfSome outcome.binaries (λ b. OfBinaries (λ command more.
       AreBinariesRun tells command more before now
       (ending outcome.fault outcome.status outcome.plan) b) asking)
-  -- where memory ran out before all were answered: wire and cache weren't called, or the first of
-  -- them are answered so, and the next one at most was begun
+  -- where memory ran out and there are no answers: wire and cache are what they were, or the first
+  -- binaries were audited so, and the next one at most was begun
   pub partly : IfBinaries (λ command more. outcome.fault ≡ Some fault.NoMemory
       → IfNone outcome.binaries ((same.wire × same.disk)
       ⊎ ArePartlyRun tells command more before now)) asking
@@ -49,26 +49,25 @@ pub record IsRun (tells : Telling) (asking : Asking) (same : Uncalled) (before n
     (outcome : Outcome) : Type 0 where
   -- what each audit says, what is made and put of it, which steps were started, and the status
   pub audits : AreAudits tells asking same before now outcome
-  -- where there is an audit
+  -- where there is an audit, where there is none, and where there is no plan
   pub has : HasAudits asking outcome
-  -- the status of a fault, and where a text alone is printed; the fault of words that break a rule
+  -- the status of a fault, and that of help, the version and made packages; words that break a rule
+  -- have a fault
   pub ends : EndsBy asking outcome
   -- why it has a fault, and which counts rose then
   pub causes : HasCauses (CauseOf tells.files asking before.host) before now outcome.fault
-  -- where the host gives all that is asked for, and no call on its files, start or output fails, it
-  -- ends without a fault but want of memory, or that a registry couldn't be made
-  pub complete : tells.files → IsReady asking before.host → AllStayed before now
-      → IsComplete outcome.fault
   -- where no lockfile was audited, as for help, made packages and every audit of binaries: at most
-  -- one start, and what the host has stays
+  -- one start, and what the host has stays, but for standard input where it is the lockfile
   pub without_lockfile : IfNone outcome.audited
       (IsWithoutLockfile tells asking before now outcome.fault)
   -- where neither a lockfile nor binaries were audited: what is put, and what isn't called
   pub without_audit : IfNone outcome.audited (IfNone outcome.binaries
       (IsWithoutAudit tells asking same before now outcome.fault))
-  -- which calls on the host failed; where no lockfile was audited it was one of asking
+  -- which calls on the host failed; where an audit of a lockfile was asked for and none was made,
+  -- it was one of asking
   pub failed : tells.files → HasFailedCalls tells.runner asking before now outcome
-  -- however it ends, a kept disk is kept at every moment where the exchanges were honest
+  -- however it ends, where all its exchanges were honest: a kept disk is kept, and was so at every
+  -- moment of the run
   pub kept : tells.wire → tells.disk
       → StaysKept before.exchanges now.exchanges before.cache now.cache
   -- however it ends, what it leaves of what is outside, by the words and what the host had

@@ -1,5 +1,5 @@
 -- What an audit of a lockfile asks for, and what is done with it (this project).
-use Rattle.std.specs.Prelude.{◌≡◌, ℕ, ℤ, List, [], Bool, false, Option, Some, None, Result, Ok}
+use Rattle.std.specs.Prelude.{◌≡◌, ℕ, ℤ, List, [], Bool, false, Result, Ok}
 use Rattle.tame_names.specs.Standing.{Host}
 use Rattle.tame_names.specs.declared.host.FailedCall.{FailedCall}
 use Rattle.audit_settings.specs.declared.configs.AuditConfig.{AuditConfig}
@@ -11,16 +11,11 @@ use Rattle.audit_asked.specs.declared.asking.Asked.{Asked}
 use Rattle.audit_asked.specs.declared.runners.Started.{Started}
 use Rattle.audit_program.specs.Jobs.{Asking, OfTask}
 use Rattle.audit_program.specs.declared.tasks.Job.TheVariants as job
-use Rattle.audit_program.specs.declared.tasks.Remedy.{Remedy}
-use Rattle.audit_program.specs.declared.tasks.Remedy.TheVariants.{Plan, Baseline, WriteBaseline, Vendor}
+use Rattle.audit_remedies.specs.declared.remedies.Remedy.{Remedy}
 use Rattle.audit_program.specs.declared.tasks.Task.{Task}
+use Rattle.audit_remedies.specs.Remedies.{baseline_path}
 
 -- ---- what it asks for
-
--- the baseline that is named
-abbrev pub baseline_path : Remedy → Option (List ℕ)
-baseline_path (Baseline path) = Some path
-baseline_path _ = None
 
 -- what it asks of its host, or the first refusal; where a lockfile is to be generated, by the
 -- status that its start ends with
@@ -63,23 +58,6 @@ Settles (Ok (job.Binaries command more)) host config = settled command host ≡ 
 Settles _ host config = ⊥
 
 -- ---- what is done with the audit
-
--- the cache is read once more
-abbrev pub ReadsCache : Remedy → Type 0
-ReadsCache Plan = Unit {0}
-ReadsCache (Vendor more) = Unit {0}
-ReadsCache _ = ⊥
-
--- files are written
-abbrev pub WritesFiles : Remedy → Type 0
-WritesFiles (WriteBaseline path) = Unit {0}
-WritesFiles (Vendor more) = Unit {0}
-WritesFiles _ = ⊥
-
--- a registry is made
-abbrev pub MakesRegistry : Remedy → Type 0
-MakesRegistry (Vendor more) = Unit {0}
-MakesRegistry _ = ⊥
 
 -- an audit is asked for with which this is done
 abbrev pub AsksWith : (Remedy → Type 0) → Asking → Type 0

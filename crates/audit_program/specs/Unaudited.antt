@@ -1,16 +1,27 @@
 -- What a run does that audits no lockfile, or nothing of what the host has (this project).
-use Rattle.std.specs.Prelude.{◌≡◌, ◌≢◌, ℕ, [], Option, Some, IfNone}
+use Rattle.std.specs.Prelude.{◌≡◌, ◌≢◌, ℕ, [], Option, Some, IfNone, ◌++◌, codes, List, Ok}
 use Rattle.tame_names.specs.Standing.{IsInput, StaysButInput}
 use Rattle.audit_asked.specs.Starts.{StartsAtMost}
 use Rattle.audit_program.specs.Calls.{AddsCalls, AddsRunCall, StartsWhere}
 use Rattle.audit_program.specs.Jobs.{Asking, IfTask}
-use Rattle.audit_program.specs.Outputs.{IsEnded, IsPutBy, plain_text}
+use Rattle.audit_remedies.specs.Outputs.{IsEnded, IsPutBy}
 use Rattle.audit_program.specs.Tasks.{IsOrderedTaskCall, IsTaskCall, asking_generates, asking_place}
 use Rattle.audit_program.specs.Worlds.{Telling, Uncalled, World}
 use Rattle.audit_program.specs.declared.outcomes.Outcome.{Outcome}
-use Rattle.audit_program.specs.declared.faults.RunFault.{RunFault}
-use Rattle.audit_program.specs.declared.faults.RunFault.TheVariants as fault
+use Rattle.audit_remedies.specs.declared.faults.RunFault.{RunFault}
+use Rattle.audit_remedies.specs.declared.faults.RunFault.TheVariants as fault
 use Rattle.audit_program.specs.declared.tasks.Task.{Task}
+use Rattle.audit_words.specs.declared.texts.TheConstants.{HELP_TEXT}
+use Rattle.audit_generator.specs.Summaries.{summary_for}
+use Rattle.audit_program.specs.declared.tasks.Job.TheVariants as job
+
+-- the text for help or of the version, with a newline, and the lines for made packages; nothing
+-- else is printed without an audit of what the host has
+abbrev pub plain_text : Asking → List ℕ
+plain_text (Ok job.Help) = HELP_TEXT.now ++ codes "\n"
+plain_text (Ok job.Version) = codes "cargo-audit 0.22.2\n"
+plain_text (Ok (job.Generate n)) = summary_for n
+plain_text _ = []
 
 -- without an audit of a lockfile: at most the start that generates one, as it ended, and one start
 -- failed where that is the fault; and what the host has stays, but for standard input where it is
@@ -42,7 +53,8 @@ pub record HasFailedAsking (told : Type 0) (task : Task) (before now : World)
   pub ordered : told → AddsRunCall (IsOrderedTaskCall task before.host before.starts now.starts)
       before.failed now.failed reason
 
--- which failed, by what is asked for; without an audit of a lockfile it was one of asking
+-- which failed, by what is asked for; where that is the audit of a lockfile and none was made, it
+-- was one of asking
 pub record HasFailedCalls (told : Type 0) (asking : Asking) (before now : World)
     (outcome : Outcome) : Type 0 where
   pub calls : AddsCalls asking before.host before.failed now.failed outcome.fault

@@ -7,8 +7,9 @@ use Rattle.tame_sparse.specs.declared.network.Exchange.{Exchange}
 use Rattle.audit_asked.specs.declared.runners.Started.{Started}
 use Rattle.audit_core.specs.Audits.{Moment}
 use Rattle.audit_core.specs.Leaves.{Holding}
-use Rattle.audit_binaries.specs.Binaries.{Outside}
+use Rattle.audit_binaries.specs.Binaries.{Outside, outside}
 use Rattle.audit_binaries.specs.Decoding.{DecoderAnswers}
+use Rattle.audit_remedies.specs.Moments.{moment}
 
 -- the exchanges with the server so far; the cache's files and folders; what the host has, and the
 -- calls on it that failed; what its decoder answers; the programs that were started, with how they
@@ -75,7 +76,7 @@ telling files decoder runner wire disk out err = record {
   err = err;
 }
 
--- that each of them but the outputs is what it was: not even a call was made
+-- that each of them but the outputs is the very object that it was
 pub record Uncalled : Type 1 where
   pub files : Type 0
   pub decoder : Type 0
@@ -94,25 +95,13 @@ uncalled files decoder runner wire disk = record {
 
 -- ---- as the crates below speak of it
 
-abbrev pub moment : List Exchange → Disk → ℕ → ℕ → Moment
-moment exchanges files wire_faults disk_faults = record {
-  exchanges = exchanges;
-  files = files;
-  wire_faults = wire_faults;
-  disk_faults = disk_faults;
-}
-
 abbrev pub moment_of : World → Moment
 moment_of w = moment w.exchanges w.cache w.wire_faults w.disk_faults
 
 abbrev pub outside_of : World → Outside
-outside_of w = record {
-  moment = moment_of w;
-  folders = w.folders;
-  failed = w.failed;
-  file_faults = w.file_faults;
-  decode_faults = w.decode_faults;
-}
+outside_of w =
+    outside w.exchanges w.cache w.wire_faults w.disk_faults w.folders w.failed w.file_faults
+    w.decode_faults
 
 abbrev pub holding_of : World → Holding
 holding_of w = record { exchanges = w.exchanges; files = w.cache; folders = w.folders }

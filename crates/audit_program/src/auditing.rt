@@ -9,10 +9,10 @@ ghost use Rattle.audit_core.specs.Checks.{asked_of};
 ghost use Rattle.audit_core.specs.Turns.{StaysKept};
 ghost use Rattle.audit_program.specs.Causes.{IsAuditFault};
 ghost use Rattle.audit_core.specs.Leaves.{AsksOnly, CallsBy, holding};
-ghost use Rattle.audit_program.specs.Worlds.{moment};
+ghost use Rattle.audit_remedies.specs.Moments.{moment};
 
-use crate::faults::RunFault;
 use audit_core::{AuditError, Audited, Auditor};
+use audit_remedies::RunFault;
 use std::alloc::Global;
 use tame_cache::CacheDisk;
 use tame_names::FileLock;

@@ -3,36 +3,21 @@ ghost use Rattle.std.specs.Prelude.{◌≡◌, ℕ, List, Ok};
 ghost use Rattle.audit_asked.specs.declared.runners.Started.{Started};
 ghost use Rattle.audit_program.specs.Given.{AreBinariesOf};
 ghost use Rattle.audit_program.specs.Runs.{IsRun};
-ghost use Rattle.audit_program.specs.Statuses as spec;
 ghost use Rattle.audit_program.specs.Worlds.{telling, uncalled, world};
 ghost use Rattle.audit_program.specs.declared.tasks.Job.TheVariants as Job;
 
-use crate::faults::RunFault;
 use crate::outcomes::{Outcome, failed};
 use audit_asked::{AskedForBinaries, ask_for_binaries};
-use audit_binaries::{BinaryLimits, Decoder, MultiFileReportSummary, audit_binaries};
+use audit_binaries::{BinaryLimits, Decoder, audit_binaries, summary_status};
 use audit_core::Auditor;
 use audit_output::{BinarySheet, print_binaries};
+use audit_remedies::RunFault;
 use audit_settings::AuditCommand;
 use audit_words::BinCommand;
 use std::alloc::Global;
 use tame_cache::CacheDisk;
 use tame_names::{FileLock, Files, Sink};
 use tame_sparse::Wire;
-
-/// The status of audits of binaries: 1 where vulnerabilities were found, else 2 where errors were,
-/// else 0.
-fn summary_status(summary: MultiFileReportSummary) -> u8
-    ensures { result ≡ spec.summary_status summary }
-{
-    if summary.vulnerabilities_found {
-        1
-    } else if summary.errors_encountered {
-        2
-    } else {
-        0
-    }
-}
 
 /// Audits the binaries at the paths of the words, and prints the audits.
 fn run_asked<F: Files, P: Decoder, W: Wire, D: CacheDisk, O: Sink, E: Sink>(

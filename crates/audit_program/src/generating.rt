@@ -6,10 +6,10 @@ ghost use Rattle.audit_generator.specs.Summaries.{summary_for};
 ghost use Rattle.audit_report.specs.Outputs.{IsPut};
 ghost use Rattle.audit_program.specs.Outcomes.{PutsAlone};
 
-use crate::faults::RunFault;
 use crate::outcomes::{Outcome, failed};
 use audit_generator::{Generated, generate, summary_text};
 use audit_output::{PrintFault, put_text};
+use audit_remedies::RunFault;
 use std::alloc::Global;
 use tame_names::Sink;
 

@@ -11,10 +11,12 @@ ghost use Rattle.audit_core.specs.declared.checking.Checks.TheVariants.{Off, Onl
 ghost use Rattle.upgrade_plan.specs.HeldPlans.{ArePlannedByHeld};
 ghost use Rattle.upgrade_plan.specs.declared.plans.PlanItem.{PlanItem};
 ghost use Rattle.audit_program.specs.Causes.{Accepts};
+ghost use Rattle.audit_program.specs.Completes.{AllStayed, IsComplete, IsReady};
 ghost use Rattle.audit_program.specs.HonestRuns.{AsksOnline, IsHonestRun};
 ghost use Rattle.audit_program.specs.Jobs.{Asking, NeedsNoHost, asking_of};
 ghost use Rattle.audit_program.specs.Runs.{IsRun};
-ghost use Rattle.audit_program.specs.Tasks.{AsksWith, ReadsCache, Settles, task_asked};
+ghost use Rattle.audit_program.specs.Tasks.{AsksWith, Settles, task_asked};
+ghost use Rattle.audit_remedies.specs.Remedies.{ReadsCache};
 ghost use Rattle.audit_program.specs.Worlds.{World, telling, uncalled};
 ghost use Rattle.audit_program.specs.declared.outcomes.Outcome.{Outcome};
 ghost use Rattle.audit_program.specs.declared.tasks.Job.TheVariants as Job;
@@ -78,6 +80,20 @@ pub fn plans_of_runs_tell_what_the_server_held<
         → checks_of given.config ≡ Online → IsHonestRun
         (telling F.tells P.tells R.tells W.tells D.tells O.tells E.tells) before now added
         → ArePlannedByHeld given.advisories audited added items }
+{}
+
+/// A run can't make up a fault. Where the host gives all that is asked for, and no call on its
+/// files, no start and no output failed, it ends without a fault but want of memory, or that a
+/// registry couldn't be made.
+pub fn runs_are_complete<F: Files, P: Decoder, R: Runner, W: Wire, D: CacheDisk, O: Sink, E: Sink>()
+    ensures { (files files_now : F) (decoder decoder_now : P) (runner runner_now : R)
+        (wire wire_now : W) (disk disk_now : D) (asking : Asking) (before now : World)
+        (outcome : Outcome)
+        → IsRun (telling F.tells P.tells R.tells W.tells D.tells O.tells E.tells) asking
+        (uncalled (files_now ≡ files) (decoder_now ≡ decoder) (runner_now ≡ runner)
+        (wire_now ≡ wire) (disk_now ≡ disk)) before now outcome
+        → F.tells → IsReady asking before.host → AllStayed before now
+        → IsComplete outcome.fault }
 {}
 
 /// Help, the version, made packages and words that break a rule need nothing but the outputs: no

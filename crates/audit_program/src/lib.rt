@@ -18,26 +18,21 @@
 
 mod auditing;
 mod binary_runs;
-mod fault_lines;
-mod faults;
-mod finishes;
-mod fix_runs;
 mod generating;
 mod laws;
-mod makings;
 mod outcomes;
 mod running;
 mod task_runs;
 mod tasks;
 
+pub use audit_remedies::{Remedy, RunFault, fault_line};
 pub use audit_words::{
     BinCommand, CONFIG_FILE, Command, FixCommand, VERSION, VendorCommand, WordsFault, read_words,
 };
-pub use fault_lines::fault_line;
-pub use faults::RunFault;
 pub use laws::{
     nothing_is_asked_without_a_lockfile, nothing_is_called_where_checks_are_off,
-    plans_of_runs_tell_what_the_server_held, runs_match_the_server, texts_need_no_host,
+    plans_of_runs_tell_what_the_server_held, runs_are_complete, runs_match_the_server,
+    texts_need_no_host,
 };
 pub use outcomes::Outcome;
 pub use running::run;

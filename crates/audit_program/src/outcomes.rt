@@ -1,14 +1,13 @@
 //! How a run ends.
 ghost use Rattle.std.specs.Prelude.{◌≡◌, ◌≤◌, ◌⊎◌, ℕ, List, Some, None};
-ghost use Rattle.audit_program.specs.FaultLines.{fault_line};
-ghost use Rattle.audit_program.specs.Outputs.{IsEnded, IsLinePut, IsPutBy};
-ghost use Rattle.audit_program.specs.Statuses as spec;
+ghost use Rattle.audit_remedies.specs.FaultLines.{fault_line};
+ghost use Rattle.audit_remedies.specs.Outputs.{IsEnded, IsLinePut, IsPutBy};
+ghost use Rattle.audit_remedies.specs.Faults as spec;
 
-use crate::fault_lines::fault_line;
-use crate::faults::RunFault;
 use audit_binaries::BinariesAudit;
 use audit_core::Audited;
 use audit_generator::Generated;
+use audit_remedies::{RunFault, fault_line};
 use std::alloc::Global;
 use tame_names::{Items, Sink, put_counted};
 use upgrade_plan::PlanItem;

@@ -6,7 +6,6 @@ ghost use Rattle.audit_program.specs.Runs.{IsRun};
 ghost use Rattle.audit_program.specs.Worlds.{telling, uncalled, world};
 
 use crate::binary_runs::run_binaries;
-use crate::faults::RunFault;
 use crate::generating::run_generated;
 use crate::outcomes::{Outcome, failed};
 use crate::task_runs::run_task;
@@ -14,6 +13,7 @@ use crate::tasks::{Job, read_job};
 use audit_asked::Runner;
 use audit_binaries::Decoder;
 use audit_output::print_text;
+use audit_remedies::RunFault;
 use audit_words::{HELP_TEXT, VERSION_TEXT, WordsFault};
 use std::alloc::Global;
 use tame_cache::CacheDisk;

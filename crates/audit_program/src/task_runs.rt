@@ -7,14 +7,12 @@ ghost use Rattle.audit_program.specs.Worlds.{telling, uncalled, world};
 ghost use Rattle.audit_program.specs.declared.tasks.Job.TheVariants as Job;
 
 use crate::auditing::audit;
-use crate::faults::RunFault;
-use crate::finishes::finish;
-use crate::makings::make;
 use crate::outcomes::{Outcome, failed};
 use crate::tasks::Task;
 use audit_asked::{Asked, Runner, ask};
 use audit_core::Auditor;
 use audit_output::Sheet;
+use audit_remedies::{RunFault, finish, make};
 use std::alloc::Global;
 use tame_cache::CacheDisk;
 use tame_names::{FileLock, Files, Sink};

@@ -3,29 +3,13 @@ ghost use Rattle.std.specs.Prelude.{◌≡◌, ◌≢◌, map, Ok, Err, IfOk, If
 ghost use Rattle.audit_words.specs.declared.commands.WordsFault.TheVariants as WordsFault;
 ghost use Rattle.audit_program.specs.Jobs.{asking_of};
 ghost use Rattle.audit_program.specs.Jobs as spec;
-ghost use Rattle.audit_program.specs.Tasks.{baseline_path, task_place};
+ghost use Rattle.audit_remedies.specs.Remedies.{baseline_path};
+ghost use Rattle.audit_program.specs.Tasks.{task_place};
 
+use audit_remedies::Remedy;
 use audit_settings::AuditCommand;
-use audit_words::{BinCommand, Command, FixCommand, VendorCommand, WordsFault, read_words};
+use audit_words::{BinCommand, Command, FixCommand, WordsFault, read_words};
 use std::alloc::Global;
-use tame_names::Text;
-
-/// What is done with an audit.
-#[derive(Debug, Drop)]
-pub enum Remedy {
-    /// What was found is reported.
-    Report,
-    /// Updates are planned and started as well; in a dry run cargo is told to change nothing.
-    Fix { dry_run: bool },
-    /// For each vulnerable package the version that it may go to is told, in place of a report.
-    Plan,
-    /// What the baseline in the file at this path doesn't list is told, in place of a report.
-    Baseline(Text),
-    /// What was found is written as a baseline to a file at this path.
-    WriteBaseline(Text),
-    /// A local registry is made of the packages.
-    Vendor(VendorCommand),
-}
 
 /// An audit of a lockfile.
 #[derive(Debug, Drop)]

@@ -1,16 +1,17 @@
 //! Rows that the definitions compute: each clause is an equation whose left side is a definition
 //! at written values.
 ghost use Rattle.std.specs.Prelude.{◌≡◌, [], codes, true, false, None};
-ghost use Rattle.audit_program.specs.declared.faults.RunFault.TheVariants as fault;
+ghost use Rattle.audit_remedies.specs.declared.faults.RunFault.TheVariants as fault;
 ghost use Rattle.audit_core.specs.declared.verdicts.Cause.TheVariants as cause;
 ghost use Rattle.audit_core.specs.declared.verdicts.Verdict.TheVariants.{NotYanked, Unchecked, Yanked};
 ghost use Rattle.audit_lock.specs.declared.listed.LockRule.TheVariants as rule;
 ghost use Rattle.audit_lock.specs.declared.lockfiles.LockfileFault.TheVariants as lockfile_fault;
 ghost use Rattle.audit_output.specs.BinaryOutputs.{refused_line};
-ghost use Rattle.audit_program.specs.FaultLines.{fault_line};
+ghost use Rattle.audit_remedies.specs.FaultLines.{fault_line};
 ghost use Rattle.audit_output.specs.Printed.{verdict_word};
 ghost use Rattle.audit_binaries.specs.declared.answers.BinaryFault.TheVariants as binary_fault;
-ghost use Rattle.audit_program.specs.Statuses.{fault_status, summary_status};
+ghost use Rattle.audit_binaries.specs.Summaries.{summary_status};
+ghost use Rattle.audit_remedies.specs.Faults.{fault_status};
 ghost use Rattle.audit_settings.specs.declared.configs.SettingsFault.TheVariants as settings_fault;
 
 /// The words of verdicts, and the statuses of faults.

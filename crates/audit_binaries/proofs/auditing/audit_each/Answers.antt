@@ -1,8 +1,8 @@
 use Rattle.std.proofs.Common.{Ok, refl, ap, ◌∙◌, ◌∷◌, [], ◌++◌, ◌+◌}
 use Rattle.audit_core.proofs.Exchanged.{keeps_more, keeps_nothing}
-use Rattle.audit_binaries.specs.Binaries.{IsBinary, IsCutOff, Outside, Scan, Tells}
+use Rattle.audit_binaries.specs.Binaries.{IsBinary, IsCutOff, Outside, Scan, Tells, outside}
 use Rattle.audit_binaries.specs.declared.answers.BinaryAnswer.{BinaryAnswer}
-use Rattle.audit_binaries.proofs.Chained.{Around, binaries_next, grown_binary, grown_cut, grown_none, grown_then, if_err, partly_cut, partly_done, uncalled_more}
+use Rattle.audit_binaries.proofs.Chained.{binaries_next, grown_binary, grown_cut, grown_none, grown_then, if_err, partly_cut, partly_done, uncalled_more}
 use Rattle.audit_binaries.proofs.Moved.{With, binary_moved, cut_moved}
 use Rattle.audit_binaries.proofs.auditing.audit_each.Goals as goal
 
@@ -29,9 +29,9 @@ loop-path-preserved g c =
     let decoded = g.P.Decoder.answers c.args.decoder.now in
     let then = g.P.Decoder.answers c.loop-path.decoder in
     let scan : Scan = With c.args.auditor.now c.args.limits.now host decoded in
-    let began : Outside = Around (g.W.Wire.exchanges c.args.wire.now) (g.D.CacheDisk.past c.args.disk.now) (g.W.Wire.faults c.args.wire.now) (g.D.CacheDisk.faults c.args.disk.now) (g.D.CacheDisk.folders c.args.disk.now) (g.F.Files.failed c.args.files.now) (g.F.Files.faults c.args.files.now) (g.P.Decoder.faults c.args.decoder.now) in
-    let mid : Outside = Around (g.W.Wire.exchanges c.loop-path.wire) (g.D.CacheDisk.past c.loop-path.disk) (g.W.Wire.faults c.loop-path.wire) (g.D.CacheDisk.faults c.loop-path.disk) (g.D.CacheDisk.folders c.loop-path.disk) (g.F.Files.failed c.loop-path.files) (g.F.Files.faults c.loop-path.files) (g.P.Decoder.faults c.loop-path.decoder) in
-    let ended : Outside = Around (g.W.Wire.exchanges c.audit_binary.new.wire) (g.D.CacheDisk.past c.audit_binary.new.disk) (g.W.Wire.faults c.audit_binary.new.wire) (g.D.CacheDisk.faults c.audit_binary.new.disk) (g.D.CacheDisk.folders c.audit_binary.new.disk) (g.F.Files.failed c.audit_binary.new.files) (g.F.Files.faults c.audit_binary.new.files) (g.P.Decoder.faults c.audit_binary.new.decoder) in
+    let began : Outside = outside (g.W.Wire.exchanges c.args.wire.now) (g.D.CacheDisk.past c.args.disk.now) (g.W.Wire.faults c.args.wire.now) (g.D.CacheDisk.faults c.args.disk.now) (g.D.CacheDisk.folders c.args.disk.now) (g.F.Files.failed c.args.files.now) (g.F.Files.faults c.args.files.now) (g.P.Decoder.faults c.args.decoder.now) in
+    let mid : Outside = outside (g.W.Wire.exchanges c.loop-path.wire) (g.D.CacheDisk.past c.loop-path.disk) (g.W.Wire.faults c.loop-path.wire) (g.D.CacheDisk.faults c.loop-path.disk) (g.D.CacheDisk.folders c.loop-path.disk) (g.F.Files.failed c.loop-path.files) (g.F.Files.faults c.loop-path.files) (g.P.Decoder.faults c.loop-path.decoder) in
+    let ended : Outside = outside (g.W.Wire.exchanges c.audit_binary.new.wire) (g.D.CacheDisk.past c.audit_binary.new.disk) (g.W.Wire.faults c.audit_binary.new.wire) (g.D.CacheDisk.faults c.audit_binary.new.disk) (g.D.CacheDisk.folders c.audit_binary.new.disk) (g.F.Files.failed c.audit_binary.new.files) (g.F.Files.faults c.audit_binary.new.files) (g.P.Decoder.faults c.audit_binary.new.decoder) in
     let inv = c.loop-path.invariant in
     let i = c.loop-path.path-index in
     let path = c.path-item.result in
@@ -63,9 +63,9 @@ returns-in_err-answer-clause-cut g c =
     let decoded = g.P.Decoder.answers c.args.decoder.now in
     let then = g.P.Decoder.answers c.loop-path.decoder in
     let scan : Scan = With c.args.auditor.now c.args.limits.now host decoded in
-    let began : Outside = Around (g.W.Wire.exchanges c.args.wire.now) (g.D.CacheDisk.past c.args.disk.now) (g.W.Wire.faults c.args.wire.now) (g.D.CacheDisk.faults c.args.disk.now) (g.D.CacheDisk.folders c.args.disk.now) (g.F.Files.failed c.args.files.now) (g.F.Files.faults c.args.files.now) (g.P.Decoder.faults c.args.decoder.now) in
-    let mid : Outside = Around (g.W.Wire.exchanges c.loop-path.wire) (g.D.CacheDisk.past c.loop-path.disk) (g.W.Wire.faults c.loop-path.wire) (g.D.CacheDisk.faults c.loop-path.disk) (g.D.CacheDisk.folders c.loop-path.disk) (g.F.Files.failed c.loop-path.files) (g.F.Files.faults c.loop-path.files) (g.P.Decoder.faults c.loop-path.decoder) in
-    let ended : Outside = Around (g.W.Wire.exchanges c.audit_binary.new.wire) (g.D.CacheDisk.past c.audit_binary.new.disk) (g.W.Wire.faults c.audit_binary.new.wire) (g.D.CacheDisk.faults c.audit_binary.new.disk) (g.D.CacheDisk.folders c.audit_binary.new.disk) (g.F.Files.failed c.audit_binary.new.files) (g.F.Files.faults c.audit_binary.new.files) (g.P.Decoder.faults c.audit_binary.new.decoder) in
+    let began : Outside = outside (g.W.Wire.exchanges c.args.wire.now) (g.D.CacheDisk.past c.args.disk.now) (g.W.Wire.faults c.args.wire.now) (g.D.CacheDisk.faults c.args.disk.now) (g.D.CacheDisk.folders c.args.disk.now) (g.F.Files.failed c.args.files.now) (g.F.Files.faults c.args.files.now) (g.P.Decoder.faults c.args.decoder.now) in
+    let mid : Outside = outside (g.W.Wire.exchanges c.loop-path.wire) (g.D.CacheDisk.past c.loop-path.disk) (g.W.Wire.faults c.loop-path.wire) (g.D.CacheDisk.faults c.loop-path.disk) (g.D.CacheDisk.folders c.loop-path.disk) (g.F.Files.failed c.loop-path.files) (g.F.Files.faults c.loop-path.files) (g.P.Decoder.faults c.loop-path.decoder) in
+    let ended : Outside = outside (g.W.Wire.exchanges c.audit_binary.new.wire) (g.D.CacheDisk.past c.audit_binary.new.disk) (g.W.Wire.faults c.audit_binary.new.wire) (g.D.CacheDisk.faults c.audit_binary.new.disk) (g.D.CacheDisk.folders c.audit_binary.new.disk) (g.F.Files.failed c.audit_binary.new.files) (g.F.Files.faults c.audit_binary.new.files) (g.P.Decoder.faults c.audit_binary.new.decoder) in
     let inv = c.loop-path.invariant in
     let i = c.loop-path.path-index in
     let path = c.path-item.result in
@@ -80,9 +80,9 @@ returns-in_err-answer-clause-kept g c told_wire told =
     let decoded = g.P.Decoder.answers c.args.decoder.now in
     let then = g.P.Decoder.answers c.loop-path.decoder in
     let scan : Scan = With c.args.auditor.now c.args.limits.now host decoded in
-    let began : Outside = Around (g.W.Wire.exchanges c.args.wire.now) (g.D.CacheDisk.past c.args.disk.now) (g.W.Wire.faults c.args.wire.now) (g.D.CacheDisk.faults c.args.disk.now) (g.D.CacheDisk.folders c.args.disk.now) (g.F.Files.failed c.args.files.now) (g.F.Files.faults c.args.files.now) (g.P.Decoder.faults c.args.decoder.now) in
-    let mid : Outside = Around (g.W.Wire.exchanges c.loop-path.wire) (g.D.CacheDisk.past c.loop-path.disk) (g.W.Wire.faults c.loop-path.wire) (g.D.CacheDisk.faults c.loop-path.disk) (g.D.CacheDisk.folders c.loop-path.disk) (g.F.Files.failed c.loop-path.files) (g.F.Files.faults c.loop-path.files) (g.P.Decoder.faults c.loop-path.decoder) in
-    let ended : Outside = Around (g.W.Wire.exchanges c.audit_binary.new.wire) (g.D.CacheDisk.past c.audit_binary.new.disk) (g.W.Wire.faults c.audit_binary.new.wire) (g.D.CacheDisk.faults c.audit_binary.new.disk) (g.D.CacheDisk.folders c.audit_binary.new.disk) (g.F.Files.failed c.audit_binary.new.files) (g.F.Files.faults c.audit_binary.new.files) (g.P.Decoder.faults c.audit_binary.new.decoder) in
+    let began : Outside = outside (g.W.Wire.exchanges c.args.wire.now) (g.D.CacheDisk.past c.args.disk.now) (g.W.Wire.faults c.args.wire.now) (g.D.CacheDisk.faults c.args.disk.now) (g.D.CacheDisk.folders c.args.disk.now) (g.F.Files.failed c.args.files.now) (g.F.Files.faults c.args.files.now) (g.P.Decoder.faults c.args.decoder.now) in
+    let mid : Outside = outside (g.W.Wire.exchanges c.loop-path.wire) (g.D.CacheDisk.past c.loop-path.disk) (g.W.Wire.faults c.loop-path.wire) (g.D.CacheDisk.faults c.loop-path.disk) (g.D.CacheDisk.folders c.loop-path.disk) (g.F.Files.failed c.loop-path.files) (g.F.Files.faults c.loop-path.files) (g.P.Decoder.faults c.loop-path.decoder) in
+    let ended : Outside = outside (g.W.Wire.exchanges c.audit_binary.new.wire) (g.D.CacheDisk.past c.audit_binary.new.disk) (g.W.Wire.faults c.audit_binary.new.wire) (g.D.CacheDisk.faults c.audit_binary.new.disk) (g.D.CacheDisk.folders c.audit_binary.new.disk) (g.F.Files.failed c.audit_binary.new.files) (g.F.Files.faults c.audit_binary.new.files) (g.P.Decoder.faults c.audit_binary.new.decoder) in
     let inv = c.loop-path.invariant in
     let i = c.loop-path.path-index in
     let path = c.path-item.result in
@@ -101,9 +101,9 @@ returns-in_err-add-clause-cut g c =
     let decoded = g.P.Decoder.answers c.args.decoder.now in
     let then = g.P.Decoder.answers c.loop-path.decoder in
     let scan : Scan = With c.args.auditor.now c.args.limits.now host decoded in
-    let began : Outside = Around (g.W.Wire.exchanges c.args.wire.now) (g.D.CacheDisk.past c.args.disk.now) (g.W.Wire.faults c.args.wire.now) (g.D.CacheDisk.faults c.args.disk.now) (g.D.CacheDisk.folders c.args.disk.now) (g.F.Files.failed c.args.files.now) (g.F.Files.faults c.args.files.now) (g.P.Decoder.faults c.args.decoder.now) in
-    let mid : Outside = Around (g.W.Wire.exchanges c.loop-path.wire) (g.D.CacheDisk.past c.loop-path.disk) (g.W.Wire.faults c.loop-path.wire) (g.D.CacheDisk.faults c.loop-path.disk) (g.D.CacheDisk.folders c.loop-path.disk) (g.F.Files.failed c.loop-path.files) (g.F.Files.faults c.loop-path.files) (g.P.Decoder.faults c.loop-path.decoder) in
-    let ended : Outside = Around (g.W.Wire.exchanges c.audit_binary.new.wire) (g.D.CacheDisk.past c.audit_binary.new.disk) (g.W.Wire.faults c.audit_binary.new.wire) (g.D.CacheDisk.faults c.audit_binary.new.disk) (g.D.CacheDisk.folders c.audit_binary.new.disk) (g.F.Files.failed c.audit_binary.new.files) (g.F.Files.faults c.audit_binary.new.files) (g.P.Decoder.faults c.audit_binary.new.decoder) in
+    let began : Outside = outside (g.W.Wire.exchanges c.args.wire.now) (g.D.CacheDisk.past c.args.disk.now) (g.W.Wire.faults c.args.wire.now) (g.D.CacheDisk.faults c.args.disk.now) (g.D.CacheDisk.folders c.args.disk.now) (g.F.Files.failed c.args.files.now) (g.F.Files.faults c.args.files.now) (g.P.Decoder.faults c.args.decoder.now) in
+    let mid : Outside = outside (g.W.Wire.exchanges c.loop-path.wire) (g.D.CacheDisk.past c.loop-path.disk) (g.W.Wire.faults c.loop-path.wire) (g.D.CacheDisk.faults c.loop-path.disk) (g.D.CacheDisk.folders c.loop-path.disk) (g.F.Files.failed c.loop-path.files) (g.F.Files.faults c.loop-path.files) (g.P.Decoder.faults c.loop-path.decoder) in
+    let ended : Outside = outside (g.W.Wire.exchanges c.audit_binary.new.wire) (g.D.CacheDisk.past c.audit_binary.new.disk) (g.W.Wire.faults c.audit_binary.new.wire) (g.D.CacheDisk.faults c.audit_binary.new.disk) (g.D.CacheDisk.folders c.audit_binary.new.disk) (g.F.Files.failed c.audit_binary.new.files) (g.F.Files.faults c.audit_binary.new.files) (g.P.Decoder.faults c.audit_binary.new.decoder) in
     let inv = c.loop-path.invariant in
     let i = c.loop-path.path-index in
     let path = c.path-item.result in
@@ -119,9 +119,9 @@ returns-in_err-add-clause-kept g c told_wire told =
     let decoded = g.P.Decoder.answers c.args.decoder.now in
     let then = g.P.Decoder.answers c.loop-path.decoder in
     let scan : Scan = With c.args.auditor.now c.args.limits.now host decoded in
-    let began : Outside = Around (g.W.Wire.exchanges c.args.wire.now) (g.D.CacheDisk.past c.args.disk.now) (g.W.Wire.faults c.args.wire.now) (g.D.CacheDisk.faults c.args.disk.now) (g.D.CacheDisk.folders c.args.disk.now) (g.F.Files.failed c.args.files.now) (g.F.Files.faults c.args.files.now) (g.P.Decoder.faults c.args.decoder.now) in
-    let mid : Outside = Around (g.W.Wire.exchanges c.loop-path.wire) (g.D.CacheDisk.past c.loop-path.disk) (g.W.Wire.faults c.loop-path.wire) (g.D.CacheDisk.faults c.loop-path.disk) (g.D.CacheDisk.folders c.loop-path.disk) (g.F.Files.failed c.loop-path.files) (g.F.Files.faults c.loop-path.files) (g.P.Decoder.faults c.loop-path.decoder) in
-    let ended : Outside = Around (g.W.Wire.exchanges c.audit_binary.new.wire) (g.D.CacheDisk.past c.audit_binary.new.disk) (g.W.Wire.faults c.audit_binary.new.wire) (g.D.CacheDisk.faults c.audit_binary.new.disk) (g.D.CacheDisk.folders c.audit_binary.new.disk) (g.F.Files.failed c.audit_binary.new.files) (g.F.Files.faults c.audit_binary.new.files) (g.P.Decoder.faults c.audit_binary.new.decoder) in
+    let began : Outside = outside (g.W.Wire.exchanges c.args.wire.now) (g.D.CacheDisk.past c.args.disk.now) (g.W.Wire.faults c.args.wire.now) (g.D.CacheDisk.faults c.args.disk.now) (g.D.CacheDisk.folders c.args.disk.now) (g.F.Files.failed c.args.files.now) (g.F.Files.faults c.args.files.now) (g.P.Decoder.faults c.args.decoder.now) in
+    let mid : Outside = outside (g.W.Wire.exchanges c.loop-path.wire) (g.D.CacheDisk.past c.loop-path.disk) (g.W.Wire.faults c.loop-path.wire) (g.D.CacheDisk.faults c.loop-path.disk) (g.D.CacheDisk.folders c.loop-path.disk) (g.F.Files.failed c.loop-path.files) (g.F.Files.faults c.loop-path.files) (g.P.Decoder.faults c.loop-path.decoder) in
+    let ended : Outside = outside (g.W.Wire.exchanges c.audit_binary.new.wire) (g.D.CacheDisk.past c.audit_binary.new.disk) (g.W.Wire.faults c.audit_binary.new.wire) (g.D.CacheDisk.faults c.audit_binary.new.disk) (g.D.CacheDisk.folders c.audit_binary.new.disk) (g.F.Files.failed c.audit_binary.new.files) (g.F.Files.faults c.audit_binary.new.files) (g.P.Decoder.faults c.audit_binary.new.decoder) in
     let inv = c.loop-path.invariant in
     let i = c.loop-path.path-index in
     let path = c.path-item.result in

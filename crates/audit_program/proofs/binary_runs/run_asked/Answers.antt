@@ -4,13 +4,14 @@ use Rattle.audit_core.proofs.Exchanged.{keeps_nothing}
 use Rattle.audit_core.proofs.Left.{calls_nothing}
 use Rattle.audit_output.specs.declared.putting.PrintFault.{PrintFault}
 use Rattle.vendor_registry.specs.declared.faults.VendorFault.TheVariants as vendor_fault
-use Rattle.audit_program.specs.Faults.{by_print}
-use Rattle.audit_program.specs.declared.faults.RunFault.TheVariants as fault
+use Rattle.audit_remedies.specs.Faults.{by_print}
+use Rattle.audit_remedies.specs.declared.faults.RunFault.TheVariants as fault
 use Rattle.audit_program.proofs.Ended.{ended_from}
-use Rattle.audit_program.proofs.FaultCases.{has_fault, is_print, memory_no_print, rose_later}
+use Rattle.audit_program.proofs.FaultCases.{has_fault, memory_no_print, rose_later}
+use Rattle.audit_remedies.proofs.FaultCases.{is_print}
 use Rattle.audit_program.proofs.GivenEnds.{failed_ends, no_answer, no_fault, not_err, print_causes, put_failed_of}
 use Rattle.audit_program.proofs.Nones.{if_none, none_some}
-use Rattle.audit_program.proofs.Putting.{put_all, put_nothing, put_part}
+use Rattle.audit_remedies.proofs.Putting.{put_all, put_nothing, put_part}
 use Rattle.audit_program.proofs.Readings.{nothing_done}
 use Rattle.audit_program.proofs.Reported.{all_reported}
 use Rattle.audit_program.proofs.binary_runs.run_asked.Goals as goal
@@ -73,15 +74,7 @@ returns-in-Ok-print_binaries g c starts start_faults =
       binaries = record {
         answered = rw (c.in-Ok.ensures, c.of-limits.ensures) at made.answered;
         summary = rw c.in-Ok.ensures at made.summary;
-        together = record {
-          headline = rw c.in-Ok.ensures at made.headline;
-          turns = rw c.in-Ok.ensures at made.turns;
-          asked = rw c.in-Ok.ensures at made.asked;
-          others = rw c.in-Ok.ensures at made.others;
-          folders = rw c.in-Ok.ensures at made.folders;
-          files_failed = made.files_failed;
-          decodes_failed = made.decodes_failed;
-        };
+        together = rw c.in-Ok.ensures at made.together;
         out = λ told. put_all _ _ _ None (rw (c.in-Ok.ensures, c.as_str.ensures, c.as_slice.ensures, c.as_slice-2.ensures) at (printed.out told)).whole;
         err = λ told. put_all _ _ _ None (rw (c.in-Ok.ensures, c.as_str.ensures, c.as_slice.ensures, c.as_slice-2.ensures) at (printed.err told)).whole;
         status = λ none. c.summary_status-status.ensures;
@@ -89,7 +82,7 @@ returns-in-Ok-print_binaries g c starts start_faults =
       audited = refl;
       generated = refl;
       plan = refl;
-      ends = record { status = λ e is. no_fault e is; plain = λ none. tt; usage = λ place is. not_err _ _ _ refl is };
+      ends = record { status = λ e is. no_fault e is; plain = λ none. tt; usage = λ broken is. not_err _ _ _ refl is };
       has = λ how. refl;
       out = tt;
       err = λ told. tt;
@@ -123,15 +116,7 @@ returns g c starts start_faults =
       binaries = record {
         answered = rw (c.in-Ok.ensures, c.of-limits.ensures) at made.answered;
         summary = rw c.in-Ok.ensures at made.summary;
-        together = record {
-          headline = rw c.in-Ok.ensures at made.headline;
-          turns = rw c.in-Ok.ensures at made.turns;
-          asked = rw c.in-Ok.ensures at made.asked;
-          others = rw c.in-Ok.ensures at made.others;
-          folders = rw c.in-Ok.ensures at made.folders;
-          files_failed = made.files_failed;
-          decodes_failed = made.decodes_failed;
-        };
+        together = rw c.in-Ok.ensures at made.together;
         out = λ told. c.failed-in-Err.ensures.put _ _ _
             (rw c.from.ensures (put_part _ _ _ (by_print c.in-Err.fault) (is_print c.in-Err.fault)
             (rw (c.in-Ok.ensures, c.as_str.ensures, c.as_slice.ensures, c.as_slice-2.ensures) at (printed.out told)).part));
@@ -145,7 +130,7 @@ returns g c starts start_faults =
       audited = c.failed-in-Err.ensures.audited;
       generated = c.failed-in-Err.ensures.generated;
       plan = c.failed-in-Err.ensures.plan;
-      ends = record { status = c.failed-in-Err.ensures.status; plain = λ none. has_fault (by_print c.in-Err.fault) c.failed-in-Err.result.fault end none; usage = λ place is. not_err _ _ _ refl is };
+      ends = record { status = c.failed-in-Err.ensures.status; plain = λ none. has_fault (by_print c.in-Err.fault) c.failed-in-Err.result.fault end none; usage = λ broken is. not_err _ _ _ refl is };
       has = λ how. refl;
       out = tt;
       err = λ told. tt;

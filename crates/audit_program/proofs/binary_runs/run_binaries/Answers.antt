@@ -3,15 +3,16 @@ use Rattle.std.proofs.lemmas.Grind.{common_steps}
 use Rattle.tame_names.specs.Counts.{CountRose}
 use Rattle.audit_core.proofs.Exchanged.{keeps_nothing}
 use Rattle.audit_core.proofs.Left.{asks_nothing, calls_nothing}
-use Rattle.audit_program.specs.Calls.{AddsReadings}
-use Rattle.audit_program.specs.declared.faults.RunFault.TheVariants as run_fault
+use Rattle.audit_binaries.specs.Summaries.{AddsReadings}
+use Rattle.audit_remedies.specs.declared.faults.RunFault.TheVariants as run_fault
 use Rattle.audit_program.proofs.Asking.{binaries_config, binaries_refused}
-use Rattle.audit_program.proofs.Completing.{binaries_complete, print_complete}
 use Rattle.audit_program.proofs.FaultCases.{no_print, print_caused, unfinished}
+use Rattle.audit_program.proofs.GivenEnds.{failed_ends}
 use Rattle.audit_program.proofs.Leaving.{calls_weaker}
 use Rattle.audit_program.proofs.Nones.{if_none, if_none_by, if_none_then, if_some, none_some, of_none}
-use Rattle.audit_program.proofs.Putting.{put_nothing}
+use Rattle.audit_remedies.proofs.Putting.{put_nothing}
 use Rattle.audit_program.proofs.Readings.{all_added, asking_calls, bin_calls, either_way, partly_added}
+use Rattle.audit_program.specs.Worlds.{World, world}
 use Rattle.audit_program.proofs.binary_runs.run_binaries.Goals as goal
 
 pub returns-in-Ok : goal.returns-in-Ok
@@ -21,23 +22,24 @@ returns-in-Ok g c starts start_faults =
     let command = c.args.command.now in
     let paths = c.args.more.now.binary_paths in
     let host = g.F.Files.host c.args.files.now in
+    let entry : World = world (g.W.Wire.exchanges c.args.wire.now) (g.W.Wire.faults c.args.wire.now)
+    (g.D.CacheDisk.past c.args.disk.now) (g.D.CacheDisk.folders c.args.disk.now) (g.D.CacheDisk.faults c.args.disk.now)
+    (g.F.Files.host c.ask_for_binaries.new.files) (g.F.Files.failed c.ask_for_binaries.new.files) (g.F.Files.faults c.ask_for_binaries.new.files)
+    (g.P.Decoder.answers c.args.decoder.now) (g.P.Decoder.faults c.args.decoder.now) starts start_faults
+    (g.O.Sink.holds c.args.out.now) (g.O.Sink.faults c.args.out.now) (g.E.Sink.holds c.args.err.now) (g.E.Sink.faults c.args.err.now) in
     record {
       audits = record {
         audited = none_some outcome.audited _ h.audited;
         binaries = if_some outcome.binaries _ _ (λ b k. record {
           given = c.in-Ok.given;
-          there = g.F.Files.host c.ask_for_binaries.new.files;
-          failed = g.F.Files.failed c.ask_for_binaries.new.files;
-          file_faults = g.F.Files.faults c.ask_for_binaries.new.files;
-          asked = record { gives = λ told. (c.in-Ok.ensures.gives told).ok; is_there = c.in-Ok.ensures.same; is_failed = c.in-Ok.ensures.failed; later = c.in-Ok.ensures.cause.later };
+          entry = entry;
+          asked = record { gives = λ told. (c.in-Ok.ensures.gives told).ok; host = c.in-Ok.ensures.same; failed = c.in-Ok.ensures.failed; later = c.in-Ok.ensures.cause.later; same = refl };
           run = k;
         }) h.binaries;
         partly = λ memory. if_none_then outcome.binaries _ _ (λ k. inr (record {
           given = c.in-Ok.given;
-          there = g.F.Files.host c.ask_for_binaries.new.files;
-          failed = g.F.Files.failed c.ask_for_binaries.new.files;
-          file_faults = g.F.Files.faults c.ask_for_binaries.new.files;
-          asked = record { gives = λ told. (c.in-Ok.ensures.gives told).ok; is_there = c.in-Ok.ensures.same; is_failed = c.in-Ok.ensures.failed; later = c.in-Ok.ensures.cause.later };
+          entry = entry;
+          asked = record { gives = λ told. (c.in-Ok.ensures.gives told).ok; host = c.in-Ok.ensures.same; failed = c.in-Ok.ensures.failed; later = c.in-Ok.ensures.cause.later; same = refl };
           partly = k;
         })) h.partly;
         generated = none_some outcome.generated _ h.generated;
@@ -52,9 +54,6 @@ returns-in-Ok g c starts start_faults =
         store_rose = λ at is. no_print outcome.fault _ h.causes.cause is (λ no. absurd no);
         start_rose = λ failed is. no_print outcome.fault _ h.causes.cause is (λ no. absurd no);
       };
-      complete = λ told ready quiet.
-          print_complete _ _ outcome.fault h.causes.cause
-          (record { print = h.causes.print_rose; file = λ path is. no_print outcome.fault _ h.causes.cause is (λ no. absurd no); start = λ failed is. no_print outcome.fault _ h.causes.cause is (λ no. absurd no) }) quiet;
       without_lockfile = if_none outcome.audited _ (record {
         started = λ told_files told. refl;
         at_most = λ told. inl refl;
@@ -80,7 +79,7 @@ returns-in-Ok g c starts start_faults =
         undecoded = λ other. absurd (other tt);
         unstarted = λ is. tt;
         files_same = first_of (search rules, grind (arith, common_steps));
-        unaccepted = λ told. tt;
+        unaccepted = λ told none. tt;
         asks = λ told given packages accepts. absurd accepts.gives;
         calls = λ told config settles.
             let same : c.in-Ok.given.config ≡ config = binaries_config command host c.in-Ok.given config (c.in-Ok.ensures.gives told).ok settles in
@@ -105,10 +104,8 @@ returns-in-Err g c starts start_faults =
         generated = none_some outcome.generated _ c.failed.ensures.generated;
       };
       has = record { has = first_of (search rules, grind (arith, common_steps)); vendor_audit = first_of (search rules, grind (arith, common_steps)); no_audit = first_of (search rules, grind (arith, common_steps)); no_plan = if_none outcome.audited _ c.failed.ensures.plan };
-      ends = record { status = c.failed.ensures.status; plain = first_of (search rules, grind (arith, common_steps)); usage = first_of (search rules, grind (arith, common_steps)) };
+      ends = failed_ends _ outcome _ end c.failed.ensures.status;
       causes = record { cause = cause; print_rose = first_of (search rules, grind (arith, common_steps)); file_rose = file_rose; crate_rose = first_of (search rules, grind (arith, common_steps)); store_rose = first_of (search rules, grind (arith, common_steps)); start_rose = first_of (search rules, grind (arith, common_steps)) };
-      complete = λ told ready quiet.
-          binaries_complete g.F.Files.tells command host ready.0 _ _ outcome.fault ready.1 told cause (record { print = first_of (search rules, grind (arith, common_steps)); file = file_rose; start = first_of (search rules, grind (arith, common_steps)) }) quiet;
       without_lockfile = if_none outcome.audited _ (record { started = λ told_files told. refl; at_most = λ told. inl refl; one_start = first_of (search rules, grind (arith, common_steps)); files = first_of (search rules, grind (arith, common_steps)) });
       without_audit = if_none outcome.audited _ (if_none outcome.binaries _ (record { out = first_of (search rules, grind (arith, common_steps)); err = first_of (search rules, grind (arith, common_steps)); early = λ other. (refl, refl, refl) }));
       failed = λ told. record {
@@ -121,7 +118,7 @@ returns-in-Err g c starts start_faults =
         undecoded = λ other. refl;
         unstarted = λ is. tt;
         files_same = first_of (search rules, grind (arith, common_steps));
-        unaccepted = λ told. tt;
+        unaccepted = λ told none. tt;
         asks = λ told given packages accepts. asks_nothing _ _ _ _;
         calls = λ told config settles. calls_nothing _ _ _ _ _ refl (λ unread. refl);
       };

@@ -1,4 +1,4 @@
-use Rattle.audit_program.specs.TaskRuns.{ending}
+use Rattle.audit_remedies.specs.Endings.{ending}
 use Rattle.audit_program.specs.Worlds.{telling}
 use Rattle.audit_program.proofs.HeldItems.{asked_items}
 use Rattle.audit_program.proofs.laws.plans_of_runs_tell_what_the_server_held.Goals as goal

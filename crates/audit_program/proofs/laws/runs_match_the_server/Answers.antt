@@ -1,6 +1,6 @@
 use Rattle.std.proofs.Common.{Some}
 use Rattle.audit_program.specs.Jobs.{asking_of}
-use Rattle.audit_program.specs.TaskRuns.{ending}
+use Rattle.audit_remedies.specs.Endings.{ending}
 use Rattle.audit_program.specs.Worlds.{telling}
 use Rattle.audit_program.proofs.HeldVerdicts.{held_verdicts}
 use Rattle.audit_program.proofs.laws.runs_match_the_server.Goals as goal

@@ -1,6 +1,6 @@
 use Rattle.std.proofs.Common.{Some}
 use Rattle.audit_program.proofs.FaultCases.{some_of}
-use Rattle.audit_program.proofs.Putting.{put_failed}
+use Rattle.audit_remedies.proofs.Putting.{put_failed}
 use Rattle.audit_program.proofs.outcomes.failed.Goals as goal
 
 pub returns-clause-ended : goal.returns-clause-ended

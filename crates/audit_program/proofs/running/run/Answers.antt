@@ -5,13 +5,13 @@ use Rattle.audit_words.specs.Reading.{command_of}
 use Rattle.audit_words.specs.declared.commands.WordsFault.TheVariants as words_fault
 use Rattle.audit_program.specs.Jobs.{asking_of}
 use Rattle.audit_program.specs.Tasks.{asking_place}
-use Rattle.audit_program.specs.declared.faults.RunFault.TheVariants as fault
+use Rattle.audit_remedies.specs.declared.faults.RunFault.TheVariants as fault
 use Rattle.audit_program.specs.declared.tasks.Job.TheVariants as job
 use Rattle.audit_program.proofs.Alone.{broken_run, generate_plain, generated_by, help_plain, memory_run, one_of, plain_run, version_plain}
 use Rattle.audit_program.proofs.Ended.{ended_by}
 use Rattle.audit_program.proofs.Nones.{none_some}
 use Rattle.audit_program.proofs.Outsides.{binaries_run, task_run}
-use Rattle.audit_program.proofs.Putting.{put_nothing}
+use Rattle.audit_remedies.proofs.Putting.{put_nothing}
 use Rattle.audit_program.proofs.running.run.Goals as goal
 
 -- the words ask for an audit of a lockfile, or for audits of binaries

@@ -7,19 +7,19 @@ use Rattle.audit_core.specs.declared.auditors.Auditor.{Auditor}
 use Rattle.audit_core.proofs.Exchanged.{keeps_nothing}
 use Rattle.audit_core.proofs.Left.{asks_nothing, asks_then_read, calls_nothing, calls_then_read}
 use Rattle.audit_program.specs.Causes.{IsAuditFault}
-use Rattle.audit_program.specs.Finishes.{IsFinishFault}
-use Rattle.audit_program.specs.Statuses.{IsEarly}
-use Rattle.audit_program.specs.Worlds.{moment}
-use Rattle.audit_program.specs.declared.faults.RunFault.{RunFault}
-use Rattle.audit_program.specs.declared.faults.RunFault.TheVariants as fault
+use Rattle.audit_remedies.specs.Finishes.{IsFinishFault}
+use Rattle.audit_remedies.specs.Faults.{IsEarly}
+use Rattle.audit_remedies.specs.Moments.{moment}
+use Rattle.audit_remedies.specs.declared.faults.RunFault.{RunFault}
+use Rattle.audit_remedies.specs.declared.faults.RunFault.TheVariants as fault
 use Rattle.audit_program.proofs.Ended.{ended_from}
 use Rattle.audit_program.proofs.FaultCases.{ends_with, finish_case, has_fault, late_making, late_memory, late_print, late_start, rose_before, rose_later}
-use Rattle.audit_program.proofs.Finishing.{started_failed}
+use Rattle.audit_remedies.proofs.Finishing.{started_failed}
 use Rattle.audit_program.proofs.GivenEnds.{audit_adds, audit_asked, audit_refused, failed_ends, later_count, no_fault, not_err, of_fault, same_count, unaudited_causes, unaudited_has, unfinished_causes, unmade_causes}
 use Rattle.audit_program.proofs.Leaving.{calls_weaker}
 use Rattle.audit_program.proofs.Made.{finishing_told, making_told, unmade_started}
 use Rattle.audit_program.proofs.Nones.{if_none, none_some}
-use Rattle.audit_program.proofs.Putting.{put_failed, put_nothing}
+use Rattle.audit_remedies.proofs.Putting.{put_failed, put_nothing}
 use Rattle.audit_program.proofs.ReadSince.{kept_then_read}
 use Rattle.audit_program.proofs.task_runs.run_given.Goals as goal
 
@@ -160,7 +160,7 @@ returns-in-Ok-finish g c decodes decode_faults =
       generated = refl;
       start_audit = λ failed is. refl;
       file_audit = λ path is. refl;
-      ends = record { status = λ e is. no_fault e is; plain = λ none. tt; usage = λ place is. not_err _ _ _ refl is };
+      ends = record { status = λ e is. no_fault e is; plain = λ none. tt; usage = λ broken is. not_err _ _ _ refl is };
       causes = record {
         cause = tt;
         print_rose = λ is. no_fault fault.Print is;

@@ -6,12 +6,12 @@ use Rattle.audit_core.proofs.Exchanged.{keeps_nothing}
 use Rattle.audit_core.proofs.Left.{asks_nothing, calls_nothing}
 use Rattle.audit_program.specs.Tasks.{IsOrderedTaskCall, IsTaskCall, task_asked, task_generates}
 use Rattle.audit_program.proofs.Asking.{asked_cause, asked_config, generated_as, lockfile_or_fault, ok_same, refused_cause, rose_from}
-use Rattle.audit_program.specs.declared.faults.RunFault.TheVariants as run_fault
-use Rattle.audit_program.proofs.Completing.{task_complete}
+use Rattle.audit_remedies.specs.declared.faults.RunFault.TheVariants as run_fault
 use Rattle.audit_program.proofs.FaultCases.{rose_before}
 use Rattle.audit_program.proofs.Made.{asked_told, calls_asked, calls_made, quiet_unaudited}
+use Rattle.audit_program.proofs.GivenEnds.{failed_ends}
 use Rattle.audit_program.proofs.Nones.{if_none, if_none_by, if_none_then, if_some, none_some, of_none}
-use Rattle.audit_program.proofs.Putting.{put_nothing}
+use Rattle.audit_remedies.proofs.Putting.{put_nothing}
 use Rattle.audit_program.proofs.Starting.{asked_one, audited_some, failed_starts, unaudited_starts}
 use Rattle.audit_program.proofs.task_runs.run_task.Goals as goal
 
@@ -66,8 +66,6 @@ returns-in-Ok g c decodes decode_faults =
         store_rose = h.causes.store_rose;
         start_rose = start_rose;
       };
-      complete = λ told ready quiet.
-          task_complete g.F.Files.tells task host _ _ fault ready told cause (record { print = h.causes.print_rose; file = file_rose; start = start_rose }) quiet;
       without_lockfile = if_none_by audited _ (λ none.
           let left = of_none audited _ none h.unaudited in
           record {
@@ -101,7 +99,7 @@ returns-in-Ok g c decodes decode_faults =
         files_same = λ told unwritten. rw (h.unwritten told unwritten) (c.in-Ok.ensures.same told);
         unaccepted = λ told none.
             lockfile_or_fault (locked c.in-Ok.given.text)
-            (λ packages is. absurd (none c.in-Ok.given packages (rw c.baseline.ensures at (c.in-Ok.ensures.gives told).ok) is))
+            (λ packages is. absurd (none c.in-Ok.given packages (record { gives = rw c.baseline.ensures at (c.in-Ok.ensures.gives told).ok; lockfile = is })))
             (λ fault is. h.refused fault is);
         asks = λ told given packages accepts.
             let mine = rw c.baseline.ensures at (c.in-Ok.ensures.gives told).ok in
@@ -130,7 +128,7 @@ returns-in-Err g c decodes decode_faults =
         generated = none_some c.failed.result.generated _ c.failed.ensures.generated;
       };
       has = search rules;
-      ends = search rules;
+      ends = failed_ends _ c.failed.result _ (rw c.from.ensures at c.failed.ensures.fault) c.failed.ensures.status;
       causes = record {
         cause = cause;
         print_rose = search rules;
@@ -139,8 +137,6 @@ returns-in-Err g c decodes decode_faults =
         store_rose = search rules;
         start_rose = start_rose;
       };
-      complete = λ told ready quiet.
-          task_complete g.F.Files.tells task host _ _ c.failed.result.fault ready told cause (record { print = search rules; file = file_rose; start = start_rose }) quiet;
       without_lockfile = if_none audited _ (record {
         started = λ told_files told. failed_starts (task_generates task host) _ _ c.in-Err.fault c.failed.result.fault (rw c.from.ensures at c.failed.ensures.fault)
             (c.in-Err.ensures.at_most told) (c.in-Err.ensures.started told_files told);

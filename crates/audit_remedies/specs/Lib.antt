@@ -1,0 +1,11 @@
+pub mod Calls
+pub mod Endings
+pub mod FaultLines
+pub mod Faults
+pub mod Finishes
+pub mod Makings
+pub mod Moments
+pub mod Outputs
+pub mod Remedies
+pub mod Statuses
+pub mod Steps
