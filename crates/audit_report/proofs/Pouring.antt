@@ -19,35 +19,35 @@ front_of g wanted xs i s =
     ∙ ap (blocks_text wanted s) (flat_map-append g (take i xs) (drop i xs))
     ∙ blocks_text-append wanted s (flat_map g (take i xs)) (flat_map g (drop i xs))
 
-module _ {X : Type 0} (g : X → List Block) (wanted : Bool) (xs : List X) (i : ℕ) (d : X) (low : i < length xs) where
+module _ {X : Type 0} (g : X → List Block) (wanted : Bool) (xs : List X) (i : ℕ) (item : X) (low : i < length xs) (here : item ≡ get_or xs i item) where
   -- the text of one item more, behind that of the first ones
   text_more : (s t : List ShownTree) → t ≡ shown_after wanted s (flat_map g (take i xs))
-      → blocks_text wanted s (flat_map g (take i xs)) ++ blocks_text wanted t (g (get_or xs i d)) ≡ blocks_text wanted s (flat_map g (take (i + 1) xs))
+      → blocks_text wanted s (flat_map g (take i xs)) ++ blocks_text wanted t (g item) ≡ blocks_text wanted s (flat_map g (take (i + 1) xs))
   text_more s t trees =
-      ap (λ z. blocks_text wanted s (flat_map g (take i xs)) ++ blocks_text wanted z (g (get_or xs i d))) trees
-      ∙ sym (blocks_text-append wanted s (flat_map g (take i xs)) (g (get_or xs i d)))
-      ∙ ap (blocks_text wanted s) (sym (flat_map_more g xs i d low))
+      ap (λ z. blocks_text wanted s (flat_map g (take i xs)) ++ blocks_text wanted z (g item)) trees
+      ∙ sym (blocks_text-append wanted s (flat_map g (take i xs)) (g item))
+      ∙ ap (blocks_text wanted s) (sym (flat_map_more g xs i item low here))
 
   pub poured_next : (s t : List ShownTree) (before a b : List ℕ) → a ≡ before ++ blocks_text wanted s (flat_map g (take i xs)) → t ≡ shown_after wanted s (flat_map g (take i xs))
-      → b ≡ a ++ blocks_text wanted t (g (get_or xs i d)) → b ≡ before ++ blocks_text wanted s (flat_map g (take (i + 1) xs))
+      → b ≡ a ++ blocks_text wanted t (g item) → b ≡ before ++ blocks_text wanted s (flat_map g (take (i + 1) xs))
   poured_next s t before a b text trees put =
       put
-      ∙ ap (λ (x : List ℕ). x ++ blocks_text wanted t (g (get_or xs i d))) text
-      ∙ append_assoc before (blocks_text wanted s (flat_map g (take i xs))) (blocks_text wanted t (g (get_or xs i d)))
+      ∙ ap (λ (x : List ℕ). x ++ blocks_text wanted t (g item)) text
+      ∙ append_assoc before (blocks_text wanted s (flat_map g (take i xs))) (blocks_text wanted t (g item))
       ∙ ap (λ (x : List ℕ). before ++ x) (text_more s t trees)
 
-  pub trees_next : (s t u : List ShownTree) → t ≡ shown_after wanted s (flat_map g (take i xs)) → u ≡ shown_after wanted t (g (get_or xs i d))
+  pub trees_next : (s t u : List ShownTree) → t ≡ shown_after wanted s (flat_map g (take i xs)) → u ≡ shown_after wanted t (g item)
       → u ≡ shown_after wanted s (flat_map g (take (i + 1) xs))
   trees_next s t u trees more =
-      more ∙ ap (λ z. shown_after wanted z (g (get_or xs i d))) trees ∙ sym (shown_after-append wanted s (flat_map g (take i xs)) (g (get_or xs i d)))
-      ∙ ap (shown_after wanted s) (sym (flat_map_more g xs i d low))
+      more ∙ ap (λ z. shown_after wanted z (g item)) trees ∙ sym (shown_after-append wanted s (flat_map g (take i xs)) (g item))
+      ∙ ap (shown_after wanted s) (sym (flat_map_more g xs i item low here))
 
   -- where the block of one item more was cut off, a part of the whole was put
   pub poured_cut : (s t : List ShownTree) (before a now : List ℕ) → a ≡ before ++ blocks_text wanted s (flat_map g (take i xs)) → t ≡ shown_after wanted s (flat_map g (take i xs))
-      → AddsPrefix a (blocks_text wanted t (g (get_or xs i d))) now → AddsPrefix before (blocks_text wanted s (flat_map g xs)) now
+      → AddsPrefix a (blocks_text wanted t (g item)) now → AddsPrefix before (blocks_text wanted s (flat_map g xs)) now
   poured_cut s t before a now text trees part =
       let P : List ℕ = blocks_text wanted s (flat_map g (take i xs)) in
-      let block : List ℕ = blocks_text wanted t (g (get_or xs i d)) in
+      let block : List ℕ = blocks_text wanted t (g item) in
       let rest : List ℕ = blocks_text wanted (shown_after wanted s (flat_map g (take (i + 1) xs))) (flat_map g (drop (i + 1) xs)) in
       let all : (P ++ block) ++ rest ≡ blocks_text wanted s (flat_map g xs) =
       ap (λ (x : List ℕ). x ++ rest) (text_more s t trees) ∙ sym (front_of g wanted xs (i + 1) s) in

@@ -20,9 +20,10 @@ shown_after-append wanted shown [] ys = refl
 shown_after-append wanted shown (x ∷ xs) ys = shown_after-append wanted (shown_with wanted shown x.locked) xs ys
 
 -- the blocks of one item more
-pub flat_map_more : {X : Type 0} (g : X → List Block) (xs : List X) (i : ℕ) (d : X) → i < length xs
-    → flat_map g (take (i + 1) xs) ≡ flat_map g (take i xs) ++ g (get_or xs i d)
-flat_map_more g xs i d l =
-    ap (flat_map g) (take_more xs i d l)
-    ∙ flat_map-append g (take i xs) (get_or xs i d ∷ [])
-    ∙ ap (λ t. flat_map g (take i xs) ++ t) (append-nil (g (get_or xs i d)))
+pub flat_map_more : {X : Type 0} (g : X → List Block) (xs : List X) (i : ℕ) (x : X) → i < length xs → x ≡ get_or xs i x
+    → flat_map g (take (i + 1) xs) ≡ flat_map g (take i xs) ++ g x
+flat_map_more g xs i x l here =
+    ap (flat_map g) (take_more xs i x l)
+    ∙ flat_map-append g (take i xs) (get_or xs i x ∷ [])
+    ∙ ap (λ t. flat_map g (take i xs) ++ t) (append-nil (g (get_or xs i x)))
+    ∙ ap (λ y. flat_map g (take i xs) ++ g y) (sym here)

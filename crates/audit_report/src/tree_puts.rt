@@ -1,4 +1,4 @@
-//! The end of a block: its tree is rendered straight into the output, behind the block's lines.
+//! A block: its lines, and behind them its tree, which is rendered straight into the output.
 ghost use Rattle.std.specs.Prelude.{◌≡◌, ◌≢◌, ◌<◌, ◌≤◌, ◌++◌, [], IfErr, IsErrOf, OnOk, length};
 ghost use Rattle.tame_names.specs.Counts.{CountRose};
 ghost use Rattle.audit_lock.specs.Parents.{tree_of};
@@ -105,20 +105,21 @@ fn put_tree_lines<O: Sink>(
     }
 }
 
-/// Puts the lines of the sheet's page, a package's tree, unless it was shown before or none is
-/// wanted, and the empty line that ends its block. A tree that was put is added to those shown. The
-/// page is empty then.
-pub fn put_tree<O: Sink>(
+/// Puts what the sheet's page holds, the lines of a block, its package's tree, unless it was shown
+/// before or none is wanted, and the empty line that ends it. A tree that was put is added to those
+/// shown. The page is empty then.
+pub fn put_block<O: Sink>(
     alloc: Global,
     out: &mut O,
     sheet: &mut Sheet,
     findings: &Findings<'_>,
+    lines: &str,
     place: usize,
     locked: &Package,
 ) -> Result<(), PrintError>
     requires made { findings.now.tree.now ≡ tree_of findings.now.lockfile.now }
     requires place { place < length findings.now.lockfile.now }
-    ensures put { O.tells → IsPut (O.holds out.old) (sheet.old.page.bytes.items
+    ensures put { O.tells → IsPut (O.holds out.old) ((sheet.old.page.bytes.items ++ lines.now)
         ++ tree_lines (is_due findings.now.wanted (findings.now.known.now ++ sheet.old.added)
         locked.now) (tree_at findings.now.lockfile.now place)) (O.holds out.new) result }
     ensures added { OnOk result (findings.now.known.now ++ sheet.new.added
@@ -130,6 +131,7 @@ pub fn put_tree<O: Sink>(
         → CountRose (O.faults out.old) (O.faults out.new) }
     ensures placed { IfErr result (λ e. e ≢ PrintError.Tree) }
 {
+    sheet.page.push(lines)?;
     let due = is_due(findings.wanted, findings.known, &sheet.added, locked);
     put_tree_lines(alloc, out, &mut sheet.page, due, findings, place)?;
     add_due(
