@@ -4,10 +4,10 @@
 //! Words: the seed, how many sequences, the number of the first one, and the kind where it is one
 //! alone (`hosts`, `disks`, `wires`, `outputs`, `audits`); without words 1, 4000, 0 and all kinds.
 //! Each sequence begins in a folder of its own, below one that is made in the current
-//! folder and removed at the end. Prints what was compared, with how many steps the two are known
-//! to differ in, so that the real one was asked alone and had to refuse. At the first other
-//! difference it prints the number of the sequence, its shortest part that still differs and both
-//! answers, and ends with status 1.
+//! folder and removed at the end. Prints fixed calls on a disk that records them, and then what was
+//! compared, with how many steps the two are known to differ in, so that the real one was asked
+//! alone and had to refuse. At the first other difference it prints the number of the sequence, its
+//! shortest part that still differs and both answers, and ends with status 1.
 //!
 //! `tell FOLDER` and the same numbers make calls of a cache in that folder, one below it for each
 //! number, and tell each call before it is made and its answer behind it; nothing is compared.
@@ -30,6 +30,7 @@ mod making;
 mod places;
 mod play;
 mod playing;
+mod recorded;
 mod recording;
 mod sequences;
 mod serving;
@@ -44,6 +45,7 @@ mod ways;
 mod wires;
 
 use crate::play::Count;
+use crate::recorded::tell_recorded;
 use crate::sequences::{
     Sequence, TWINS, Twins, first_difference, sequence_of, shortened, twins_named,
 };
@@ -170,6 +172,7 @@ fn run(rt: &HostRuntime) -> io::Result<bool> {
             return tell_all(rt, folder.as_str());
         }
     }
+    tell_recorded(rt)?;
     let folder = new_folder(rt)?;
     let compared = compare_in(rt, folder.as_str());
     fs::remove_dir_all(rt, folder.as_str())?;

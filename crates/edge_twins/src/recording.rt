@@ -1,13 +1,16 @@
 //! A disk whose calls are recorded, and made to fail from one on.
-ghost use Rattle.std.specs.Prelude.{◌≡◌, ◌≤◌, []};
+ghost use Rattle.std.specs.Prelude.{◌≡◌, ◌↔◌, ◌<◌, ◌≤◌, ◌-◌, ◌^◌, ◌++◌, [], codes, IsOk, IfOk, OnOk, OnErr};
+ghost use Rattle.std.specs.String.{string_bytes};
 ghost use Rattle.tame_names.specs.Counts.{CountRose};
+ghost use Rattle.tame_names.specs.Output.{AddsPrefix};
 ghost use Rattle.tame_cache.specs.Faults.{HasDiskCause};
 
 use crate::standing::push_bytes;
 use std::alloc::{AllocError, Global};
 use tame_cache::{CacheDisk, DiskFault, DiskReadFault, Peek};
 
-/// A disk behind a record of the calls on it and of their answers.
+/// A disk behind a record of the calls on it and of their answers. It tells of its files what the
+/// disk tells.
 #[derive(Drop)]
 pub struct Recorder<'a, D: CacheDisk + Drop> {
     /// The disk.
@@ -15,7 +18,8 @@ pub struct Recorder<'a, D: CacheDisk + Drop> {
     alloc: Global,
     /// Where each call is told before it is made, and its answer behind it.
     teller: Option<&'a HostRuntime>,
-    record: String,
+    /// What was noted.
+    notes: String,
     /// How many calls are let through; those behind them fail.
     left: u64,
     faults: u64,
@@ -42,31 +46,48 @@ fn digits(alloc: Global, bytes: &[u8]) -> Result<String, AllocError> {
 
 impl<'a, D: CacheDisk + Drop> Recorder<'a, D> {
     /// A disk whose calls are told, where there is someone to tell them.
-    pub fn new(alloc: Global, disk: D, teller: Option<&'a HostRuntime>) -> Recorder<'a, D> {
+    pub fn new(alloc: Global, disk: D, teller: Option<&'a HostRuntime>) -> Recorder<'a, D>
+        ensures disk { result.disk ≡ disk }
+        ensures notes { string_bytes result.notes ≡ [] }
+        ensures left { result.left ≡ 2 ^ 64 - 1 }
+        ensures faults { result.faults ≡ 0 }
+    {
         Recorder {
             disk,
             alloc,
             teller,
-            record: String::new(alloc),
+            notes: String::new(alloc),
             left: u64::MAX,
             faults: 0,
         }
     }
 
     /// Begins a new record, and to count anew. So many calls are let through.
-    pub fn begin(&mut self, left: u64) {
-        self.record = String::new(self.alloc);
+    pub fn begin(&mut self, left: u64)
+        ensures disk { self.new.disk ≡ self.old.disk }
+        ensures notes { string_bytes self.new.notes ≡ [] }
+        ensures left { self.new.left ≡ left }
+        ensures faults { self.new.faults ≡ 0 }
+    {
+        self.notes = String::new(self.alloc);
         self.left = left;
         self.faults = 0;
     }
 
     /// The record.
-    pub fn record(&self) -> &str {
-        self.record.as_str()
+    pub fn record(&self) -> &str
+        ensures { result.now ≡ string_bytes self.now.notes }
+    {
+        self.notes.as_str()
     }
 
     fn note(&mut self, text: Result<String, AllocError>)
-        ensures { self.new.faults ≡ self.old.faults }
+        ensures disk { self.new.disk ≡ self.old.disk }
+        ensures left { self.new.left ≡ self.old.left }
+        ensures faults { self.new.faults ≡ self.old.faults }
+        ensures noted { IfOk text (λ t. AddsPrefix (string_bytes self.old.notes)
+            (string_bytes t ++ codes "; ") (string_bytes self.new.notes)) }
+        ensures same { OnErr text (self.new.notes ≡ self.old.notes) }
     {
         let Ok(text) = text else {
             return;
@@ -74,13 +95,16 @@ impl<'a, D: CacheDisk + Drop> Recorder<'a, D> {
         if let Some(rt) = self.teller {
             let _ = println!(rt; "{text}");
         }
-        let _ = self.record.push_str(text.as_str());
-        let _ = self.record.push_str("; ");
+        if self.notes.push_str(text.as_str()).is_ok() {
+            let _ = self.notes.push_str("; ");
+        }
     }
 
     fn fail(&mut self) -> DiskFault
         ensures rose { CountRose self.old.faults self.new.faults }
         ensures later { self.old.faults ≤ self.new.faults }
+        ensures disk { self.new.disk ≡ self.old.disk }
+        ensures left { self.new.left ≡ self.old.left }
     {
         self.note(String::from_str(self.alloc, "fault"));
         self.faults = self.faults.saturating_add(1);
@@ -89,7 +113,11 @@ impl<'a, D: CacheDisk + Drop> Recorder<'a, D> {
 
     /// Begins a call.
     fn call(&mut self, text: Result<String, AllocError>) -> Result<(), DiskFault>
-        ensures { HasDiskCause self.old.faults self.new.faults result }
+        ensures cause { HasDiskCause self.old.faults self.new.faults result }
+        ensures through { IsOk result ↔ (0 < self.old.left) }
+        ensures left { self.new.left ≡ self.old.left - 1 }
+        ensures quiet { OnOk result (self.new.faults ≡ self.old.faults) }
+        ensures disk { self.new.disk ≡ self.old.disk }
     {
         self.note(text);
         if self.left == 0 {
@@ -101,7 +129,11 @@ impl<'a, D: CacheDisk + Drop> Recorder<'a, D> {
 
     /// Ends a call that gives nothing.
     fn end(&mut self, done: Result<(), DiskFault>) -> Result<(), DiskFault>
-        ensures { HasDiskCause self.old.faults self.new.faults result }
+        ensures cause { HasDiskCause self.old.faults self.new.faults result }
+        ensures same { result ≡ done }
+        ensures quiet { OnOk result (self.new.faults ≡ self.old.faults) }
+        ensures disk { self.new.disk ≡ self.old.disk }
+        ensures left { self.new.left ≡ self.old.left }
     {
         match done {
             Ok(()) => {
@@ -129,15 +161,15 @@ impl<'a, D: CacheDisk + Drop> Recorder<'a, D> {
 }
 
 impl<'a, D: CacheDisk + Drop> CacheDisk for Recorder<'a, D> {
-    ghost tells = { ⊥ };
+    ghost tells = { D.tells };
 
-    ghost past = { λ _ _. [] };
+    ghost past = { λ recorder. D.past recorder.disk };
 
-    ghost faults = { λ disk. disk.faults };
+    ghost faults = { λ recorder. recorder.faults };
 
-    ghost folders = { λ _. [] };
+    ghost folders = { λ recorder. D.folders recorder.disk };
 
-    ghost made = { λ _. 0 };
+    ghost made = { λ recorder. D.made recorder.disk };
 
     fn disk_faults(&self) -> u64 {
         self.faults
