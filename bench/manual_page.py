@@ -1,4 +1,4 @@
-"""The manual page, for bench/manual: the text that `-h` prints, in the form of man(7)."""
+"""The manual pages, for bench/manual: the texts that `-h` prints, in the form of man(7)."""
 import re
 
 BLIND = ("Without a database an audit finds no vulnerability, and without a mirror folder no yanked version. Neither is a "
@@ -86,5 +86,43 @@ def page(manual):
         parts += [entry(f"\\fB{plain(name)}\\fR" if bold or name.isdigit() else plain(name), text) for name, text in named(manual.blocks, head)]
     parts.append(f".SH CAVEATS\n{BLIND}\n")
     parts.append(f".SH VERSION\nThis page is that of version {manual.version} of the port, which follows {upstream} of upstream.\n")
-    parts.append(".SH SEE ALSO\n.BR cargo (1).\nThe pages for users are listed in docs/use.md of the repository.\n")
+    parts.append(".SH SEE ALSO\n.BR cargo (1),\n.BR cargo\\-audit\\-fresh (1),\n.BR cargo\\-audit\\-mirror (1).\nThe pages for users are listed in docs/use.md of the repository.\n")
     return "".join(parts)
+
+
+# ---- the programs around it
+
+
+def sections_of(text):
+    """The sections of a help: its first paragraph, and for each head the entries below it, each a head and a text."""
+    first, *others = text.split("\n\n")
+    found = {}
+    for block in others:
+        head, *lines = block.split("\n")
+        found[head.rstrip(":")] = rows = []
+        for line in lines:
+            if new := re.fullmatch(r" {2}(\S.*?)(?: {2,}(.*))?", line):
+                rows.append([new[1], new[2] or ""])
+            else:
+                rows[-1][1] = f"{rows[-1][1]} {line.strip()}".strip()
+    return " ".join(first.split("\n")), found
+
+
+def head_of(text):
+    """The head of an entry: values are in capitals without `_`, everything else is typed as it is."""
+    return re.sub(r"[^ ,]+", lambda word: f"\\fI{word[0]}\\fR" if re.fullmatch(r"[A-Z]{3,}", word[0]) else f"\\fB{plain(word[0])}\\fR", text)
+
+
+def tool_page(manual, name, about, text):
+    """The page of a program around the audit, of its help."""
+    first, sections = sections_of(text)
+    usage = sections.pop("Usage")
+    parts = [f'.\\" Made by bench/manual of the text that -h prints; not to be changed by hand.\n'
+             f'.TH {plain(name.upper())} 1 "{manual.day}" "{manual.version}" "User Commands"\n'
+             f".SH NAME\n{plain(name)} \\- {about}\n.SH SYNOPSIS\n"]
+    parts.append("\n.br\n".join(words(line) for line, _ in usage) + "\n")
+    parts.append(f".SH DESCRIPTION\n{plain(first)}\n.PP\n{plain('. '.join(told[:1].upper() + told[1:] for _, told in usage))}.\n")
+    for title, rows in sections.items():
+        parts.append(f".SH {title.upper()}\n" + "".join(entry(head_of(head), told) for head, told in rows))
+    others = sorted({"cargo-audit", "cargo-audit-fresh", "cargo-audit-mirror"} - {name})
+    return "".join(parts) + ".SH SEE ALSO\n" + ",\n".join(f".BR {plain(each)} (1)" for each in others) + ".\n"

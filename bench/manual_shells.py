@@ -13,6 +13,18 @@ def about(one):
     return "print the help" if one.name == "--help" else one.short
 
 
+def spelt_of(head):
+    """The spellings of a tool's option, by the head of its entry, and the word for its value."""
+    front, _, value = head.partition(" ") if "," not in head else (head, "", "")
+    return front.split(", "), value
+
+
+def own(rows):
+    """The options that only a tool has: all spellings, and those with a value."""
+    spelt = [spelt_of(head) for head, _ in rows]
+    return " ".join(each for many, _ in spelt for each in many), " | ".join(each for many, value in spelt if value for each in many)
+
+
 def filled(template, **parts):
     return re.sub(r"@(\w+)@", lambda found: parts[found[1]], template)
 
@@ -76,6 +88,27 @@ _cargo_audit() {
     fi
 }
 
+# What stands behind `cargo audit-fresh`: options of its own first, and the words of an audit.
+_cargo_audit_fresh() {
+    _cargo_audit
+    if ((COMP_CWORD == 2)); then mapfile -t -O ${#COMPREPLY[@]} COMPREPLY < <(compgen -W '@FRESH@' -- "${COMP_WORDS[2]}"); fi
+}
+
+# What stands behind `cargo audit-mirror`.
+_cargo_audit_mirror() {
+    local word=${COMP_WORDS[COMP_CWORD]}
+    COMPREPLY=()
+    case ${COMP_WORDS[COMP_CWORD - 1]} in @MIRRORVALUED@) return ;; esac
+    if [[ $word == -* ]]; then _cargo_audit_words '@MIRROR@'; else _cargo_audit_paths -f; fi
+}
+
+# The two as programs by themselves.
+_cargo_audit_alone() {
+    COMP_WORDS=(cargo "${1##*cargo-}" "${COMP_WORDS[@]:1}")
+    ((COMP_CWORD++))
+    _cargo_audit_of_cargo "$@"
+}
+
 # Completes cargo by this file, and keeps the function that did so before.
 _cargo_audit_take() {
     if [[ $(complete -p cargo 2> /dev/null) =~ \ -F\ ([^ ]+)\  && ${BASH_REMATCH[1]} != _cargo_audit_of_cargo ]]; then
@@ -87,9 +120,12 @@ _cargo_audit_take() {
 # `cargo audit ..` goes here too, and every other word of cargo to the function from before. Where there
 # is none yet, bash-completion may have one to load.
 _cargo_audit_of_cargo() {
-    if [[ ${COMP_WORDS[1]} == audit ]] && ((COMP_CWORD > 1)); then
-        _cargo_audit "$@"
-        return
+    if ((COMP_CWORD > 1)); then
+        case ${COMP_WORDS[1]} in
+            audit) _cargo_audit "$@"; return ;;
+            audit-fresh) _cargo_audit_fresh; return ;;
+            audit-mirror) _cargo_audit_mirror; return ;;
+        esac
     fi
     if [[ -z ${_cargo_audit_before-} ]]; then
         if declare -F _comp_load > /dev/null; then _comp_load cargo; elif declare -F __load_completion > /dev/null; then __load_completion cargo; fi
@@ -100,6 +136,7 @@ _cargo_audit_of_cargo() {
 }
 
 complete -F _cargo_audit cargo-audit
+complete -F _cargo_audit_alone cargo-audit-fresh cargo-audit-mirror
 _cargo_audit_take
 """
 
@@ -124,11 +161,14 @@ def bash_options(manual):
     return text
 
 
-def bash(manual):
-    valued = [f"{'' if one.place == 'audit' else one.place}:*:{each}" for one in manual.options if one.value for each in one.spellings()]
+def bash(manual, tools):
+    fresh, fresh_valued = own(tools["cargo-audit-fresh"])
+    mirror, mirror_valued = own(tools["cargo-audit-mirror"])
+    valued = [f":*:{each}" for each in fresh_valued.split(" | ")] + [f"{'' if one.place == 'audit' else one.place}:*:{each}" for one in manual.options if one.value for each in one.spellings()]
     return MADE.format("bash") + filled(
         BASH, ENDS=" | ".join(f":*:{each}*" for each in ENDS), VALUED=" | ".join(valued), VALUES=bash_values(manual), OPTIONS=bash_options(manual),
-        FRONT=" ".join(each for one in manual.of("front") for each in one.spellings()), COMMANDS=" ".join((*BEHIND, "generate")), BEHIND=" ".join(BEHIND))
+        FRONT=" ".join(each for one in manual.of("front") for each in one.spellings()), COMMANDS=" ".join((*BEHIND, "generate")), BEHIND=" ".join(BEHIND),
+        FRESH=" ".join(each for each in fresh.split() if each not in ("-h", "--help")), MIRROR=mirror, MIRRORVALUED=mirror_valued)
 
 
 # ---- zsh
@@ -139,6 +179,15 @@ _cargo-audit() {
     local curcontext=$curcontext ret=1
     local -a state line commands
     local -A opt_args
+    case $service in
+        cargo-audit-mirror)
+            _arguments -s -S : @MIRROR@ \
+                '1:lockfile:_files' \
+                '2:mirror folder:_files -/'
+            return ;;
+        cargo-audit-fresh)
+            words=(audit "${(@)words[2,-1]}") ;;
+    esac
     if [[ $words[1] != audit ]]; then
         if (( CURRENT == 2 )); then
             _arguments : @FRONT@ \
@@ -151,7 +200,9 @@ _cargo-audit() {
     commands=(@COMMANDS@)
     if (( CURRENT == 2 )); then commands+=('generate:@GENERATE@'); fi
     if (( ${words[(I)--(write-|)baseline(|=*)]} )); then commands=(); fi
-    _arguments -s -C : @AUDIT@ \
+    local -a fresh
+    if [[ $service == cargo-audit-fresh ]]; then fresh=(@FRESH@); fi
+    _arguments -s -C : $fresh @AUDIT@ \
         '1: :->command' \
         '*:: :->behind' && ret=0
     case $state in
@@ -184,14 +235,26 @@ def zsh_option(one):
     return f" \\\n        {front}{{{letter},{name}}}'{rest}"
 
 
-def zsh(manual):
+def zsh_tool(rows):
+    """The options of a tool, each as an argument of _arguments."""
+    found = []
+    for head, text in rows:
+        spelt, value = spelt_of(head)
+        rest = f"[{zsh_text(re.sub(r' [(]default: [^)]*[)]', '', text))}]" + (f":{value.lower()}: " if value else "")
+        found += [f"'{each}{'=' if value else ''}{rest}'" for each in spelt]
+    return found
+
+
+def zsh(manual, tools):
     rest = {"fix": "", "bin": " \\\n        '*:program:_files'", "plan": "",
             "vendor": " \\\n        '1:crate files:_files -/' \\\n        '2:registry:_files -/'"}
     options = {place: "".join(zsh_option(one) for one in manual.of(place)) for place in ("front", "audit", *BEHIND)}
     deeper = lambda text: text.replace("\n        ", "\n                    ")
     behind = "".join(f"                {name}) _arguments -s -S :{deeper(options[name] + rest[name])} && ret=0 ;;\n" for name in BEHIND)
-    return "#compdef cargo-audit\n" + MADE.format("zsh") + filled(
-        ZSH, FRONT=options["front"].replace("\n        ", "\n                ").lstrip(), AUDIT=options["audit"].lstrip(), BEHIND=behind, GENERATE=zsh_text(ABOUT["generate"]),
+    mirror = zsh_tool(tools["cargo-audit-mirror"])
+    fresh = [each for each in zsh_tool(tools["cargo-audit-fresh"]) if "help" not in each]
+    return "#compdef cargo-audit cargo-audit-fresh cargo-audit-mirror\n" + MADE.format("zsh") + filled(
+        ZSH, MIRROR=" \\\n                ".join(mirror), FRESH=" ".join(fresh), FRONT=options["front"].replace("\n        ", "\n                ").lstrip(), AUDIT=options["audit"].lstrip(), BEHIND=behind, GENERATE=zsh_text(ABOUT["generate"]),
         COMMANDS=" ".join(f"'{name}:{zsh_text(ABOUT[name])}'" for name in BEHIND))
 
 
@@ -254,7 +317,16 @@ def fish_option(one):
     return f"    {line} -d {fish_word(about(one))}\n"
 
 
-def fish(manual):
+def fish_tool(program, rows):
+    text = ""
+    for head, about_it in rows:
+        spelt, value = spelt_of(head)
+        names = "".join(f" -l {each[2:]}" if each.startswith("--") else f" -s {each[1:]}" for each in spelt)
+        text += f"complete -c {program}{names}{' -x' if value else ''} -d {fish_word(about_it)}\n"
+    return text
+
+
+def fish(manual, tools):
     valued = sorted({each for one in manual.options if one.value for each in one.spellings()})
     text = filled(FISH, ENDS=" ".join(f"'{each}*'" for each in ENDS), VALUED=" ".join(valued))
     text += "for program in cargo-audit cargo\n"
@@ -265,4 +337,6 @@ def fish(manual):
     text += "    complete -c $program -n '__cargo_audit_is bin' -F\n"
     text += "    complete -c $program -n '__cargo_audit_is vendor' -a '(__fish_complete_directories)'\n"
     text += "".join(fish_option(one) for one in manual.options)
-    return MADE.format("fish") + text + "end\n"
+    text += "end\ncomplete -c cargo-audit-fresh -w 'cargo-audit audit'\n"
+    text += "".join(fish_tool(program, rows) for program, rows in tools.items())
+    return MADE.format("fish") + text

@@ -10,7 +10,7 @@ _cargo_audit_place() {
             bin:only:*) ;;
             bin:*:--) ends=only ;;
             :*:--baseline* | :*:--write-baseline*) ends=yes ;;&
-            :*:-c | :*:--color | :*:-d | :*:--db | :*:-D | :*:--deny | :*:-f | :*:--file | :*:--ignore | :*:--target-arch | :*:--target-os | :*:-u | :*:--url | :*:--format | :*:--baseline | :*:--write-baseline | fix:*:-f | fix:*:--file | bin:*:--max-binary-size | bin:*:--audit-data-size-limit)
+            :*:--index | :*:--timeout | :*:-c | :*:--color | :*:-d | :*:--db | :*:-D | :*:--deny | :*:-f | :*:--file | :*:--ignore | :*:--target-arch | :*:--target-os | :*:-u | :*:--url | :*:--format | :*:--baseline | :*:--write-baseline | fix:*:-f | fix:*:--file | bin:*:--max-binary-size | bin:*:--audit-data-size-limit)
                 if [[ ${COMP_WORDS[at + 1]} == = ]]; then ((at++)); fi
                 ((at++))
                 if ((at >= COMP_CWORD)); then option=$word; fi ;;
@@ -69,6 +69,27 @@ _cargo_audit() {
     fi
 }
 
+# What stands behind `cargo audit-fresh`: options of its own first, and the words of an audit.
+_cargo_audit_fresh() {
+    _cargo_audit
+    if ((COMP_CWORD == 2)); then mapfile -t -O ${#COMPREPLY[@]} COMPREPLY < <(compgen -W '--index --timeout' -- "${COMP_WORDS[2]}"); fi
+}
+
+# What stands behind `cargo audit-mirror`.
+_cargo_audit_mirror() {
+    local word=${COMP_WORDS[COMP_CWORD]}
+    COMPREPLY=()
+    case ${COMP_WORDS[COMP_CWORD - 1]} in --index | --timeout) return ;; esac
+    if [[ $word == -* ]]; then _cargo_audit_words '--age --index --timeout -h --help'; else _cargo_audit_paths -f; fi
+}
+
+# The two as programs by themselves.
+_cargo_audit_alone() {
+    COMP_WORDS=(cargo "${1##*cargo-}" "${COMP_WORDS[@]:1}")
+    ((COMP_CWORD++))
+    _cargo_audit_of_cargo "$@"
+}
+
 # Completes cargo by this file, and keeps the function that did so before.
 _cargo_audit_take() {
     if [[ $(complete -p cargo 2> /dev/null) =~ \ -F\ ([^ ]+)\  && ${BASH_REMATCH[1]} != _cargo_audit_of_cargo ]]; then
@@ -80,9 +101,12 @@ _cargo_audit_take() {
 # `cargo audit ..` goes here too, and every other word of cargo to the function from before. Where there
 # is none yet, bash-completion may have one to load.
 _cargo_audit_of_cargo() {
-    if [[ ${COMP_WORDS[1]} == audit ]] && ((COMP_CWORD > 1)); then
-        _cargo_audit "$@"
-        return
+    if ((COMP_CWORD > 1)); then
+        case ${COMP_WORDS[1]} in
+            audit) _cargo_audit "$@"; return ;;
+            audit-fresh) _cargo_audit_fresh; return ;;
+            audit-mirror) _cargo_audit_mirror; return ;;
+        esac
     fi
     if [[ -z ${_cargo_audit_before-} ]]; then
         if declare -F _comp_load > /dev/null; then _comp_load cargo; elif declare -F __load_completion > /dev/null; then __load_completion cargo; fi
@@ -93,4 +117,5 @@ _cargo_audit_of_cargo() {
 }
 
 complete -F _cargo_audit cargo-audit
+complete -F _cargo_audit_alone cargo-audit-fresh cargo-audit-mirror
 _cargo_audit_take

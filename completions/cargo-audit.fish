@@ -81,3 +81,11 @@ for program in cargo-audit cargo
     complete -c $program -n '__cargo_audit_is plan' -s h -l help -d 'print the help'
     complete -c $program -n '__cargo_audit_is vendor' -s h -l help -d 'print the help'
 end
+complete -c cargo-audit-fresh -w 'cargo-audit audit'
+complete -c cargo-audit-fresh -l index -x -d 'where the index files are (default: https://index.crates.io)'
+complete -c cargo-audit-fresh -l timeout -x -d 'how long a server may be silent (default: 60)'
+complete -c cargo-audit-fresh -s h -l help -d 'print the help, as the first argument'
+complete -c cargo-audit-mirror -l age -d 'ask nothing: print how long ago the oldest file was asked for, and which crates have none'
+complete -c cargo-audit-mirror -l index -x -d 'where the index files are (default: https://index.crates.io)'
+complete -c cargo-audit-mirror -l timeout -x -d 'how long the server may be silent (default: 60)'
+complete -c cargo-audit-mirror -s h -l help -d 'print the help'
