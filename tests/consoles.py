@@ -33,9 +33,9 @@ import tempfile
 TESTS = os.path.dirname(os.path.abspath(__file__))
 TOP = os.path.dirname(TESTS)
 SECONDS = 60
-# cargo hands its words on to the program of this name; where a block doesn't ask for the real one,
-# this stands for it
-CARGO = '#!/bin/sh\nexec cargo-audit "$@"\n'
+# cargo hands its words on to the program that the first of them names; where a block doesn't ask for
+# the real one, this stands for it
+CARGO = '#!/bin/sh\nexec "cargo-$1" "$@"\n'
 
 
 class Command:
@@ -136,6 +136,8 @@ def programs_in(folder, program, needs):
     os.makedirs(folder)
     # a link, since a copy that is being written elsewhere can't be started for a moment
     os.symlink(os.path.abspath(program), f"{folder}/cargo-audit")
+    for name in ("cargo-audit-fresh", "cargo-audit-mirror"):
+        os.symlink(f"{TOP}/tools/{name}", f"{folder}/{name}")
     if "cargo" not in needs:
         with open(f"{folder}/cargo", "w", encoding="utf-8") as out:
             out.write(CARGO)
