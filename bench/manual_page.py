@@ -3,7 +3,7 @@ import re
 
 BLIND = ("Without a database an audit finds no vulnerability, and without a mirror folder no yanked version. Neither is a "
          "fault. The line \\(lqLoaded 0 security advisories\\(rq on the error stream tells the one, the cause \\(lqabsent\\(rq of each "
-         "package the other.")
+         "package the other. cargo\\-audit\\-fresh(1) refuses such audits.")
 
 
 def plain(text):
