@@ -33,7 +33,6 @@ mod network;
 mod responses;
 mod serving;
 mod sparse;
-mod taking;
 mod urls;
 
 pub use etags::EtagCache;

@@ -10,7 +10,7 @@ mod Firsts
 mod FolderPaths
 mod Groups
 mod Inserting
-pub mod Pairs
+mod Pairs
 mod Places
 mod Premises
 mod Reached
@@ -18,6 +18,5 @@ mod Sets
 mod Slashless
 mod Stocked
 mod Told
-mod Unread
-pub mod Whole
+mod Whole
 mod Within

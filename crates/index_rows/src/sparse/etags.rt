@@ -53,7 +53,7 @@ pub fn see(
     let status = words.status()?;
     let revision = RevisionWord::of(alloc, words.word())?;
     let response = Response {
-        status_code: status,
+        status,
         revision: revision.http(),
         body: b"",
     };
