@@ -11,6 +11,13 @@ use Rattle.audit_advisory.specs.declared.outputs.WarningKind.TheVariants as kind
 abbrev pub all_deny_options : List DenyOption
 all_deny_options = deny.Warnings ∷ deny.Unmaintained ∷ deny.Unsound ∷ deny.Yanked ∷ []
 
+-- the place of an option in their order
+abbrev pub deny_place : DenyOption → ℕ
+deny_place deny.Warnings = 0
+deny_place deny.Unmaintained = 1
+deny_place deny.Unsound = 2
+deny_place deny.Yanked = 3
+
 abbrev pub deny_option_of : List ℕ → Option DenyOption
 deny_option_of s =
     if bytes_eq s (codes "warnings") then Some deny.Warnings

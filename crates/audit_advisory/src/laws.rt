@@ -1,6 +1,7 @@
 //! What holds of every interval, in the words of Semantic Versioning 2.0.0, and of every path.
-ghost use Rattle.std.specs.Prelude.{◌≡◌, ◌↔◌, ◌<◌, ◌-◌, ◌^◌, ℕ, List, [], map, Option, Some, Ok, IsTrue, false};
+ghost use Rattle.std.specs.Prelude.{◌≡◌, ◌↔◌, ◌<◌, ◌-◌, ◌^◌, ℕ, codes, List, [], map, Option, Some, Ok, IsTrue, false};
 ghost use Rattle.std.specs.List.{All};
+ghost use Rattle.std.specs.Ordering.{nat_cmp};
 ghost use Rattle.std.specs.declared.cmp.Ordering.TheVariants as ordering;
 ghost use Rattle.semver.specs.Eval.{matches_all, matches_one};
 ghost use Rattle.semver.specs.Identifiers.{comparator_view, pre_text};
@@ -11,9 +12,25 @@ ghost use Rattle.semver.specs.declared.Version.{Version};
 ghost use Rattle.audit_advisory.specs.Advisories.{segments};
 ghost use Rattle.audit_advisory.specs.Agreement.{ArePlain, IsPlain};
 ghost use Rattle.audit_advisory.specs.Intervals.{interval_of, lies_in};
+ghost use Rattle.audit_advisory.specs.Outputs.{deny_place};
 ghost use Rattle.audit_advisory.specs.Points.{Point, point_of, precedence};
 ghost use Rattle.audit_advisory.specs.Requirements.{meets};
 ghost use Rattle.audit_advisory.specs.Segments.{has_colons, joined};
+
+use crate::outputs::{DenyOption, VERSION};
+use std::cmp::Ordering;
+
+/// What options of denial compare as: their places in the order of all four.
+pub fn deny_options_compare(one: DenyOption, other: DenyOption) -> Ordering
+    ensures { result ≡ nat_cmp (deny_place one) (deny_place other) }
+{
+    one.cmp(&other)
+}
+
+/// The version that texts and reports name.
+pub fn version_is_stated()
+    ensures { VERSION.now ≡ codes "0.22.2" }
+{}
 
 /// `=1.2.3` holds exactly the versions of that version's precedence (section 11), whatever their
 /// build metadata.

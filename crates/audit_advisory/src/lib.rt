@@ -48,8 +48,8 @@ pub use faults::{AdvisoryFault, AdvisoryRule};
 pub use hitting::{hits, read_version};
 pub use intervals::Interval;
 pub use laws::{
-    caret_keeps_the_first_number, exact_holds_one_precedence, releases_are_as_for_cargo,
-    segments_give_the_path,
+    caret_keeps_the_first_number, deny_options_compare, exact_holds_one_precedence,
+    releases_are_as_for_cargo, segments_give_the_path, version_is_stated,
 };
 pub use metadata::{Informational, Metadata};
 pub use outputs::{DenyOption, OutputConfig, OutputFormat, UnknownWord, VERSION, WarningKind};

@@ -38,15 +38,24 @@ pub enum DenyOption {
 }
 
 /// How a report is shown.
-#[derive(Clone, Copy, Debug, Default, PartialEq, Eq)]
+#[derive(Clone, Copy, Debug, PartialEq, Eq)]
 pub enum OutputFormat {
     /// One JSON object.
     Json,
     /// A SARIF log.
     Sarif,
     /// Lines to be read at a terminal.
-    #[default]
     Terminal,
+}
+
+impl Default for OutputFormat {
+    ghost use Rattle.audit_advisory.specs.declared.outputs.OutputFormat.TheVariants.{Terminal};
+
+    ghost is_default = { λ format. format ≡ Terminal };
+
+    fn default() -> OutputFormat {
+        OutputFormat::Terminal
+    }
 }
 
 /// What is denied, and how a report is shown.

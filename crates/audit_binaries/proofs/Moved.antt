@@ -73,6 +73,7 @@ module _ (tells : Tells) (auditor : Auditor) (limits : BinaryLimits) (host later
     said = says_moved path (record { found = found; text = h.text }) h.said;
     audit = h.audit;
     unasked = h.unasked;
+    unchanged = h.unchanged;
     others = h.others;
     folders = h.folders;
     kept = h.kept;

@@ -197,7 +197,7 @@ all_held tells scan began ended (p ∷ paths) (answer.Audited found audited ∷ 
       more.0,
       parts,
       h.1.answered.audit.says.headline on told_wire told m one.0 one.1 own kept,
-      all_held tells scan h.0 ended paths answers on told_wire told h.2 m more.0 more.1 rest (kept_after m crates_io_index [] began.moment.files h.0.moment.files (h.1.answered.kept told_wire told m one.0 one.1 own kept)),
+      all_held tells scan h.0 ended paths answers on told_wire told h.2 m more.0 more.1 rest (kept_after m crates_io_index [] began.moment.files h.0.moment.files ((h.1.answered.kept told_wire told).kept m one.0 one.1 own kept)),
     )
 all_held tells scan began ended (p ∷ paths) (answer.Refused f ∷ answers) on told_wire told h m added is honest kept =
     let moment = h.1.answered.1.moment in

@@ -3,6 +3,7 @@ use Rattle.std.specs.Prelude.{◌≡◌, ◌≢◌, ◌≤◌, ◌⊎◌, ℕ, L
 use Rattle.tame_names.specs.Counts.{CountRose}
 use Rattle.tame_names.specs.Standing.{Host}
 use Rattle.tame_names.specs.declared.host.FailedCall.{FailedCall}
+use Rattle.tame_cache.specs.FailedCalls.{FailedDiskCalls}
 use Rattle.tame_cache.specs.Kept.{Disk}
 use Rattle.tame_sparse.specs.declared.network.Exchange.{Exchange}
 use Rattle.audit_lock.specs.Locked.{locked}
@@ -44,20 +45,22 @@ pub record Outside : Type 0 where
   pub decode_faults : ℕ
 
 -- by its fields in their order
-abbrev pub outside : List Exchange → Disk → ℕ → ℕ → List (List ℕ) → List FailedCall → ℕ → ℕ
-    → Outside
-outside exchanges files wire_faults disk_faults folders failed file_faults decode_faults = record {
-  moment = record {
-    exchanges = exchanges;
-    files = files;
-    wire_faults = wire_faults;
-    disk_faults = disk_faults;
-  };
-  folders = folders;
-  failed = failed;
-  file_faults = file_faults;
-  decode_faults = decode_faults;
-}
+abbrev pub outside : List Exchange → Disk → ℕ → ℕ → FailedDiskCalls → List (List ℕ)
+    → List FailedCall → ℕ → ℕ → Outside
+outside exchanges files wire_faults disk_faults disk_failed folders failed file_faults
+    decode_faults = record {
+      moment = record {
+        exchanges = exchanges;
+        files = files;
+        wire_faults = wire_faults;
+        disk_faults = disk_faults;
+        disk_failed = disk_failed;
+      };
+      folders = folders;
+      failed = failed;
+      file_faults = file_faults;
+      decode_faults = decode_faults;
+    }
 
 -- what binaries are audited by: the auditor, the limits, what stands at paths, and what the decoder
 -- answers
@@ -79,7 +82,8 @@ Says tells scan path said =
 -- ---- one binary
 
 -- its audit is that of the text that it says; no file changes but those of the paths that are asked
--- for, and no folders are made but those above them; a kept disk is kept all the time where the
+-- for, and none at all where the server isn't asked, so that the next binary is audited by the same
+-- cache; no folders are made but those above them; a kept disk is kept all the time where the
 -- exchanges are honest
 pub record IsAudited (tells : Tells) (scan : Scan) (began ended : Outside) (path : List ℕ)
     (found : PackagesFound) (audited : Audited) : Type 0 where
@@ -87,6 +91,8 @@ pub record IsAudited (tells : Tells) (scan : Scan) (began ended : Outside) (path
   pub said : Says tells scan path (record { found = found; text = text })
   pub audit : IsAuditOf scan.auditor tells.wire tells.disk began.moment ended.moment text audited
   pub unasked : scan.auditor.checks ≢ Online → ended.moment.exchanges ≡ began.moment.exchanges
+  pub unchanged : scan.auditor.checks ≢ Online → tells.disk
+      → (q : List ℕ) → ended.moment.files q ≡ began.moment.files q
   pub others : tells.disk → KeepsOthers
       (asked_by scan audited.lockfile) began.moment.files ended.moment.files
   pub folders : tells.disk → MakesAskedFolders

@@ -41,12 +41,26 @@ pub enum BinaryAnswer {
 }
 
 /// What the answers for binaries come to.
-#[derive(Clone, Copy, Debug, Default, PartialEq, Eq)]
+#[derive(Clone, Copy, Debug, PartialEq, Eq)]
 pub struct MultiFileReportSummary {
     /// A binary that was audited has a vulnerability, or a warning that is denied.
     pub vulnerabilities_found: bool,
     /// A binary was refused, or an advisory on the auditor itself is denied.
     pub errors_encountered: bool,
+}
+
+impl Default for MultiFileReportSummary {
+    ghost use Rattle.std.specs.Prelude.{◌≡◌, false};
+
+    ghost is_default = { λ summary. (summary.vulnerabilities_found ≡ false)
+        × (summary.errors_encountered ≡ false) };
+
+    fn default() -> MultiFileReportSummary {
+        MultiFileReportSummary {
+            vulnerabilities_found: false,
+            errors_encountered: false,
+        }
+    }
 }
 
 /// The audits of binaries.

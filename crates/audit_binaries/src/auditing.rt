@@ -42,9 +42,11 @@ pub fn audit_binary<F: Files, P: Decoder, W: Wire, D: CacheDisk>(
           answers = P.answers decoder.old;
         })
         (outside (W.exchanges wire.old) (D.past disk.old) (W.faults wire.old) (D.faults disk.old)
-        (D.folders disk.old) (F.failed files.old) (F.faults files.old) (P.faults decoder.old))
+        (D.failed disk.old) (D.folders disk.old) (F.failed files.old) (F.faults files.old)
+        (P.faults decoder.old))
         (outside (W.exchanges wire.new) (D.past disk.new) (W.faults wire.new) (D.faults disk.new)
-        (D.folders disk.new) (F.failed files.new) (F.faults files.new) (P.faults decoder.new))
+        (D.failed disk.new) (D.folders disk.new) (F.failed files.new) (F.faults files.new)
+        (P.faults decoder.new))
         path.now) }
 
     // where memory ran out, what was done of it
@@ -57,9 +59,11 @@ pub fn audit_binary<F: Files, P: Decoder, W: Wire, D: CacheDisk>(
           answers = P.answers decoder.old;
         })
         (outside (W.exchanges wire.old) (D.past disk.old) (W.faults wire.old) (D.faults disk.old)
-        (D.folders disk.old) (F.failed files.old) (F.faults files.old) (P.faults decoder.old))
+        (D.failed disk.old) (D.folders disk.old) (F.failed files.old) (F.faults files.old)
+        (P.faults decoder.old))
         (outside (W.exchanges wire.new) (D.past disk.new) (W.faults wire.new) (D.faults disk.new)
-        (D.folders disk.new) (F.failed files.new) (F.faults files.new) (P.faults decoder.new))
+        (D.failed disk.new) (D.folders disk.new) (F.failed files.new) (F.faults files.new)
+        (P.faults decoder.new))
         path.now) }
 
     // whatever the answer: what stays, and what is kept
@@ -114,9 +118,11 @@ fn audit_each<F: Files, P: Decoder, W: Wire, D: CacheDisk>(
           answers = P.answers decoder.old;
         })
         (outside (W.exchanges wire.old) (D.past disk.old) (W.faults wire.old) (D.faults disk.old)
-        (D.folders disk.old) (F.failed files.old) (F.faults files.old) (P.faults decoder.old))
+        (D.failed disk.old) (D.folders disk.old) (F.failed files.old) (F.faults files.old)
+        (P.faults decoder.old))
         (outside (W.exchanges wire.new) (D.past disk.new) (W.faults wire.new) (D.faults disk.new)
-        (D.folders disk.new) (F.failed files.new) (F.faults files.new) (P.faults decoder.new))
+        (D.failed disk.new) (D.folders disk.new) (F.failed files.new) (F.faults files.new)
+        (P.faults decoder.new))
         paths.now) }
     ensures cut { IfErr result (λ _. ArePartly
         (record { files = F.tells; decoder = P.tells; wire = W.tells; disk = D.tells })
@@ -127,9 +133,11 @@ fn audit_each<F: Files, P: Decoder, W: Wire, D: CacheDisk>(
           answers = P.answers decoder.old;
         })
         (outside (W.exchanges wire.old) (D.past disk.old) (W.faults wire.old) (D.faults disk.old)
-        (D.folders disk.old) (F.failed files.old) (F.faults files.old) (P.faults decoder.old))
+        (D.failed disk.old) (D.folders disk.old) (F.failed files.old) (F.faults files.old)
+        (P.faults decoder.old))
         (outside (W.exchanges wire.new) (D.past disk.new) (W.faults wire.new) (D.faults disk.new)
-        (D.folders disk.new) (F.failed files.new) (F.faults files.new) (P.faults decoder.new))
+        (D.failed disk.new) (D.folders disk.new) (F.failed files.new) (F.faults files.new)
+        (P.faults decoder.new))
         paths.now) }
     ensures files_same { F.tells → F.host files.new ≡ F.host files.old }
     ensures decoder_same { P.tells → (other : List ℕ) (bound : ℕ)
@@ -187,9 +195,11 @@ pub fn audit_binaries<F: Files, P: Decoder, W: Wire, D: CacheDisk>(
           answers = P.answers decoder.old;
         })
         (outside (W.exchanges wire.old) (D.past disk.old) (W.faults wire.old) (D.faults disk.old)
-        (D.folders disk.old) (F.failed files.old) (F.faults files.old) (P.faults decoder.old))
+        (D.failed disk.old) (D.folders disk.old) (F.failed files.old) (F.faults files.old)
+        (P.faults decoder.old))
         (outside (W.exchanges wire.new) (D.past disk.new) (W.faults wire.new) (D.faults disk.new)
-        (D.folders disk.new) (F.failed files.new) (F.faults files.new) (P.faults decoder.new))
+        (D.failed disk.new) (D.folders disk.new) (F.failed files.new) (F.faults files.new)
+        (P.faults decoder.new))
         paths.now b.answers) }
     ensures summary { IfOk result (λ b. b.summary
         ≡ summary_of auditor.now.deny (self_advisories auditor.now.database) b.answers) }
@@ -200,9 +210,11 @@ pub fn audit_binaries<F: Files, P: Decoder, W: Wire, D: CacheDisk>(
         (record { files = F.tells; decoder = P.tells; wire = W.tells; disk = D.tells })
         auditor.now.checks
         (outside (W.exchanges wire.old) (D.past disk.old) (W.faults wire.old) (D.faults disk.old)
-        (D.folders disk.old) (F.failed files.old) (F.faults files.old) (P.faults decoder.old))
+        (D.failed disk.old) (D.folders disk.old) (F.failed files.old) (F.faults files.old)
+        (P.faults decoder.old))
         (outside (W.exchanges wire.new) (D.past disk.new) (W.faults wire.new) (D.faults disk.new)
-        (D.folders disk.new) (F.failed files.new) (F.faults files.new) (P.faults decoder.new))
+        (D.failed disk.new) (D.folders disk.new) (F.failed files.new) (F.faults files.new)
+        (P.faults decoder.new))
         b.answers) }
     ensures refused { IfOk result (λ b. AreRefused b.answers
         → (wire.new ≡ wire.old) × (disk.new ≡ disk.old)) }
@@ -217,9 +229,11 @@ pub fn audit_binaries<F: Files, P: Decoder, W: Wire, D: CacheDisk>(
           answers = P.answers decoder.old;
         })
         (outside (W.exchanges wire.old) (D.past disk.old) (W.faults wire.old) (D.faults disk.old)
-        (D.folders disk.old) (F.failed files.old) (F.faults files.old) (P.faults decoder.old))
+        (D.failed disk.old) (D.folders disk.old) (F.failed files.old) (F.faults files.old)
+        (P.faults decoder.old))
         (outside (W.exchanges wire.new) (D.past disk.new) (W.faults wire.new) (D.faults disk.new)
-        (D.folders disk.new) (F.failed files.new) (F.faults files.new) (P.faults decoder.new))
+        (D.failed disk.new) (D.folders disk.new) (F.failed files.new) (F.faults files.new)
+        (P.faults decoder.new))
         paths.now) }
 
     // whatever the answer: what stays, and what is kept

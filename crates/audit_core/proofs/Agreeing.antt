@@ -139,7 +139,7 @@ abbrev AreQuiet : List Turn → Type 0
 AreQuiet [] = Unit {0}
 AreQuiet (t ∷ ts) = (CountRose t.disk_asked t.disk_after → ⊥) × AreQuiet ts
 
-chain_grows : (wire disk : ℕ) (ts : List Turn) (last_wire last_disk : ℕ) → Chains wire disk ts last_wire last_disk → disk ≤ last_disk
+pub chain_grows : (wire disk : ℕ) (ts : List Turn) (last_wire last_disk : ℕ) → Chains wire disk ts last_wire last_disk → disk ≤ last_disk
 chain_grows wire disk [] last_wire last_disk h = let same = h.1 in omega (arith, same)
 chain_grows wire disk (t ∷ ts) last_wire last_disk h =
     let more = chain_grows t.wire_after t.disk_after ts last_wire last_disk h.5 in

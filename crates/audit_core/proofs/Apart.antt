@@ -11,7 +11,7 @@ use Rattle.tame_sparse.specs.declared.network.Exchange.{Exchange}
 use Rattle.audit_core.specs.Answers.{IsAnswer, IsNotModified}
 use Rattle.audit_core.specs.Audits.{TurnsNameAndLeave}
 use Rattle.audit_core.specs.Paths.{distinct_after, is_among}
-use Rattle.audit_core.specs.Turns.{LeavesFile, TurnsInOrder, index_file}
+use Rattle.audit_core.specs.Turns.{DiskAt, LeavesFile, TurnsInOrder, index_file}
 use Rattle.audit_core.specs.declared.asking.AnsweredTurn.{AnsweredTurn}
 use Rattle.audit_core.proofs.Lists.{bytes_same, cons_head, cons_tail, or_left, or_right, same_bytes}
 use Rattle.audit_core.proofs.Table.{or_cases}
@@ -68,7 +68,7 @@ abbrev Placed : List Exchange → Type 0
 Placed [] = Unit {0}
 Placed (e ∷ es) = IsIndexPath e.path × Placed es
 
-pub turned_placed : (told : Type 0) (old new : Disk) (es : List Exchange) (hs : List AnsweredTurn) → TurnsInOrder told old es hs new → Placed es
+pub turned_placed : (told : Type 0) (old new : DiskAt) (es : List Exchange) (hs : List AnsweredTurn) → TurnsInOrder told old es hs new → Placed es
 turned_placed told old new [] [] x = tt
 turned_placed told old new [] (h ∷ hs) x = absurd x
 turned_placed told old new (e ∷ es) [] x = absurd x
@@ -95,7 +95,7 @@ all_apart (x ∷ ps) (e ∷ es) placed is distinct =
 pub asked_distinct : (qs : List (List ℕ)) → Distinct (distinct_after [] qs)
 asked_distinct qs = (apart [] qs).distinct
 
-pub asked_apart : (told : Type 0) (old new : Disk) (es : List Exchange) (hs : List AnsweredTurn) (ps : List (List ℕ)) → TurnsInOrder told old es hs new → map (λ (e : Exchange). e.path) es ≡ ps → Distinct ps → Apart es
+pub asked_apart : (told : Type 0) (old new : DiskAt) (es : List Exchange) (hs : List AnsweredTurn) (ps : List (List ℕ)) → TurnsInOrder told old es hs new → map (λ (e : Exchange). e.path) es ≡ ps → Distinct ps → Apart es
 asked_apart told old new es hs ps x is distinct = all_apart ps es (turned_placed told old new es hs x) is distinct
 
 -- no file of another path changes
@@ -111,8 +111,8 @@ avoids_asked q (x ∷ ps) (e ∷ es) is other =
 
 -- ---- what the turns leave
 
-pub turned_others : (told : Type 0) (t : told) (old new : Disk) (q : List ℕ) (es : List Exchange) (hs : List AnsweredTurn) → TurnsInOrder told old es hs new → Avoids q es → new q ≡ old q
-turned_others told t old new q [] [] x other = x t q
+pub turned_others : (told : Type 0) (t : told) (old new : DiskAt) (q : List ℕ) (es : List Exchange) (hs : List AnsweredTurn) → TurnsInOrder told old es hs new → Avoids q es → new.files q ≡ old.files q
+turned_others told t old new q [] [] x other = x.0 t q
 turned_others told t old new q [] (h ∷ hs) x other = absurd x
 turned_others told t old new q (e ∷ es) [] x other = absurd x
 turned_others told t old new q (e ∷ es) (h ∷ hs) x other = turned_others told t x.0 new q es hs x.2 other.1 ∙ x.1.exchanged.others t q other.0
@@ -146,22 +146,22 @@ paired_from old mid new f (e ∷ es) (h ∷ hs) other same x =
       paired_from old mid new f es hs other.1 same x.1,
     )
 
-pub turned_whole : (told : Type 0) (t : told) (old new : Disk) (es : List Exchange) (hs : List AnsweredTurn) → TurnsInOrder told old es hs new → Apart es → Paired (IsWhole old new) es hs
+pub turned_whole : (told : Type 0) (t : told) (old new : DiskAt) (es : List Exchange) (hs : List AnsweredTurn) → TurnsInOrder told old es hs new → Apart es → Paired (IsWhole old.files new.files) es hs
 turned_whole told t old new [] [] x distinct = tt
 turned_whole told t old new [] (h ∷ hs) x distinct = absurd x
 turned_whole told t old new (e ∷ es) [] x distinct = absurd x
 turned_whole told t old new (e ∷ es) (h ∷ hs) x distinct =
     let f = index_file e.path in
     let turn = x.1 in
-    let after : new f ≡ x.0 f = turned_others told t x.0 new f es hs x.2 distinct.0 in (
+    let after : new.files f ≡ x.0.files f = turned_others told t x.0 new f es hs x.2 distinct.0 in (
       record {
         place = turn.place;
         path = turn.path;
         named = turn.named t;
         answer = turn.exchanged.answer (λ n. t);
-        leaves = subst (λ (s : List Step). LeavesFile e.answer h.turn.disk_asked h.turn.disk_after (old f) s) (sym after) (turn.exchanged.leaves t);
+        leaves = subst (λ (s : List Step). LeavesFile e.answer h.turn.disk_asked h.turn.disk_after (old.files f) s) (sym after) (turn.exchanged.leaves t);
       },
-      paired_from old x.0 new f es hs distinct.0 (turn.exchanged.others t) (turned_whole told t x.0 new es hs x.2 distinct.1),
+      paired_from old.files x.0.files new.files f es hs distinct.0 (turn.exchanged.others t) (turned_whole told t x.0 new es hs x.2 distinct.1),
     )
 
 -- the answer of a turn, over the file at the entry
@@ -181,12 +181,12 @@ answered_from told old mid f (e ∷ es) (h ∷ hs) other same x = (
   answered_from told old mid f es hs other.1 same x.1,
 )
 
-pub turned_answered : (told : Type 0) (old new : Disk) (es : List Exchange) (hs : List AnsweredTurn) → TurnsInOrder told old es hs new → Apart es → Paired (IsAnsweredOf told old) es hs
+pub turned_answered : (told : Type 0) (old new : DiskAt) (es : List Exchange) (hs : List AnsweredTurn) → TurnsInOrder told old es hs new → Apart es → Paired (IsAnsweredOf told old.files) es hs
 turned_answered told old new [] [] x distinct = tt
 turned_answered told old new [] (h ∷ hs) x distinct = absurd x
 turned_answered told old new (e ∷ es) [] x distinct = absurd x
 turned_answered told old new (e ∷ es) (h ∷ hs) x distinct =
-    (record { path = x.1.path; answer = x.1.exchanged.answer }, answered_from told old x.0 (index_file e.path) es hs distinct.0 x.1.exchanged.others (turned_answered told x.0 new es hs x.2 distinct.1))
+    (record { path = x.1.path; answer = x.1.exchanged.answer }, answered_from told old.files x.0.files (index_file e.path) es hs distinct.0 x.1.exchanged.others (turned_answered told x.0 new es hs x.2 distinct.1))
 
 pub all_turned : (old new : Disk) (es : List Exchange) (hs : List AnsweredTurn) → Paired (IsWhole old new) es hs → TurnsNameAndLeave old new es (map (λ (h : AnsweredTurn). h.turn) hs)
 all_turned old new [] [] x = tt

@@ -1,7 +1,9 @@
 pub mod Agreeing
 pub mod Apart
+pub mod BlamedReads
 pub mod EachOnce
 pub mod Exchanged
+pub mod FailedLemmas
 pub mod Finished
 pub mod HistoryLemmas
 pub mod Left
@@ -9,9 +11,12 @@ pub mod Lists
 pub mod Names
 pub mod PlanLemmas
 pub mod Recalls
+pub mod Remembers
+pub mod SentLemmas
 pub mod Sound
 pub mod Steps
 pub mod Table
+pub mod Repeating
 pub mod ResultLemmas
 pub mod Unasked
 pub mod Whole

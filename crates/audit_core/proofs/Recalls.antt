@@ -2,9 +2,11 @@
 use Rattle.std.proofs.Common.{◌≡◌, ℕ, List, [], ◌∷◌, ◌++◌, map, Bool, true, false, cond, Option, Some, refl, subst}
 use Rattle.std.specs.Prelude.{bytes_eq}
 use Rattle.tame_cache.specs.Disk.{Step, reads}
+use Rattle.tame_cache.specs.FailedCalls.{FailedDiskCalls}
 use Rattle.tame_cache.specs.Kept.{Disk}
 use Rattle.audit_lock.specs.declared.resolving.Package.{Package}
 use Rattle.audit_core.specs.AnsweredTurns.{answered_turn_of}
+use Rattle.audit_core.specs.FailedReads.{BlameReads}
 use Rattle.audit_core.specs.Recalled.{AreRecalled, AreUnasked, IsFileAnswer, IsVerdictByCacheAt}
 use Rattle.audit_core.specs.Turns.{index_file}
 use Rattle.audit_core.specs.Verdicts.{AreVerdicts}
@@ -26,6 +28,10 @@ recalled_from told old mid (x ∷ hs) same h =
 pub recalled_more : (told : Type 0) (disk : Disk) (hs ks : List AnsweredTurn) → AreRecalled told disk hs → AreRecalled told disk ks → AreRecalled told disk (hs ++ ks)
 recalled_more told disk [] ks h k = k
 recalled_more told disk (x ∷ hs) ks h k = (h.0, recalled_more told disk hs ks h.1 k)
+
+pub blames_more : (a : FailedDiskCalls) (hs ks : List AnsweredTurn) (b c : FailedDiskCalls) → BlameReads a hs b → BlameReads b ks c → BlameReads a (hs ++ ks) c
+blames_more a [] ks b c h k = subst (λ (x : FailedDiskCalls). BlameReads x ks c) h k
+blames_more a (x ∷ hs) ks b c h k = (h.0, h.1, blames_more h.0 hs ks b c h.2 k)
 
 pub unasked_more : (ts us : List Turn) → AreUnasked ts → AreUnasked us → AreUnasked (ts ++ us)
 unasked_more [] us h k = k

@@ -20,13 +20,15 @@ use Rattle.tame_entry.specs.declared.index_entries.IndexEntry.{IndexEntry}
 use Rattle.tame_entry.specs.declared.index_entries.IndexEntry.TheVariants.{Remote, Cache, Local}
 use Rattle.tame_cache.specs.CacheFiles.{HandsOut}
 use Rattle.tame_cache.specs.Disk.{File}
+use Rattle.tame_cache.specs.FailedCalls.{FailedDiskCalls, AddsFailedBut, FailedReading}
 use Rattle.tame_cache.specs.Kept.{Disk, cache_file_of}
 use Rattle.tame_sparse.specs.Exchanges.{crates_io_index}
-use Rattle.tame_sparse.specs.ResponseResults.{AreSentLines, IsBodyResult, IsHeldBody, IsStatusFault, IsResponseResult, IsToStore, Stores, StoresWhole, ResponseResult, came}
+use Rattle.tame_sparse.specs.ResponseResults.{AreSentLines, FailedAtMostWriting, FailsFor, IsBodyResult, IsHeldBody, IsStatusFault, IsResponseResult, IsToStore, Stores, StoresUnlessFailed, StoresWhole, ResponseResult, came, entry_of}
 use Rattle.tame_sparse.specs.Honest.{SaysAbsent}
 use Rattle.tame_sparse.specs.declared.network.WireAnswer.{WireAnswer}
 use Rattle.tame_sparse.specs.declared.responses.Response.{Response}
 use Rattle.audit_core.specs.Answers.{IsAnswer, IsNotModified, answer_of, body_answer, entry_answer, file_answer, items_answer, read_answer, status_says_absent}
+use Rattle.audit_core.specs.Blamed.{BlamesRead, BlamesStore}
 use Rattle.audit_core.specs.ResultAnswers.{IsAnswerOfResult}
 use Rattle.audit_core.specs.Turns.{LeavesFile}
 use Rattle.audit_core.specs.declared.answers.PathAnswer.{PathAnswer}
@@ -157,17 +159,17 @@ status_answer s text taken a is h = h.status is.0 s text is.1 is.2
 
 -- ---- the answer
 
-pub taken_answer : (file : File) (response : Response) (taken : ResponseResult) (came : WireAnswer) (a : PathAnswer) → response.status ≡ came.status → response.body.now ≡ came.body → IsResponseResult response taken
-    → (response.status ≡ 304 → IfOk taken (λ o. HandsOut crates_io_index o file)) → IsAnswerOfResult taken a → IsAnswer file (Some came) a
+pub taken_answer : (file : File) (response : Response) (taken : ResponseResult) (came : WireAnswer) (a : PathAnswer) → response.status_code ≡ came.status → response.body.now ≡ came.body → IsResponseResult response taken
+    → (response.status_code ≡ 304 → IfOk taken (λ o. HandsOut crates_io_index o file)) → IsAnswerOfResult taken a → IsAnswer file (Some came) a
 taken_answer file response taken came a status body is handed h = go (kind_of came.status)
   where
     by_choice : {x : PathAnswer} → a ≡ x → choose came.status (Settled cause.Absent) (body_answer came.body) (file_answer file) (Settled (cause.Status came.status)) ≡ x → a ≡ answer_of (file_answer file) (Some came)
     by_choice one other = one ∙ sym other
 
-    other_status : (s : ℕ) → came.status ≡ s → (s ≡ 401) ⊎ (s ≢ 401) → (SaysAbsent response.status → ⊥) → response.status ≢ 200 → response.status ≢ 304 → a ≡ Settled (cause.Status s)
+    other_status : (s : ℕ) → came.status ≡ s → (s ≡ 401) ⊎ (s ≢ 401) → (SaysAbsent response.status_code → ⊥) → response.status_code ≢ 200 → response.status_code ≢ 304 → a ≡ Settled (cause.Status s)
     other_status s same (inl known) present sent modified = status_answer 401 _ taken a (is.unauthorized (status ∙ same ∙ known)) h ∙ ap (λ n. Settled (cause.Status n)) (sym known)
     other_status s same (inr unlike) present sent modified =
-        status_answer response.status _ taken a (is.other present sent modified (λ known. unlike (sym same ∙ sym status ∙ known))) h ∙ ap (λ n. Settled (cause.Status n)) (status ∙ same)
+        status_answer response.status_code _ taken a (is.other present sent modified (λ known. unlike (sym same ∙ sym status ∙ known))) h ∙ ap (λ n. Settled (cause.Status n)) (status ∙ same)
 
     go : Kind came.status → IsAnswer file (Some came) a
     go (IsAbsent absent) =
@@ -198,7 +200,7 @@ answer_moved f g came a same (inr store) = inr store
 -- ---- what is kept of it
 
 -- a response that is an answer of the wire
-pub came_is : (response : Response) (answer : WireAnswer) → response.status ≡ answer.status → option_map http_value response.revision ≡ answer.revision → response.body.now ≡ answer.body → came response ≡ answer
+pub came_is : (response : Response) (answer : WireAnswer) → response.status_code ≡ answer.status → option_map http_value response.revision ≡ answer.revision → response.body.now ≡ answer.body → came response ≡ answer
 came_is response answer status revision body = λ i. record { status = status i; revision = revision i; body = body i }
 
 none_of : (o : Option InvalidJsonLines) → is_none o ≡ true → o ≡ None
@@ -227,3 +229,42 @@ pub held_body : (m : ServerMap) (p : List ℕ) (response : Response) (answer : W
 held_body m p response answer same held =
     let P : WireAnswer → Type 0 = λ w. IsHeldBody m p w in
     subst P (sym same) held
+
+-- ---- which call on the disk failed
+
+pub blames_taken : (q : List ℕ) (before now : FailedDiskCalls) (taken : ResponseResult) (a : PathAnswer) → AddsFailedBut error.NoMemory (FailedReading q) before now taken
+    → IfErr taken (λ e. (e ≡ error.NoMemory) ⊎ (e ≡ error.Io io_kind.Failed)) → IsAnswerOfResult taken a → BlamesRead q before now a
+blames_taken q before now (Ok x) a adds only h = record { store = λ is. absurd (let bad = h.store is in cc bad); quiet = λ other. adds }
+blames_taken q before now (Err e) a adds (inl memory) h = record { store = λ is. absurd (h.memory (ap (λ f. Err f) memory)); quiet = λ other. adds.0 memory }
+blames_taken q before now (Err e) a adds (inr failed) h = record {
+  store = λ is. adds.1 (λ memory. cc (memory, failed));
+  quiet = λ other. absurd (other (h.failed (ap (λ f. Err f) failed)));
+}
+
+pub blamed_store : (q : List ℕ) (before now : FailedDiskCalls) (response : Response) (taken : ResponseResult) (a : PathAnswer) → FailsFor crates_io_index q (came response) true before now taken
+    → IsResponseResult response taken → (taken ≡ Err (error.Io io_kind.Failed) → response.status_code ≡ 304) → IsAnswerOfResult taken a → BlamesStore q before now a
+blamed_store q before now response taken a fails is same h = record {
+  store = λ blamed.
+      let io = h.store blamed in
+      let P : ResponseResult → Type 0 = λ t. AddsFailedBut error.NoMemory (FailedReading q) before now t in
+      (subst P io (fails.not_modified (same io))).1 (λ memory. cc memory);
+  else_writing = λ other. go other (equal_or response.status_code 304);
+}
+  where
+    go : a ≢ Settled cause.Store → (response.status_code ≡ 304) ⊎ (response.status_code ≢ 304) → FailedAtMostWriting q before now
+    go other (inl kept) = inl ((blames_taken q before now taken a (fails.not_modified kept) (is.not_modified kept) h).quiet other)
+    go other (inr different) = fails.sent different
+
+pub blamed_none : (q : List ℕ) (before now : FailedDiskCalls) (response : Response) (taken : ResponseResult) (a : PathAnswer) → FailsFor crates_io_index q (came response) true before now taken
+    → IsResponseResult response taken → IsAnswerOfResult taken a → (IsToStore crates_io_index (came response) → ⊥) → a ≢ Settled cause.Store → now ≡ before
+blamed_none q before now response taken a fails is h unstored other = go (equal_or response.status_code 304)
+  where
+    go : (response.status_code ≡ 304) ⊎ (response.status_code ≢ 304) → now ≡ before
+    go (inl same) = (blames_taken q before now taken a (fails.not_modified same) (is.not_modified same) h).quiet other
+    go (inr different) = fails.unstored different unstored
+
+pub stored_unless : (q : List ℕ) (before now : FailedDiskCalls) (response : Response) (taken : ResponseResult) (a : PathAnswer) (new : Disk) → IsResponseResult response taken → IsAnswerOfResult taken a
+    → IsToStore crates_io_index (came response) → OnOk taken (StoresUnlessFailed (entry_of crates_io_index (came response)) q (new q) before now)
+    → StoresUnlessFailed (entry_of crates_io_index (came response)) q (new q) before now
+stored_unless q before now response taken a new is h store stored =
+    sent_ok response.body.now taken a (is.sent store.sent) (none_of (invalid response.body.now) (plain_valid response.body.now store.plain)) h stored

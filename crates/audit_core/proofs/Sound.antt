@@ -24,7 +24,7 @@ use Rattle.tame_sparse.specs.declared.network.Representation.{Representation}
 use Rattle.tame_sparse.specs.declared.network.WireAnswer.{WireAnswer}
 use Rattle.tame_sparse.proofs.TrimLemmas.{honest_named}
 use Rattle.audit_core.specs.Answers.{IsAnswer, IsHeldAnswer, answer_of, body_answer, file_answer, held_answer, kept_held, read_answer, sent_held}
-use Rattle.audit_core.specs.Turns.{AreCaused, TurnsInOrder, index_file}
+use Rattle.audit_core.specs.Turns.{AreCaused, DiskAt, TurnsInOrder, index_file}
 use Rattle.audit_core.specs.declared.answers.PathAnswer.{PathAnswer}
 use Rattle.audit_core.specs.declared.answers.PathAnswer.TheVariants.{Settled, Lines}
 use Rattle.audit_core.specs.declared.asking.AnsweredTurn.{AnsweredTurn}
@@ -38,12 +38,12 @@ text_whole : (r : OwnedRevision) → is_honest_text (revision_text r) ≡ true �
 text_whole (Etag text) h = zero_free (entry_text (Http (Etag []))) text refl (honest_zero text h)
 text_whole (LastModified text) h = zero_free (entry_text (Http (LastModified []))) text refl (honest_zero text h)
 
-formed : (r : OwnedRevision) → is_honest_text (revision_text r) ≡ true → IsRevision (Http r)
+pub formed : (r : OwnedRevision) → is_honest_text (revision_text r) ≡ true → IsRevision (Http r)
 formed (Etag text) h = honest_utf8 text h
 formed (LastModified text) h = honest_utf8 text h
 
 -- no zero byte stands in the url of the index
-index_whole : NoZero crates_io_index
+pub index_whole : NoZero crates_io_index
 index_whole = refl
 
 http_lines : (m : ServerMap) (p bytes body : List ℕ) (e : ReadEntry) (r0 r : OwnedRevision) → read_entry crates_io_index bytes ≡ Ok e → IsGoodUnder m crates_io_index p bytes (Http r0) → named_http r0 ≡ Some r → body_at m p r ≡ Some body
@@ -112,18 +112,18 @@ pub record IsSound (e : Exchange) (h : AnsweredTurn) : Type 0 where
   pub path : e.path ≡ h.turn.path
   pub answer : IsHeldAnswer e.held e.answer h.turn.disk_asked h.turn.disk_after h.answer
 
-pub turned_sound : (told : Type 0) (t : told) (m : ServerMap) (old new : Disk) (es : List Exchange) (hs : List AnsweredTurn) → TurnsInOrder told old es hs new → AreHonest m es → AreCaused hs → IsKept m crates_io_index [] old → Paired IsSound es hs
+pub turned_sound : (told : Type 0) (t : told) (m : ServerMap) (old new : DiskAt) (es : List Exchange) (hs : List AnsweredTurn) → TurnsInOrder told old es hs new → AreHonest m es → AreCaused hs → IsKept m crates_io_index [] old.files → Paired IsSound es hs
 turned_sound told t m old new [] [] x honest caused kept = tt
 turned_sound told t m old new [] (h ∷ hs) x honest caused kept = absurd x
 turned_sound told t m old new (e ∷ es) [] x honest caused kept = absurd x
 turned_sound told t m old new (e ∷ es) (h ∷ hs) x honest caused kept =
     let turn = x.1 in
     let f = index_file e.path in
-    let good : IsGood m crates_io_index e.path (reads (old f)) = (kept e.path turn.place).all_good (reads (old f)) (reads_left (old f)) in (
+    let good : IsGood m crates_io_index e.path (reads (old.files f)) = (kept e.path turn.place).all_good (reads (old.files f)) (reads_left (old.files f)) in (
       record {
         path = turn.path;
-        answer = answer_sound m e.path (reads (old f)) e.named e.held e.answer h.answer h.turn.disk_asked h.turn.disk_after
+        answer = answer_sound m e.path (reads (old.files f)) e.named e.held e.answer h.answer h.turn.disk_asked h.turn.disk_after
             good (turn.named t).else_nothing honest.0.mapped honest.0.answered (turn.exchanged.answer (λ n. t)) caused.0.store;
       },
-      turned_sound told t m x.0 new es hs x.2 honest.1 caused.1 (kept_after m crates_io_index [] old x.0 (turn.exchanged.keeps t m honest.0 kept)),
+      turned_sound told t m x.0 new es hs x.2 honest.1 caused.1 (kept_after m crates_io_index [] old.files x.0.files (turn.exchanged.keeps t m honest.0 kept)),
     )

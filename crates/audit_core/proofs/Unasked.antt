@@ -13,6 +13,7 @@ says_nothing wire_tells disk_tells m = record {
   recalled = λ offline. absurd (cc);
   counted = record { paths = refl; counts = (refl, refl) };
   caused = tt;
+  failed = record { exchanged = λ online. absurd (cc); asked = λ online. absurd (cc); read = λ offline. absurd (cc); off = λ off. refl };
 }
 
 -- the same by checks that are off

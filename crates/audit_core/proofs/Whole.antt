@@ -13,7 +13,7 @@ use Rattle.audit_lock.specs.declared.resolving.Package.{Package}
 use Rattle.audit_core.specs.Answers.{IsNotModified}
 use Rattle.audit_core.specs.Audits.{IsAuditBetween, AreTurns, Caused, VerdictsMatchServer, IsCausedAt}
 use Rattle.audit_core.specs.AnsweredTurns.{IsAnsweredAt, answered_turn_of}
-use Rattle.audit_core.specs.Turns.{AddsTurns, AreCaused, Chains, IsCaused, index_file}
+use Rattle.audit_core.specs.Turns.{AddsTurns, AreCaused, Chains, DiskAt, IsCaused, index_file}
 use Rattle.audit_core.specs.Verdicts.{AreVerdicts, IsVerdictByAnswerAt, IsVerdictByAnswer, IsVerdictByHeldAt, exchange_of, turn_of, verdict_by, verdict_of_status}
 use Rattle.audit_core.specs.declared.answers.PathAnswer.{PathAnswer}
 use Rattle.audit_core.specs.declared.answers.PathAnswer.TheVariants.{Settled, Lines}
@@ -76,8 +76,8 @@ answered_paths names paths hs answered_turns named = somes (λ (h : AnsweredTurn
 
 -- ---- over what the server held
 
-pub held_done : (told : Type 0) (t : told) (paths : List (List ℕ)) (packages : List (ℕ × Package)) (hs : List AnsweredTurn) (verdicts : List Judged) (before now : List Exchange) (old new : Disk) → IsDone paths packages hs verdicts
-    → AreCaused hs → AddsTurns told before now old hs new → VerdictsMatchServer packages before now old (map (λ h. h.turn) hs) verdicts
+pub held_done : (told : Type 0) (t : told) (paths : List (List ℕ)) (packages : List (ℕ × Package)) (hs : List AnsweredTurn) (verdicts : List Judged) (before now : List Exchange) (old new : DiskAt) → IsDone paths packages hs verdicts
+    → AreCaused hs → AddsTurns told before now old hs new → VerdictsMatchServer packages before now old.files (map (λ h. h.turn) hs) verdicts
 held_done told t paths packages hs verdicts before now old new d caused x m added is honest kept =
     let same : added ≡ x.0 = cancel before added x.0 (sym is ∙ x.1) in
     let P : List Exchange → Type 0 = λ es. AreHonest m es in
@@ -91,8 +91,15 @@ held_done told t paths packages hs verdicts before now old new d caused x m adde
 
 -- ---- over what came
 
-pub audit_done : (told : Type 0) (paths : List (List ℕ)) (packages : List (ℕ × Package)) (hs : List AnsweredTurn) (verdicts : List Judged) (before now : List Exchange) (old new : Disk) → IsDone paths packages hs verdicts
-    → AddsTurns told before now old hs new → IsAuditBetween told old new paths packages before now (map (λ h. h.turn) hs) verdicts
+pub some_paths : (hs : List AnsweredTurn) (ps : List (List ℕ)) → map (λ (h : AnsweredTurn). h.turn.path) hs ≡ ps → map (λ (h : AnsweredTurn). Some h.turn.path) hs ≡ map (λ p. Some p) ps
+some_paths hs ps is = mapped hs ∙ ap (λ (qs : List (List ℕ)). map (λ p. Some p) qs) is
+  where
+    mapped : (hs : List AnsweredTurn) → map (λ (h : AnsweredTurn). Some h.turn.path) hs ≡ map (λ p. Some p) (map (λ (h : AnsweredTurn). h.turn.path) hs)
+    mapped [] = refl
+    mapped (h ∷ hs) = ap (λ (os : List (Option (List ℕ))). Some h.turn.path ∷ os) (mapped hs)
+
+pub audit_done : (told : Type 0) (paths : List (List ℕ)) (packages : List (ℕ × Package)) (hs : List AnsweredTurn) (verdicts : List Judged) (before now : List Exchange) (old new : DiskAt) → IsDone paths packages hs verdicts
+    → AddsTurns told before now old hs new → IsAuditBetween told old.files new.files paths packages before now (map (λ h. h.turn) hs) verdicts
 audit_done told paths packages hs verdicts before now old new d x =
     let asked : map (λ (e : Exchange). e.path) x.0 ≡ paths = somes (λ (e : Exchange). e.path) x.0 paths (turned_paths told old new x.0 hs x.2 ∙ some_paths hs paths d.answered_turns) in (
       x.0,
@@ -101,25 +108,18 @@ audit_done told paths packages hs verdicts before now old new d x =
         asked = asked;
         addressed = turned_addressed told old new x.0 hs x.2;
         judged =
-            let files : List ℕ → File = λ q. reads (old (index_file q)) in
+            let files : List ℕ → File = λ q. reads (old.files (index_file q)) in
             let answered_turns = turned_answered told old new x.0 hs x.2 (asked_apart told old new x.0 hs paths x.2 asked d.distinct) in
             all_verdicts (IsVerdictByAnswerAt told files x.0) hs (λ version. refl)
             (λ q version h found.
-            let pair = found_pair (IsAnsweredOf told old) (λ e h r. r.path) q x.0 hs h answered_turns found in
-            let P : List ℕ → Type 0 = λ p. (IsNotModified pair.0.answer → told) → IsVerdictByAnswer pair.0 (reads (old (index_file p))) version (verdict_by h.answer version) in
+            let pair = found_pair (IsAnsweredOf told old.files) (λ e h r. r.path) q x.0 hs h answered_turns found in
+            let P : List ℕ → Type 0 = λ p. (IsNotModified pair.0.answer → told) → IsVerdictByAnswer pair.0 (reads (old.files (index_file p))) version (verdict_by h.answer version) in
             rw pair.1 (subst P pair.2 (λ n. (h.answer, pair.3.answer n, refl))))
             packages verdicts d.judged;
-        turned = λ t. all_turned old new x.0 hs (turned_whole told t old new x.0 hs x.2 (asked_apart told old new x.0 hs paths x.2 asked d.distinct));
+        turned = λ t. all_turned old.files new.files x.0 hs (turned_whole told t old new x.0 hs x.2 (asked_apart told old new x.0 hs paths x.2 asked d.distinct));
         others = λ t q other. turned_others told t old new q x.0 hs x.2 (avoids_asked q paths x.0 asked other);
       },
     )
-  where
-    some_paths : (hs : List AnsweredTurn) (ps : List (List ℕ)) → map (λ (h : AnsweredTurn). h.turn.path) hs ≡ ps → map (λ (h : AnsweredTurn). Some h.turn.path) hs ≡ map (λ p. Some p) ps
-    some_paths hs ps is = mapped hs ∙ ap (λ (qs : List (List ℕ)). map (λ p. Some p) qs) is
-      where
-        mapped : (hs : List AnsweredTurn) → map (λ (h : AnsweredTurn). Some h.turn.path) hs ≡ map (λ p. Some p) (map (λ (h : AnsweredTurn). h.turn.path) hs)
-        mapped [] = refl
-        mapped (h ∷ hs) = ap (λ (os : List (Option (List ℕ))). Some h.turn.path ∷ os) (mapped hs)
 
 -- ---- turns and causes
 
@@ -139,7 +139,7 @@ never_settled says.NoVersion c h (inr is) = cc
 never_settled (says.Flag true) c h is = cc
 never_settled (says.Flag false) c h is = cc
 
-settled_by : (a : PathAnswer) (version : List ℕ) (c : cause.the_data) → (c ≡ cause.Wire) ⊎ (c ≡ cause.Store) → verdict_by a version ≡ Unchecked c → a ≡ Settled c
+pub settled_by : (a : PathAnswer) (version : List ℕ) (c : cause.the_data) → (c ≡ cause.Wire) ⊎ (c ≡ cause.Store) → verdict_by a version ≡ Unchecked c → a ≡ Settled c
 settled_by (Settled d) version c is h = cc
 settled_by (Lines flags) version c is h = absurd (never_settled (status_among flags version) c h is)
 

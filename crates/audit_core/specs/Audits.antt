@@ -4,6 +4,7 @@ use Rattle.tame_names.specs.Counts.{CountRose}
 use Rattle.tame_names.specs.Names.{IsIndexPath}
 use Rattle.tame_entry.specs.ServerMaps.{ServerMap}
 use Rattle.tame_cache.specs.Disk.{reads}
+use Rattle.tame_cache.specs.FailedCalls.{FailedDiskCalls}
 use Rattle.tame_cache.specs.Folders.{MakesOnly}
 use Rattle.tame_cache.specs.Kept.{Disk, IsKept}
 use Rattle.tame_sparse.specs.Exchanges.{crates_io_index}
@@ -16,6 +17,7 @@ use Rattle.audit_advisory.specs.Reports.{IsPlaced}
 use Rattle.audit_core.specs.Paths.{is_among}
 use Rattle.audit_core.specs.Auditors.{audit_exit, audit_report}
 use Rattle.audit_core.specs.Checks.{asked_of, judged_of}
+use Rattle.audit_core.specs.FailedTurns.{InSteps, IsAskedTurn, IsReadTurn, IsTurnByCalls, Verdicts, verdicts_of}
 use Rattle.audit_core.specs.Recalled.{AreUnasked, IsVerdictByCacheAt}
 use Rattle.audit_core.specs.Turns.{AreAddressed, Chains, LeavesFile, index_file}
 use Rattle.audit_core.specs.Verdicts.{AreVerdicts, IsVerdictByAnswerAt, IsVerdictByHeldAt, turn_of}
@@ -111,12 +113,14 @@ Caused packages turns verdicts = AreVerdicts (IsCausedAt turns) packages verdict
 
 -- ---- what an audit says, whole
 
--- the wire and the disk at a moment: the exchanges so far, the files, and how often each has failed
+-- the wire and the disk at a moment: the exchanges so far, the files, how often each has failed, and
+-- which calls on the disk have
 pub record Moment : Type 0 where
   pub exchanges : List Exchange
   pub files : Disk
   pub wire_faults : ℕ
   pub disk_faults : ℕ
+  pub disk_failed : FailedDiskCalls
 
 -- by the cache alone: nothing is asked, and each verdict is by the file that a read of the path
 -- gives
@@ -125,6 +129,20 @@ pub record IsOfCache (told : Type 0) (old : Disk) (packages : List (ℕ × Packa
   pub judged : AreVerdicts (IsVerdictByCacheAt told
       (λ q. reads (old (index_file q))) turns) packages verdicts
   pub unasked : AreUnasked turns
+
+-- which calls on the disk failed in an audit, turn by turn
+pub record FailsByTurns (checks : Checks) (wire_tells disk_tells : Type 0) (entry exit : Moment)
+    (turns : List Turn) (v : Verdicts) : Type 0 where
+  -- online: what was named, what was stored and what the store is blamed for, by the same calls
+  pub exchanged : checks ≡ Online → wire_tells → disk_tells → (added : List Exchange)
+      → exit.exchanges ≡ entry.exchanges ++ added
+      → InSteps (IsTurnByCalls entry.files exit.files v) entry.disk_failed added exit.disk_failed
+  -- the same of the turns alone, for every wire
+  pub asked : checks ≡ Online → disk_tells
+      → InSteps (IsAskedTurn v) entry.disk_failed turns exit.disk_failed
+  -- offline exactly the reads that are blamed
+  pub read : checks ≡ Offline → InSteps (IsReadTurn v) entry.disk_failed turns exit.disk_failed
+  pub off : checks ≡ Off → exit.disk_failed ≡ entry.disk_failed
 
 -- what an audit with these checks that asks for these paths and judges these packages says from its
 -- entry to its exit, where the wire and the disk tell it
@@ -147,6 +165,9 @@ pub record AuditSays (checks : Checks) (wire_tells disk_tells : Type 0) (entry e
       turns
   -- one fault licenses one turn
   pub caused : Caused packages turns verdicts
+  -- one failed call on the disk licenses one turn, whose file it names
+  pub failed : FailsByTurns checks wire_tells disk_tells entry exit turns
+      (verdicts_of packages verdicts)
 
 -- ---- an audit of a text
 

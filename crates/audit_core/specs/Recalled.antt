@@ -1,6 +1,7 @@
 -- Verdicts by the cache alone (this project, after cargo-audit).
 use Rattle.std.specs.Prelude.{◌≡◌, ◌⊎◌, ℕ, List, [], ◌∷◌, Option, Some, None, IsSomeAnd}
 use Rattle.tame_names.specs.Counts.{CountRose}
+use Rattle.tame_names.specs.Names.{IsIndexPath}
 use Rattle.tame_cache.specs.Disk.{File, reads}
 use Rattle.tame_cache.specs.Kept.{Disk}
 use Rattle.audit_core.specs.Answers.{file_answer}
@@ -21,8 +22,10 @@ abbrev pub IsFileAnswer : File → Turn → PathAnswer → Type 0
 IsFileAnswer file t a =
     (a ≡ file_answer file) ⊎ (CountRose t.disk_asked t.disk_after × (a ≡ Settled cause.Store))
 
--- nothing was asked: the counts of the wire are equal, and the disk wasn't read for a request
+-- nothing was asked: the counts of the wire are equal, and the disk wasn't read for a request; the
+-- path is that of some name
 pub record IsUnasked (t : Turn) : Type 0 where
+  pub place : IsIndexPath t.path
   pub wire : t.wire_after ≡ t.wire_before
   pub disk : t.disk_asked ≡ t.disk_before
 

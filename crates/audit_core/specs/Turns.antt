@@ -4,16 +4,19 @@ use Rattle.tame_names.specs.Counts.{CountStayed, CountRose}
 use Rattle.tame_names.specs.Names.{IsIndexPath, path}
 use Rattle.tame_entry.specs.ServerMaps.{ServerMap}
 use Rattle.tame_cache.specs.Disk.{Step, reads}
+use Rattle.tame_cache.specs.FailedCalls.{FailedDiskCalls}
 use Rattle.tame_cache.specs.Gate.{IsStored}
 use Rattle.tame_cache.specs.Kept.{Disk, IsKept, Keeps, cache_file, cache_file_of}
-use Rattle.tame_sparse.specs.ResponseResults.{IsToStore, entry_of}
+use Rattle.tame_sparse.specs.ResponseResults.{IsToStore, StoresUnlessFailed, entry_of}
 use Rattle.tame_sparse.specs.Exchanges.{crates_io_index, crates_io_uri}
 use Rattle.tame_sparse.specs.Honest.{AreHonest, IsHonest}
-use Rattle.tame_sparse.specs.Named.{NamesKept}
+use Rattle.tame_sparse.specs.Named.{NamesKept, NamesUnlessFailed}
 use Rattle.tame_sparse.specs.declared.network.Exchange.{Exchange}
 use Rattle.tame_sparse.specs.declared.network.WireAnswer.{WireAnswer}
 use Rattle.audit_core.specs.Answers.{IsAnswer, IsNotModified}
+use Rattle.audit_core.specs.Blamed.{BlamesStore}
 use Rattle.audit_core.specs.Paths.{is_among}
+use Rattle.audit_core.specs.Sent.{HoldsSent, KeepsSent}
 use Rattle.audit_core.specs.declared.answers.PathAnswer.{PathAnswer}
 use Rattle.audit_core.specs.declared.answers.PathAnswer.TheVariants.{Settled}
 use Rattle.audit_core.specs.declared.asking.AnsweredTurn.{AnsweredTurn}
@@ -71,37 +74,62 @@ abbrev pub AreAddressed : List Exchange → Type 0
 AreAddressed [] = Unit {0}
 AreAddressed (e ∷ es) = (e.url ≡ crates_io_uri e.path) × AreAddressed es
 
--- ---- turns with their exchanges, from one state of the cache's files to the next
+-- ---- turns with their exchanges, from one state of the disk to the next
 
--- what an exchange does, by the disk's counts before it and after the response
-pub record IsExchanged (told : Type 0) (asked after : ℕ) (old new : Disk) (e : Exchange)
+-- the disk between two calls: its files, and the calls on it that have failed
+pub record DiskAt : Type 0 where
+  pub files : Disk
+  pub failed : FailedDiskCalls
+
+abbrev pub disk_at : Disk → FailedDiskCalls → DiskAt
+disk_at files failed = record { files = files; failed = failed }
+
+-- what an exchange does, by the disk's counts and its failed calls before it and after the response
+pub record IsExchanged (told : Type 0) (asked after : ℕ) (old new : DiskAt) (e : Exchange)
     (a : PathAnswer) : Type 0 where
   pub answer : (IsNotModified e.answer → told)
-      → IsAnswer (reads (old (index_file e.path))) e.answer a
-  pub leaves : told → LeavesFile e.answer asked after (old (index_file e.path))
-      (new (index_file e.path))
-  pub others : told → (q : List ℕ) → q ≢ index_file e.path → new q ≡ old q
-  pub keeps : told → (m : ServerMap) → IsHonest m e → IsKept m crates_io_index [] old
-      → Keeps m crates_io_index [] old new
+      → IsAnswer (reads (old.files (index_file e.path))) e.answer a
+  pub leaves : told → LeavesFile e.answer asked after (old.files (index_file e.path))
+      (new.files (index_file e.path))
+  pub others : told → (q : List ℕ) → q ≢ index_file e.path → new.files q ≡ old.files q
+  pub keeps : told → (m : ServerMap) → IsHonest m e → IsKept m crates_io_index [] old.files
+      → Keeps m crates_io_index [] old.files new.files
+  -- an answer that is stored is the file's entry, unless a call failed that writes the file
+  pub stored : told → IfSome e.answer (λ c. IsToStore crates_io_index c
+      → StoresUnlessFailed (entry_of crates_io_index c) (index_file e.path)
+      (new.files (index_file e.path)) old.failed new.failed)
+  -- the store is blamed where the read of the file failed; else at most one call failed, which
+  -- writes it, and none where the answer isn't stored
+  pub blames : BlamesStore (index_file e.path) old.failed new.failed a
+  pub unfailed : ¬ (IsSomeAnd e.answer (IsToStore crates_io_index)) → a ≢ Settled cause.Store
+      → new.failed ≡ old.failed
 
-pub record IsTurn (told : Type 0) (old new : Disk) (e : Exchange) (h : AnsweredTurn) : Type 0 where
+pub record IsTurn (told : Type 0) (old new : DiskAt) (e : Exchange) (h : AnsweredTurn)
+    : Type 0 where
   pub place : IsIndexPath e.path
   pub url : e.url ≡ crates_io_uri e.path
   pub path : e.path ≡ h.turn.path
   pub named : told
-      → NamesKept crates_io_index (reads (old (index_file e.path))) h.turn.disk_before
+      → NamesKept crates_io_index (reads (old.files (index_file e.path))) h.turn.disk_before
       h.turn.disk_asked e.named
-  pub exchanged : IsExchanged told h.turn.disk_asked h.turn.disk_after old new e h.answer
+  -- the calls that have failed before the exchange
+  pub asked : FailedDiskCalls
+  pub named_unless_failed : told
+      → NamesUnlessFailed crates_io_index (index_file e.path)
+      (reads (old.files (index_file e.path))) old.failed asked e.named
+  pub exchanged : IsExchanged told h.turn.disk_asked h.turn.disk_after (disk_at old.files asked)
+      new e h.answer
 
-abbrev pub TurnsInOrder : Type 0 → Disk → List Exchange → List AnsweredTurn → Disk → Type 0
-TurnsInOrder told old [] [] new = told → (q : List ℕ) → new q ≡ old q
+abbrev pub TurnsInOrder : Type 0 → DiskAt → List Exchange → List AnsweredTurn → DiskAt → Type 0
+TurnsInOrder told old [] [] new =
+    (told → (q : List ℕ) → new.files q ≡ old.files q) × (new.failed ≡ old.failed)
 TurnsInOrder told old (e ∷ es) (h ∷ hs) new =
-    (mid : Disk) × IsTurn told old mid e h × TurnsInOrder told mid es hs new
+    (mid : DiskAt) × IsTurn told old mid e h × TurnsInOrder told mid es hs new
 TurnsInOrder told old _ _ new = ⊥
 
 -- exactly these exchanges follow the list: one for each turn
-abbrev pub AddsTurns : Type 0 → List Exchange → List Exchange → Disk → List AnsweredTurn → Disk
-    → Type 0
+abbrev pub AddsTurns : Type 0 → List Exchange → List Exchange → DiskAt → List AnsweredTurn
+    → DiskAt → Type 0
 AddsTurns told before now old hs new =
     (es : List Exchange) × (now ≡ before ++ es) × TurnsInOrder told old es hs new
 
@@ -119,9 +147,12 @@ AddsNamed names before now =
 
 -- ---- kept all the time
 
--- where the exchanges that follow the list are honest for a map for which the disk was kept, it was
--- kept all the time
-abbrev pub StaysKept : List Exchange → List Exchange → Disk → Disk → Type 0
-StaysKept before now old new =
-    (m : ServerMap) (added : List Exchange) → now ≡ before ++ added → AreHonest m added
-    → IsKept m crates_io_index [] old → Keeps m crates_io_index [] old new
+-- by the exchanges that follow the list
+pub record StaysKept (before now : List Exchange) (old new : Disk) : Type 0 where
+  -- where they are honest for a map for which the disk was kept, it was kept all the time
+  pub kept : (m : ServerMap) (added : List Exchange) → now ≡ before ++ added → AreHonest m added
+      → IsKept m crates_io_index [] old → Keeps m crates_io_index [] old new
+  -- where each file was of what some exchanges were answered with, it was all the time of what
+  -- these were, and those that follow the list
+  pub sent : (es added : List Exchange) → now ≡ before ++ added → HoldsSent es old
+      → KeepsSent (es ++ added) old new

@@ -10,9 +10,13 @@ ghost use Rattle.tame_cache.specs.Disk.{reads};
 ghost use Rattle.tame_cache.specs.Folders.{MakesOnly};
 ghost use Rattle.tame_cache.specs.Kept.{IsKept, Keeps, cache_file_of};
 ghost use Rattle.tame_sparse.specs.declared.network.Exchange.{Exchange};
+ghost use Rattle.tame_sparse.specs.ResponseResults.{IsToStore, StoresUnlessFailed, entry_of};
 ghost use Rattle.audit_core.specs.Answers.{IsAnswer};
 ghost use Rattle.tame_sparse.specs.Exchanges.{crates_io_index, crates_io_uri};
-ghost use Rattle.audit_core.specs.Turns.{AddsTurns, AddsNamed, AddsPart, AreCaused, Chains, IsExchanged, IsFileOf, IsNoFileOf, StaysKept, LeavesFile, index_file};
+ghost use Rattle.audit_core.specs.Blamed.{BlamesStore};
+ghost use Rattle.audit_core.specs.FailedReads.{TurnsFail};
+ghost use Rattle.audit_core.specs.Sent.{HoldsSent, KeepsSent};
+ghost use Rattle.audit_core.specs.Turns.{AddsTurns, AddsNamed, AddsPart, AreCaused, Chains, IsExchanged, IsFileOf, IsNoFileOf, StaysKept, LeavesFile, disk_at, index_file};
 
 use crate::answers::{PathAnswer, answer_taken};
 use crate::verdicts::Cause;
@@ -50,7 +54,7 @@ pub struct AnsweredTurn {
 
 /// What came, as the index takes it.
 fn response_of(answer: &WireAnswer) -> Response<'_>
-    ensures status { result.status ≡ answer.now.status }
+    ensures status { result.status_code ≡ answer.now.status }
     ensures revision { option_map http_value result.revision ≡ answer.now.revision }
     ensures body { result.body.now ≡ answer.now.body }
 {
@@ -59,7 +63,7 @@ fn response_of(answer: &WireAnswer) -> Response<'_>
         None => None,
     };
     Response {
-        status: answer.status,
+        status_code: answer.status,
         revision,
         body: answer.body.as_slice(),
     }
@@ -91,6 +95,21 @@ fn take_answer<D: CacheDisk>(
         → IfSome answer.now.revision (λ r. Maps m p r answer.now.body))
         → IsKept m crates_io_index [] (D.past disk.old)
         → Keeps m crates_io_index [] (D.past disk.old) (D.past disk.new) }
+    ensures sent { D.tells → (es : List Exchange) (e : Exchange) → e.answer ≡ Some answer.now
+        → path (text_of name.entry) ≡ Some e.path → IsIndexPath e.path
+        → HoldsSent es (D.past disk.old)
+        → KeepsSent (es ++ e ∷ []) (D.past disk.old) (D.past disk.new) }
+    ensures stored_unless_failed { D.tells → (q : List ℕ)
+        → cache_file_of [] (text_of name.entry) ≡ Some q
+        → IsToStore crates_io_index answer.now
+        → OnOk result (StoresUnlessFailed (entry_of crates_io_index answer.now) q
+        (D.past disk.new q) (D.failed disk.old) (D.failed disk.new)) }
+    ensures blames { (q : List ℕ) → cache_file_of [] (text_of name.entry) ≡ Some q
+        → IfOk result (BlamesStore q (D.failed disk.old) (D.failed disk.new)) }
+    ensures unfailed { (q : List ℕ) → cache_file_of [] (text_of name.entry) ≡ Some q
+        → ¬ (IsToStore crates_io_index answer.now)
+        → IfOk result (λ a. a ≢ PathAnswer.Settled Cause.Store
+        → D.failed disk.new ≡ D.failed disk.old) }
     ensures store { IfOk result (λ a. a ≡ PathAnswer.Settled Cause.Store
         → CountRose (D.faults disk.old) (D.faults disk.new)) }
     ensures not_wire { IfOk result (λ a. a ≢ PathAnswer.Settled Cause.Wire) }
@@ -114,13 +133,15 @@ fn exchange_answer<W: Wire, D: CacheDisk>(
     requires root { index.now.cache.path ≡ [] }
     requires index { index.now.cache.index ≡ crates_io_index }
     requires place { path (text_of name) ≡ Some request.now.path }
+    requires index_path { IsIndexPath request.now.path }
     requires url { request.now.uri ≡ crates_io_uri request.now.path }
     ensures answered_turns { W.tells
         → IfOk result (λ a. (e : Exchange) × (W.exchanges wire.new ≡ W.exchanges wire.old ++ e ∷ [])
         × (e.path ≡ request.now.path) × (e.named ≡ request.now.named)
         × (e.url ≡ crates_io_uri e.path)
-        × IsExchanged D.tells (D.faults disk.old) (D.faults disk.new) (D.past disk.old)
-        (D.past disk.new) e a) }
+        × IsExchanged D.tells (D.faults disk.old) (D.faults disk.new)
+        (disk_at (D.past disk.old) (D.failed disk.old))
+        (disk_at (D.past disk.new) (D.failed disk.new)) e a) }
     ensures part { W.tells → OnErr result
         (AddsPart (request.now.path ∷ []) (W.exchanges wire.old) (W.exchanges wire.new)) }
     ensures kept { W.tells → D.tells
@@ -130,6 +151,8 @@ fn exchange_answer<W: Wire, D: CacheDisk>(
         → CountRose (W.faults wire.old) (W.faults wire.new)) }
     ensures store { IfOk result (λ a. a ≡ PathAnswer.Settled Cause.Store
         → CountRose (D.faults disk.old) (D.faults disk.new)) }
+    ensures blames { IfOk result (BlamesStore (index_file request.now.path) (D.failed disk.old)
+        (D.failed disk.new)) }
     ensures becomes { W.becomes wire.old wire.new }
     ensures later_wire { W.faults wire.old ≤ W.faults wire.new }
     ensures later_disk { D.faults disk.old ≤ D.faults disk.new }
@@ -173,8 +196,11 @@ fn take_turn<W: Wire, D: CacheDisk>(
         (W.faults wire.new) (D.faults disk.new)) }
     ensures caused { IfOk result (λ h. AreCaused (h ∷ [])) }
     ensures said { W.tells → IfOk result
-        (λ h. AddsTurns D.tells (W.exchanges wire.old) (W.exchanges wire.new) (D.past disk.old)
-        (h ∷ []) (D.past disk.new)) }
+        (λ h. AddsTurns D.tells (W.exchanges wire.old) (W.exchanges wire.new)
+        (disk_at (D.past disk.old) (D.failed disk.old)) (h ∷ [])
+        (disk_at (D.past disk.new) (D.failed disk.new))) }
+    ensures fails { D.tells
+        → IfOk result (λ h. TurnsFail (D.failed disk.old) (h ∷ []) (D.failed disk.new)) }
     ensures becomes { W.becomes wire.old wire.new }
     ensures part { W.tells → OnErr result
         (AddsNamed (name.now ∷ []) (W.exchanges wire.old) (W.exchanges wire.new)) }
@@ -227,8 +253,11 @@ pub fn ask<W: Wire, D: CacheDisk>(
         (map (λ h. h.turn) hs) (W.faults wire.new) (D.faults disk.new)) }
     ensures caused { IfOk result AreCaused }
     ensures said { W.tells → IfOk result
-        (λ hs. AddsTurns D.tells (W.exchanges wire.old) (W.exchanges wire.new) (D.past disk.old) hs
-        (D.past disk.new)) }
+        (λ hs. AddsTurns D.tells (W.exchanges wire.old) (W.exchanges wire.new)
+        (disk_at (D.past disk.old) (D.failed disk.old)) hs
+        (disk_at (D.past disk.new) (D.failed disk.new))) }
+    ensures fails { D.tells
+        → IfOk result (λ hs. TurnsFail (D.failed disk.old) hs (D.failed disk.new)) }
     ensures becomes { W.becomes wire.old wire.new }
     ensures part { W.tells → OnErr result
         (AddsNamed names.now (W.exchanges wire.old) (W.exchanges wire.new)) }

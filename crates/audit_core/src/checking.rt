@@ -89,12 +89,14 @@ fn check_online<W: Wire, D: CacheDisk>(
           files = D.past disk.old;
           wire_faults = W.faults wire.old;
           disk_faults = D.faults disk.old;
+          disk_failed = D.failed disk.old;
         })
         (record {
           exchanges = W.exchanges wire.new;
           files = D.past disk.new;
           wire_faults = W.faults wire.new;
           disk_faults = D.faults disk.new;
+          disk_failed = D.failed disk.new;
         })
         (asked_paths packages.now) (defaults packages.now) c.turns c.verdicts) }
     ensures becomes { W.becomes wire.old wire.new }
@@ -132,12 +134,14 @@ fn check_offline<W: Wire, D: CacheDisk>(
           files = D.past disk.old;
           wire_faults = W.faults wire.now;
           disk_faults = D.faults disk.old;
+          disk_failed = D.failed disk.old;
         })
         (record {
           exchanges = W.exchanges wire.now;
           files = D.past disk.new;
           wire_faults = W.faults wire.now;
           disk_faults = D.faults disk.new;
+          disk_failed = D.failed disk.new;
         })
         (asked_paths packages.now) (defaults packages.now) c.turns c.verdicts) }
     ensures same { D.tells → (q : List ℕ) → D.past disk.new q ≡ D.past disk.old q }
@@ -171,12 +175,14 @@ pub fn check<W: Wire, D: CacheDisk>(
           files = D.past disk.old;
           wire_faults = W.faults wire.old;
           disk_faults = D.faults disk.old;
+          disk_failed = D.failed disk.old;
         })
         (record {
           exchanges = W.exchanges wire.new;
           files = D.past disk.new;
           wire_faults = W.faults wire.new;
           disk_faults = D.faults disk.new;
+          disk_failed = D.failed disk.new;
         })
         (asked_of checks packages.now) (judged_of checks packages.now) c.turns c.verdicts) }
     ensures becomes { W.becomes wire.old wire.new }

@@ -36,7 +36,7 @@ pub use auditors::Auditor;
 pub use checking::{Checks, crates_io};
 pub use laws::{
     asked_paths_are_the_distinct_paths, audit_histories_keep, audits_in_histories_match_the_server,
-    cached_audits_agree,
+    cached_audits_agree, store_is_said_of_failed_reads,
 };
 pub use opening::{FileAuditError, LOCKFILE_LIMIT};
 pub use planning::is_default;

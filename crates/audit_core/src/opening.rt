@@ -128,12 +128,14 @@ impl Auditor {
               files = D.past disk.old;
               wire_faults = W.faults wire.old;
               disk_faults = D.faults disk.old;
+              disk_failed = D.failed disk.old;
             })
             (record {
               exchanges = W.exchanges wire.new;
               files = D.past disk.new;
               wire_faults = W.faults wire.new;
               disk_faults = D.faults disk.new;
+              disk_failed = D.failed disk.new;
             })
             text a) }
 
@@ -148,6 +150,14 @@ impl Auditor {
             → F.failed files.new ≡ F.failed files.old }
         ensures early { IfErr result (λ e. IsEarly e
             → (wire.new ≡ wire.old) × (disk.new ≡ disk.old)) }
+
+        // whatever the answer, nothing is called if what is there gives no lockfile, and the wire is
+        // what calls may make of it
+        ensures uncalled { F.tells → ((text : List ℕ) (packages : List Package)
+            → opened_text (standing_at (F.host files.old) path.now) ≡ Ok text
+            → locked text ≡ Ok packages → ⊥)
+            → (wire.new ≡ wire.old) × (disk.new ≡ disk.old) }
+        ensures becomes { W.becomes wire.old wire.new }
 
         // of a text that is a lockfile, whatever the answer: a part of the paths was asked, from
         // the front, no file changes but those of asked paths, and no folders are made but those

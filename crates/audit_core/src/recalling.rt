@@ -8,6 +8,8 @@ ghost use Rattle.tame_cache.specs.Disk.{reads};
 ghost use Rattle.tame_cache.specs.Kept.{cache_file_of};
 ghost use Rattle.tame_sparse.specs.Exchanges.{crates_io_index};
 ghost use Rattle.audit_core.specs.Answers.{file_answer};
+ghost use Rattle.audit_core.specs.Blamed.{BlamesRead};
+ghost use Rattle.audit_core.specs.FailedReads.{BlameReads};
 ghost use Rattle.audit_core.specs.Recalled.{AreRecalled, AreUnasked};
 ghost use Rattle.audit_core.specs.Turns.{AreCaused, Chains};
 
@@ -34,6 +36,8 @@ fn recall<D: CacheDisk>(
         ⊎ (a ≡ PathAnswer.Settled Cause.Store)) }
     ensures store { IfOk result (λ a. a ≡ PathAnswer.Settled Cause.Store
         → CountRose (D.faults disk.old) (D.faults disk.new)) }
+    ensures blames { (q : List ℕ) → cache_file_of [] (text_of name.entry) ≡ Some q
+        → IfOk result (BlamesRead q (D.failed disk.old) (D.failed disk.new)) }
     ensures not_wire { IfOk result (λ a. a ≢ PathAnswer.Settled Cause.Wire) }
     ensures later { D.faults disk.old ≤ D.faults disk.new }
     ensures same { D.tells → (q : List ℕ) → D.past disk.new q ≡ D.past disk.old q }
@@ -61,6 +65,8 @@ fn recall_turn<W: Wire, D: CacheDisk>(
     ensures unasked { IfOk result (λ h. AreUnasked (h.turn ∷ [])) }
     ensures caused { IfOk result (λ h. AreCaused (h ∷ [])) }
     ensures recalled { IfOk result (λ h. AreRecalled D.tells (D.past disk.old) (h ∷ [])) }
+    ensures blames { IfOk result (λ h. BlameReads (D.failed disk.old) (h ∷ [])
+        (D.failed disk.new)) }
     ensures same { D.tells → (q : List ℕ) → D.past disk.new q ≡ D.past disk.old q }
     ensures folders { D.tells → D.folders disk.new ≡ D.folders disk.old }
 {
@@ -100,6 +106,7 @@ pub fn recall_all<W: Wire, D: CacheDisk>(
     ensures unasked { IfOk result (λ hs. AreUnasked (map (λ h. h.turn) hs)) }
     ensures caused { IfOk result AreCaused }
     ensures recalled { IfOk result (AreRecalled D.tells (D.past disk.old)) }
+    ensures blames { IfOk result (λ hs. BlameReads (D.failed disk.old) hs (D.failed disk.new)) }
     ensures same { D.tells → (q : List ℕ) → D.past disk.new q ≡ D.past disk.old q }
     ensures folders { D.tells → D.folders disk.new ≡ D.folders disk.old }
 {

@@ -1,5 +1,5 @@
 //! The cache on the host's disk.
-ghost use Rattle.std.specs.Prelude.{◌≡◌, ◌≤◌, []};
+ghost use Rattle.std.specs.Prelude.{◌≡◌, ◌≤◌, [], None};
 ghost use Rattle.tame_names.specs.Counts.{CountRose};
 
 use crate::cache_folder::CacheFolder;
@@ -49,6 +49,8 @@ where
     ghost tells = { ⊥ };
 
     ghost past = { λ _ _. [] };
+
+    ghost failed = { λ _. None };
 
     ghost faults = { λ disk. disk.faults };
 

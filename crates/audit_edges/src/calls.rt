@@ -3,7 +3,7 @@ use crate::locking::LockFiles;
 use std::alloc::Global;
 use std::env;
 use std::fs::{self, File, Metadata, OpenFile, OpenOptions, ReadDir};
-use std::io::{self, ErrorKind, Read, Write};
+use std::io::{self, ErrorKind, Read, Seek, SeekFrom, Write};
 use std::os::unix::fs::FileExt;
 use std::path::PathBuf;
 use std::rt::{Env, Files};
@@ -78,6 +78,11 @@ pub fn current_path<R: Env + AllocGlobal>(rt: &R) -> io::Result<PathBuf> {
 /// Reads once from a reader.
 pub fn read_once<R: Read>(reader: &mut R, room: &mut [u8]) -> io::Result<usize> {
     again!(reader.read(room))
+}
+
+/// Goes to a place in a file.
+pub fn seek<F: Seek>(file: &mut F, at: u64) -> io::Result<u64> {
+    again!(file.seek(SeekFrom::Start(at)))
 }
 
 /// The first byte of a file; none where it has none.

@@ -2,10 +2,10 @@
 ghost use Rattle.std.specs.Prelude.{◌≢◌, ◌≤◌, length, IfOk};
 ghost use Rattle.audit_edges.specs.Reading.{IsAbove, IsNoMore};
 
-use crate::calls::{look_through, open, read_once};
+use crate::calls::{look_through, open, read_once, seek};
 use std::alloc::Global;
 use std::fs::{Metadata, OpenOptions};
-use std::io::{self, ErrorKind, Read, Seek, SeekFrom};
+use std::io::{self, ErrorKind, Read};
 use std::os::unix::fs::FileExt;
 use std::rt::Files;
 use tame_names::{NoMemory, ReadAnswer};
@@ -167,7 +167,7 @@ pub fn read_part<R: Files + AllocGlobal>(
     how.read(true);
     let mut file = open(rt, &how, path)?;
     if rest > 0 {
-        file.seek(SeekFrom::Start(from))?;
+        seek(&mut file, from)?;
     }
     Ok(Some(read_up_to(alloc, &mut file, rest)?))
 }

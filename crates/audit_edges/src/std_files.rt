@@ -58,6 +58,7 @@ impl<'a, R: rt::Files + AllocGlobal> StdFiles<'a, R> {
         ensures later { self.old.faults ≤ self.new.faults }
         ensures rose { result ≡ Ok LockOpenFault.Failed
             → CountRose self.old.faults self.new.faults }
+        ensures stayed { result ≢ Ok LockOpenFault.Failed → self.new.faults ≡ self.old.faults }
     {
         match kind {
             ErrorKind::OutOfMemory => Err(NoMemory),
@@ -79,6 +80,7 @@ impl<'a, R: rt::Files + AllocGlobal> StdFiles<'a, R> {
         ensures later { self.old.faults ≤ self.new.faults }
         ensures rose { result ≡ Ok LockTakeFault.Failed
             → CountRose self.old.faults self.new.faults }
+        ensures stayed { result ≢ Ok LockTakeFault.Failed → self.new.faults ≡ self.old.faults }
         ensures contested { result ≡ Ok LockTakeFault.Contested → block ≡ false }
     {
         match kind {

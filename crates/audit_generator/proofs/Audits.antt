@@ -171,7 +171,7 @@ second_done n auditor began middle ended text a b small online is audit_a audit_
       audit = audit_b;
       follow = adds.1 ∙ ap (λ (xs : List Exchange). middle.exchanges ++ xs) es;
       honest = confirmed_are_honest n small;
-      kept = kept_after (server n) crates_io_index [] began.files middle.files (keeps (server n) (map sent (range_with_len 0 n)) before (sent_are_honest n small) (bare_kept n began.files bare));
+      kept = kept_after (server n) crates_io_index [] began.files middle.files (keeps.kept (server n) (map sent (range_with_len 0 n)) before (sent_are_honest n small) (bare_kept n began.files bare));
       disk_faults = (quiet_ended ∙ sym quiet_middle, omega (arith, quiet_middle));
     } in
     let agree = audits_agree auditor text middle ended began middle (map confirmed (range_with_len 0 n)) (map sent (range_with_len 0 n)) b a online sound_b sound_a (alike (range_with_len 0 n)) in

@@ -19,6 +19,7 @@ moment_of wire disk = record {
   files = past_in disk;
   wire_faults = 0;
   disk_faults = disk.counts.faults;
+  disk_failed = disk.failed;
 }
 
 -- the auditor of the default settings and of the advisories on n packages

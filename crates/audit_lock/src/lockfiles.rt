@@ -1,5 +1,5 @@
 //! A lockfile as a whole.
-ghost use Rattle.std.specs.Prelude.{◌≡◌, ◌≢◌, List, option_map, IfOk, IfErr, Ok, Err, Some, None};
+ghost use Rattle.std.specs.Prelude.{◌≡◌, ◌≢◌, List, option_copied, option_map, slice_get, IfOk, IfErr, Ok, Err, Some, None};
 ghost use Rattle.toml.specs.View.{view, table_view, items_view};
 ghost use Rattle.toml.specs.Parse.{parse_document};
 ghost use Rattle.audit_lock.specs.Defaults as defaults_spec;
@@ -203,6 +203,13 @@ impl Lockfile {
         ensures { result.now ≡ self.now }
     {
         self.packages.as_slice()
+    }
+
+    /// The package at a place, counted from 0; nothing behind the last.
+    pub fn package(&self, place: usize) -> Option<&Package>
+        ensures { option_copied result ≡ slice_get self.now place }
+    {
+        self.packages.as_slice().get(place)
     }
 }
 

@@ -1,10 +1,11 @@
 //! Packages with their dependencies found.
 ghost use Rattle.std.specs.Prelude.{◌≡◌, ◌≢◌, IfOk, IfErr, Ok, Err};
 ghost use Rattle.std.specs.BTreeMap.{get_by_text};
+ghost use Rattle.audit_lock.specs.Defaults as spec;
 ghost use Rattle.audit_lock.specs.Locked.{place_of, resolve_from};
 
 use crate::listed::{ListedPackage, LockRule};
-use crate::lockfiles::LockfileFault;
+use crate::lockfiles::{LockfileFault, is_default_registry};
 use crate::naming::{Places, each_place, places_of};
 use std::alloc::Global;
 use tame_names::{Items, Text};
@@ -22,6 +23,18 @@ pub struct Package {
     pub checksum: Option<Text>,
     /// The places of the packages that it depends on.
     pub dependencies: Items<usize>,
+}
+
+impl Package {
+    /// Whether it is of the default registry, crates.io.
+    pub fn is_default(&self) -> bool
+        ensures { result ≡ spec.is_default self.now }
+    {
+        match &self.source {
+            None => false,
+            Some(source) => is_default_registry(source.as_str()),
+        }
+    }
 }
 
 fn resolve_each(

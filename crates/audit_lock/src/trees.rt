@@ -47,9 +47,9 @@ impl Tree {
 
     /// Puts the tree of the package at a place: a line for it, and below it the packages that
     /// depend on it, each with those that depend on it in turn. A package that has a line already
-    /// gets another one, with nothing below it. The text is made whole and put in one piece. `Io`
-    /// where the sink failed, which then holds a part of the text from the front; at `NoMemory` it
-    /// wasn't called. The depth of the recursion is that of the tree.
+    /// gets another one, with nothing below it. `Io` where the sink failed, which then holds a part
+    /// of the text from the front; at `NoMemory` it wasn't called. The depth of the recursion is
+    /// that of the tree.
     pub fn render<S: Sink>(
         &self,
         alloc: Global,

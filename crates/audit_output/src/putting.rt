@@ -25,7 +25,7 @@ impl From<NoMemory> for PrintFault {
     }
 }
 
-/// Puts a text in one piece. A text without bytes isn't put.
+/// Puts a text. A text without bytes isn't put.
 pub fn put_text<S: Sink>(sink: &mut S, text: &[u8]) -> Result<(), PrintFault>
     ensures put { S.tells → IsPut (S.holds sink.old) text.now (S.holds sink.new) result }
     ensures later { S.faults sink.old ≤ S.faults sink.new }

@@ -1,5 +1,5 @@
 -- What was asked, by its parts.
-use Rattle.std.proofs.Common.{◌≡◌, ◌≤◌, ◌⊎◌, ℕ, IsTrue, List, Bool, true, false, Option, Some, None, Result, Ok, Err, refl, arith}
+use Rattle.std.proofs.Common.{◌≡◌, ◌≤◌, ◌⊎◌, ℕ, IsTrue, List, Bool, true, false, Option, Some, None, Result, Ok, Err, refl, sym, ap, ◌∙◌, arith}
 use Rattle.std.specs.Prelude.{IfSome, pos}
 use Rattle.tame_names.specs.Standing.{Host}
 use Rattle.audit_lock.specs.declared.lockfiles.LockfileFault.{LockfileFault}
@@ -58,6 +58,14 @@ asked_config task host given config is settles =
     let mine = texts_config host first.0 (baseline_path task.remedy) place.0 given place.2 in
     let other = first.1 in
     cc (mine, other, settles)
+
+-- these settings are those of the command
+pub asked_settles : (task : Task) (host : Host) (given : Asked) → task_asked task host (pos 0) ≡ Ok given → settled task.command host ≡ Ok given.config
+asked_settles task host given is =
+    let first = part (settled task.command host) _ given is in
+    let place = part (place_asked task.command.file host (pos 0)) _ given first.2 in
+    let mine = texts_config host first.0 (baseline_path task.remedy) place.0 given place.2 in
+    first.1 ∙ ap (λ (c : AuditConfig). Ok c) (sym mine)
 
 pub binaries_config : (command : AuditCommand) (host : Host) (given : AskedForBinaries) (config : AuditConfig) → asked_for_binaries command host ≡ Ok given → settled command host ≡ Ok config → given.config ≡ config
 binaries_config command host given config is settles =

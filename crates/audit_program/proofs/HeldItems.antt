@@ -45,7 +45,7 @@ plan_made remedy m (Ok (made.Vendored v)) items h is = some_none items is
 plan_made Report m (Ok (made.Planned others)) items h is = let no_plan = h.0 in cc (no_plan)
 plan_made (Fix dry_run) m (Ok (made.Planned others)) items h is = let no_plan = h.0 in cc (no_plan)
 plan_made Plan m (Ok (made.Planned others)) items h is =
-    let P : List PlanItem → Type 0 = λ xs. IsOfPlan m xs in subst P (sym (same_items items others is)) (h.0, h.1)
+    let P : List PlanItem → Type 0 = λ xs. IsOfPlan m xs in subst P (sym (same_items items others is)) (h.0.0, h.1)
 plan_made (Baseline path) m (Ok (made.Planned others)) items h is = absurd h.0
 plan_made (WriteBaseline path) m (Ok (made.Planned others)) items h is = absurd h.0
 plan_made (Vendor more) m (Ok (made.Planned others)) items h is = absurd h.0

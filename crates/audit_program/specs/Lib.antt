@@ -1,3 +1,4 @@
+pub mod AgreeingRuns
 pub mod BinaryRuns
 pub mod Calls
 pub mod Causes
@@ -5,8 +6,10 @@ pub mod Completes
 pub mod Given
 pub mod HonestRuns
 pub mod Jobs
+pub mod LaterRuns
 pub mod Leaves
 pub mod Outcomes
+pub mod RunHistories
 pub mod Runs
 pub mod TaskRuns
 pub mod Tasks

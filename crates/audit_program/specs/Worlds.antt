@@ -2,6 +2,7 @@
 use Rattle.std.specs.Prelude.{ℕ, List}
 use Rattle.tame_names.specs.Standing.{Host}
 use Rattle.tame_names.specs.declared.host.FailedCall.{FailedCall}
+use Rattle.tame_cache.specs.FailedCalls.{FailedDiskCalls}
 use Rattle.tame_cache.specs.Kept.{Disk}
 use Rattle.tame_sparse.specs.declared.network.Exchange.{Exchange}
 use Rattle.audit_asked.specs.declared.runners.Started.{Started}
@@ -11,15 +12,17 @@ use Rattle.audit_binaries.specs.Binaries.{Outside, outside}
 use Rattle.audit_binaries.specs.Decoding.{DecoderAnswers}
 use Rattle.audit_remedies.specs.Moments.{moment}
 
--- the exchanges with the server so far; the cache's files and folders; what the host has, and the
--- calls on it that failed; what its decoder answers; the programs that were started, with how they
--- ended; what the two outputs hold; and of each how often it has failed
+-- the exchanges with the server so far; the cache's files and folders, and the calls on its disk
+-- that failed; what the host has, and the calls on it that failed; what its decoder answers; the
+-- programs that were started, with how they ended; what the two outputs hold; and of each how often
+-- it has failed
 pub record World : Type 0 where
   pub exchanges : List Exchange
   pub wire_faults : ℕ
   pub cache : Disk
   pub folders : List (List ℕ)
   pub disk_faults : ℕ
+  pub disk_failed : FailedDiskCalls
   pub host : Host
   pub failed : List FailedCall
   pub file_faults : ℕ
@@ -33,15 +36,16 @@ pub record World : Type 0 where
   pub err_faults : ℕ
 
 -- by its fields in their order
-abbrev pub world : List Exchange → ℕ → Disk → List (List ℕ) → ℕ → Host → List FailedCall → ℕ
-    → DecoderAnswers → ℕ → List Started → ℕ → List ℕ → ℕ → List ℕ → ℕ → World
-world exchanges wire_faults cache folders disk_faults host failed file_faults decodes
+abbrev pub world : List Exchange → ℕ → Disk → List (List ℕ) → ℕ → FailedDiskCalls → Host
+    → List FailedCall → ℕ → DecoderAnswers → ℕ → List Started → ℕ → List ℕ → ℕ → List ℕ → ℕ → World
+world exchanges wire_faults cache folders disk_faults disk_failed host failed file_faults decodes
     decode_faults starts start_faults out out_faults err err_faults = record {
       exchanges = exchanges;
       wire_faults = wire_faults;
       cache = cache;
       folders = folders;
       disk_faults = disk_faults;
+      disk_failed = disk_failed;
       host = host;
       failed = failed;
       file_faults = file_faults;
@@ -96,12 +100,12 @@ uncalled files decoder runner wire disk = record {
 -- ---- as the crates below speak of it
 
 abbrev pub moment_of : World → Moment
-moment_of w = moment w.exchanges w.cache w.wire_faults w.disk_faults
+moment_of w = moment w.exchanges w.cache w.wire_faults w.disk_faults w.disk_failed
 
 abbrev pub outside_of : World → Outside
 outside_of w =
-    outside w.exchanges w.cache w.wire_faults w.disk_faults w.folders w.failed w.file_faults
-    w.decode_faults
+    outside w.exchanges w.cache w.wire_faults w.disk_faults w.disk_failed w.folders w.failed
+    w.file_faults w.decode_faults
 
 abbrev pub holding_of : World → Holding
 holding_of w = record { exchanges = w.exchanges; files = w.cache; folders = w.folders }

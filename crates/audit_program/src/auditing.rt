@@ -28,8 +28,10 @@ pub fn audit<W: Wire, D: CacheDisk>(
     disk: &mut D,
 ) -> Result<Audited, RunFault>
     ensures audited { IfOk result (IsAuditOf auditor.now W.tells D.tells
-        (moment (W.exchanges wire.old) (D.past disk.old) (W.faults wire.old) (D.faults disk.old))
-        (moment (W.exchanges wire.new) (D.past disk.new) (W.faults wire.new) (D.faults disk.new))
+        (moment (W.exchanges wire.old) (D.past disk.old) (W.faults wire.old) (D.faults disk.old)
+        (D.failed disk.old))
+        (moment (W.exchanges wire.new) (D.past disk.new) (W.faults wire.new) (D.faults disk.new)
+        (D.failed disk.new))
         text.now) }
     ensures report { IfOk result (IsReportOf auditor.now.database) }
     ensures later { IfOk result (λ _. D.faults disk.old ≤ D.faults disk.new) }

@@ -30,9 +30,11 @@ pub use audit_words::{
     BinCommand, CONFIG_FILE, Command, FixCommand, VERSION, VendorCommand, WordsFault, read_words,
 };
 pub use laws::{
-    nothing_is_asked_without_a_lockfile, nothing_is_called_where_checks_are_off,
-    plans_of_runs_tell_what_the_server_held, runs_are_complete, runs_match_the_server,
-    texts_need_no_host,
+    binaries_match_the_server, nothing_is_asked_without_a_lockfile,
+    nothing_is_called_where_checks_are_off, offline_runs_in_histories_remember,
+    offline_runs_say_what_online_runs_saw, plans_of_runs_in_histories_tell_what_the_server_held,
+    plans_of_runs_tell_what_the_server_held, runs_agree, runs_are_complete, runs_in_histories_keep,
+    runs_in_histories_match_the_server, runs_match_the_server, texts_need_no_host,
 };
 pub use outcomes::Outcome;
 pub use running::run;

@@ -58,12 +58,14 @@ pub fn run<F: Files, P: Decoder, R: Runner, W: Wire, D: CacheDisk, O: Sink, E: S
         (uncalled (files.new ≡ files.old) (decoder.new ≡ decoder.old) (runner.new ≡ runner.old)
         (wire.new ≡ wire.old) (disk.new ≡ disk.old))
         (world (W.exchanges wire.old) (W.faults wire.old) (D.past disk.old) (D.folders disk.old)
-        (D.faults disk.old) (F.host files.old) (F.failed files.old) (F.faults files.old)
-        (P.answers decoder.old) (P.faults decoder.old) (R.starts runner.old) (R.faults runner.old)
+        (D.faults disk.old) (D.failed disk.old) (F.host files.old) (F.failed files.old)
+        (F.faults files.old) (P.answers decoder.old) (P.faults decoder.old)
+        (R.starts runner.old) (R.faults runner.old)
         (O.holds out.old) (O.faults out.old) (E.holds err.old) (E.faults err.old))
         (world (W.exchanges wire.new) (W.faults wire.new) (D.past disk.new) (D.folders disk.new)
-        (D.faults disk.new) (F.host files.new) (F.failed files.new) (F.faults files.new)
-        (P.answers decoder.new) (P.faults decoder.new) (R.starts runner.new) (R.faults runner.new)
+        (D.faults disk.new) (D.failed disk.new) (F.host files.new) (F.failed files.new)
+        (F.faults files.new) (P.answers decoder.new) (P.faults decoder.new)
+        (R.starts runner.new) (R.faults runner.new)
         (O.holds out.new) (O.faults out.new) (E.holds err.new) (E.faults err.new))
         result }
 {

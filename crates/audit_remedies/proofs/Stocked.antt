@@ -32,6 +32,7 @@ pub memory_refused : (v : Vendoring) → v.now ≡ v.stock.host → IsRegistryRe
 memory_refused v same = record {
   refused = λ told told_disk no. cc (no);
   unwritten = λ told no. same;
+  unread = λ told at is outside. cc (is);
   store = λ at is. cc (is);
   stopped = λ told told_disk. inl tt;
   behind = λ told told_disk no. cc (no);

@@ -12,11 +12,12 @@ use Rattle.audit_advisory.specs.declared.advisories.Advisory.{Advisory}
 use Rattle.audit_remedies.specs.declared.faults.RunFault.{RunFault}
 use Rattle.audit_remedies.specs.declared.faults.RunFault.TheVariants as fault
 use Rattle.audit_core.specs.Audits.{Moment}
+use Rattle.audit_core.specs.FailedTurns.{InSteps}
 use Rattle.audit_core.specs.declared.auditing.Audited.{Audited}
 use Rattle.audit_words.specs.declared.commands.VendorCommand.{VendorCommand}
 use Rattle.baseline_gate.specs.Gates.{unlisted}
 use Rattle.baseline_gate.specs.Reports.{audit_findings}
-use Rattle.upgrade_plan.specs.Plans.{IsPlanBy}
+use Rattle.upgrade_plan.specs.Plans.{IsPlanBy, ReadsOwn, crates_io_cache}
 use Rattle.upgrade_plan.specs.declared.plans.PlanItem.{PlanItem}
 use Rattle.vendor_registry.specs.declared.faults.VendorFault.{VendorFault}
 use Rattle.vendor_registry.specs.declared.faults.VendorFault.TheVariants as vendor_fault
@@ -78,10 +79,14 @@ IsUnwritten m = m.files_tell → m.host_now ≡ m.host
 
 -- ---- a plan
 
+-- it is one by the files of the cache; and the calls on the disk that failed are the reads of the
+-- files that it says couldn't be read
 abbrev pub IsPlanMade : Making → Result Made RunFault → Type 0
 IsPlanMade m (Ok (made.Planned items)) =
     IsPlanBy m.disk_tells m.advisories m.audited m.left.files m.left.disk_faults
     m.ended.disk_faults items
+    × InSteps (ReadsOwn crates_io_cache m.audited.lockfile) m.left.disk_failed items
+    m.ended.disk_failed
 IsPlanMade m (Err fault.NoMemory) = Unit {0}
 IsPlanMade m _ = ⊥
 

@@ -11,7 +11,8 @@ ghost use Rattle.vendor_registry.specs.Failed.{AddsFailed};
 ghost use Rattle.vendor_registry.specs.Vendoring.{IsVendorAnswer, vendoring};
 ghost use Rattle.audit_remedies.specs.Calls.{AddsMakingCalls};
 ghost use Rattle.audit_remedies.specs.Finishes.{end_of};
-ghost use Rattle.upgrade_plan.specs.Plans.{IsPlanBy};
+ghost use Rattle.audit_core.specs.FailedTurns.{InSteps};
+ghost use Rattle.upgrade_plan.specs.Plans.{IsPlanBy, ReadsOwn, crates_io_cache};
 ghost use Rattle.audit_remedies.specs.Makings.{IsMade, IsMakingFault, IsVendorEnd, crates_io_stock, making};
 ghost use Rattle.audit_remedies.specs.Makings as spec;
 ghost use Rattle.audit_remedies.specs.Moments.{moment};
@@ -72,6 +73,8 @@ fn plan_of<D: CacheDisk>(
 ) -> Result<Items<PlanItem>, NoMemory>
     ensures plan { IfOk result (IsPlanBy D.tells auditor.now.database audited.now
         (D.past disk.old) (D.faults disk.old) (D.faults disk.new)) }
+    ensures reads { IfOk result (λ items. InSteps (ReadsOwn crates_io_cache audited.now.lockfile)
+        (D.failed disk.old) items (D.failed disk.new)) }
     ensures later { D.faults disk.old ≤ D.faults disk.new }
     ensures same { D.tells → (q : List ℕ) → D.past disk.new q ≡ D.past disk.old q }
     ensures folders { D.tells → D.folders disk.new ≡ D.folders disk.old }
@@ -197,8 +200,8 @@ pub fn make<F: Files, D: CacheDisk>(
 ) -> Result<Made, RunFault>
     ensures made { (exchanges : List Exchange) (wire_faults : ℕ) → IsMade remedy.now
         (making F.tells D.tells auditor.now.database known.now audited.now
-        (moment exchanges (D.past disk.old) wire_faults (D.faults disk.old))
-        (moment exchanges (D.past disk.new) wire_faults (D.faults disk.new))
+        (moment exchanges (D.past disk.old) wire_faults (D.faults disk.old) (D.failed disk.old))
+        (moment exchanges (D.past disk.new) wire_faults (D.faults disk.new) (D.failed disk.new))
         (F.host files.old) (F.host files.new)) result }
     ensures only { IfErr result (IsMakingFault remedy.now) }
     ensures failed { F.tells → AddsMakingCalls remedy.now

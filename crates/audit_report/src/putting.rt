@@ -37,7 +37,7 @@ impl From<AllocError> for PrintError {
     }
 }
 
-/// Puts a text in one piece. A text without bytes isn't put.
+/// Puts a text. A text without bytes isn't put.
 pub fn put_text<S: Sink>(sink: &mut S, text: &[u8]) -> Result<(), PrintError>
     ensures put { S.tells → IsPut (S.holds sink.old) text.now (S.holds sink.new) result }
     ensures nothing { text.now ≡ [] → sink.new ≡ sink.old }

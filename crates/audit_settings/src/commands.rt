@@ -7,15 +7,24 @@ use std::alloc::Global;
 use tame_names::{Items, Text};
 
 /// When the output would be coloured. Read, and not used.
-#[derive(Clone, Copy, Debug, Default, PartialEq, Eq)]
+#[derive(Clone, Copy, Debug, PartialEq, Eq)]
 pub enum Color {
     /// At all times.
     Always,
     /// Where the output is a terminal.
-    #[default]
     Auto,
     /// At no time.
     Never,
+}
+
+impl Default for Color {
+    ghost use Rattle.audit_settings.specs.declared.commands.Color.TheVariants.{Auto};
+
+    ghost is_default = { λ color. color ≡ Auto };
+
+    fn default() -> Color {
+        Color::Auto
+    }
 }
 
 /// The options of `audit`, as they were given: an option that wasn't is `None`, an empty list or

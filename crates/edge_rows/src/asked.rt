@@ -31,6 +31,17 @@ fn bytes(alloc: Global, answer: Result<ReadAnswer, FileFault>, faults: u64) -> i
     }
 }
 
+/// A part of a file.
+fn part(files: &mut StdFiles<'_, Host<'_>>, alloc: Global, rest: &str) -> io::Result<String> {
+    let (path, rest) = first_word(rest);
+    let (from, limit) = first_word(rest);
+    match files.read_part(alloc, path, number(from)?, number(limit)?) {
+        Ok(None) => said(alloc, "absent"),
+        Ok(Some(part)) => Ok(format!(in alloc; "'{}'", shown(alloc, part.as_slice())?)?),
+        Err(error) => fault(alloc, error, files.file_faults()),
+    }
+}
+
 /// An entry, and whether it is a file.
 fn entry(alloc: Global, listed: &Listed) -> io::Result<String> {
     let kind = if listed.file { "a file" } else { "no file" };
@@ -108,6 +119,7 @@ pub fn asked<'a>(
             let answer = files.read(alloc, path, number(limit)?);
             bytes(alloc, answer, files.file_faults())
         }
+        "part" => part(files, alloc, rest),
         "input" => {
             let answer = files.read_stdin(alloc, number(rest)?);
             bytes(alloc, answer, files.file_faults())

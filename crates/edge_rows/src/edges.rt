@@ -117,6 +117,16 @@ impl<'a> Edges<'a> {
         self.done(done.is_ok())
     }
 
+    /// Writes this many zero bytes.
+    fn fill(&mut self, rest: &str) -> io::Result<String> {
+        let (path, rest) = first_word(rest);
+        let (at, count) = first_word(rest);
+        let mut piece = Vec::new(self.host.alloc());
+        piece.resize(number(count)? as usize, 0)?;
+        let done = self.disk.write_at(path, number(at)?, piece.as_slice());
+        self.done(done.is_ok())
+    }
+
     fn cut(&mut self, rest: &str) -> io::Result<String> {
         let (path, len) = first_word(rest);
         let done = self.disk.cut(path, number(len)?);
@@ -221,6 +231,7 @@ impl<'a> Edges<'a> {
             "read" => self.read(rest),
             "folders" => self.make_folders(rest),
             "write" => self.write(rest),
+            "fill" => self.fill(rest),
             "cut" => self.cut(rest),
             "sync" => self.sync(rest),
             "store" => self.store(rest),

@@ -38,6 +38,14 @@ impl Plan {
         self.fails_at.set(fails_at);
     }
 
+    /// Whether the call of this number fails: the one that is meant, and where it is interrupted the
+    /// next one too, which is the same call made again.
+    fn befalls(&self, number: u64) -> bool {
+        let meant = self.fails_at.get();
+        let is_again = meant > 0 && number == meant.saturating_add(1);
+        number == meant || is_again && self.kind.get() == ErrorKind::Interrupted
+    }
+
     /// That the call that was to fail has been made.
     pub fn has_failed(&self) -> bool {
         self.fails_at.get() > 0 && self.fails_at.get() <= self.made.get()
@@ -59,7 +67,7 @@ impl<'a> Host<'a> {
         if number == self.plan.turns_at.get() {
             self.turn()?;
         }
-        let fails = number == self.plan.fails_at.get();
+        let fails = self.plan.befalls(number);
         if self.plan.is_told.get() {
             println!(self.rt; "    {name} {path}")?;
         } else if fails && self.plan.kind.get() != ErrorKind::Interrupted {

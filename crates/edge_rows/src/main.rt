@@ -6,9 +6,10 @@
 //!
 //! Calls on the edges: `peek`, `read`, `folders`, `write PATH AT TEXT`, `cut PATH LENGTH`, `sync`
 //! on the cache, `store NAME TAG LINE` and `entry NAME` by the cache's own write and read;
-//! `ask PATH` and `ask PATH naming TAG` on the mirror; `text PATH LIMIT`, `list PATH` and
-//! `kind PATH` on the host's files, `input LIMIT` on its input, `env NAME` on its environment,
-//! `here` on its current folder; `dirs PATH` and `create PATH TEXT`, which make folders and a file;
+//! `fill PATH AT COUNT`, a write of that many zero bytes; `ask PATH` and `ask PATH naming TAG` on
+//! the mirror; `text PATH LIMIT`, `part PATH FROM LIMIT`, `list PATH` and `kind PATH` on the
+//! host's files, `input LIMIT` on its input, `env NAME` on its environment, `here` on its current
+//! folder; `dirs PATH` and `create PATH TEXT`, which make folders and a file;
 //! `lock exclusive PATH` and `lock shared PATH`, which open a file and take its lock, `try-lock`
 //! the same without waiting, `try-lock-beside HOLDER exclusive PATH` while another opening of the
 //! file holds its lock so, `try-lock-nothing PATH` of what isn't open; `put TEXT` and
@@ -24,7 +25,7 @@
 //! Before a call: `calls` lists its calls on the system; `fails N` lets the Nth of them fail, and
 //! `fails-as KIND N` with another error than a denied permission, `read-only` or `unsupported`;
 //! `each-fails` and `each-interrupted` make the call as often as it has such calls, from the state
-//! that the case's lines led to, and let each of them fail, or be interrupted, in turn;
+//! that the case's lines led to, and let each of them fail, or be interrupted twice, in turn;
 //! `each-turned` puts the folder `next` into the mirror's place before each of them in turn, or
 //! where there is none the text of the file `elsewhere/now` into the file `mirror/1/a`.
 #![tactic(auto)]

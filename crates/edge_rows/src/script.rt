@@ -113,7 +113,7 @@ impl<'a> Script<'a> {
         Ok(())
     }
 
-    /// The answer of a command, and those that differ where one of its calls is interrupted.
+    /// The answer of a command, and those that differ where one of its calls is interrupted twice.
     fn each_interrupted(&mut self, command: &str) -> io::Result<()> {
         let wanted = self.replayed(command, 0)?;
         let calls = self.host.plan.made.get();
@@ -125,7 +125,7 @@ impl<'a> Script<'a> {
             }
         }
         self.host.plan.kind.set(ErrorKind::PermissionDenied);
-        println!(self.host.rt; "    {calls} calls, each interrupted in turn: {wanted}")
+        println!(self.host.rt; "    {calls} calls, each interrupted twice in turn: {wanted}")
     }
 
     /// The answers of a command where the mirror becomes another one before each of its calls.

@@ -1,5 +1,5 @@
 //! A disk whose calls are recorded, and made to fail from one on.
-ghost use Rattle.std.specs.Prelude.{◌≡◌, ◌↔◌, ◌<◌, ◌≤◌, ◌-◌, ◌^◌, ◌++◌, [], codes, IsOk, IfOk, OnOk, OnErr};
+ghost use Rattle.std.specs.Prelude.{◌≡◌, ◌↔◌, ◌<◌, ◌≤◌, ◌-◌, ◌^◌, ◌++◌, [], None, codes, IsOk, IfOk, OnOk, OnErr};
 ghost use Rattle.std.specs.String.{string_bytes};
 ghost use Rattle.tame_names.specs.Counts.{CountRose};
 ghost use Rattle.tame_names.specs.Output.{AddsPrefix};
@@ -164,6 +164,8 @@ impl<'a, D: CacheDisk + Drop> CacheDisk for Recorder<'a, D> {
     ghost tells = { D.tells };
 
     ghost past = { λ recorder. D.past recorder.disk };
+
+    ghost failed = { λ _. None };
 
     ghost faults = { λ recorder. recorder.faults };
 

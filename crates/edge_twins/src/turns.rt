@@ -59,7 +59,7 @@ fn response_of(answer: &WireAnswer) -> Response<'_> {
         None => None,
     };
     Response {
-        status: answer.status,
+        status_code: answer.status,
         revision,
         body: answer.body.as_slice(),
     }

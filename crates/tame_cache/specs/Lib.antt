@@ -3,6 +3,7 @@ pub mod Calls
 pub mod Changes
 pub mod Counting
 pub mod Disk
+pub mod FailedCalls
 pub mod Faults
 pub mod Folders
 pub mod Gate

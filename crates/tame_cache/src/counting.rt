@@ -1,14 +1,13 @@
 //! Calls counted, and made to fail by their numbers.
-ghost use Rattle.std.specs.Prelude.{◌≡◌, ◌≤◌, ◌+◌, IsErr};
-ghost use Rattle.tame_names.specs.Counts.{CountRose};
+ghost use Rattle.std.specs.Prelude.{◌≡◌, ◌≤◌, ◌+◌, IsErr, OnErr};
+ghost use Rattle.tame_names.specs.Counts.{CountRose, next_call};
 ghost use Rattle.tame_cache.specs.Counting.{IsCalled, IsToFail, RanOutOfMemory};
 ghost use Rattle.tame_cache.specs.Faults.{HasDiskCause};
 
 use crate::disk::DiskFault;
 
 /// How many calls were made, which fail by their numbers, the number from which on all fail, how
-/// many have failed, and how many of these for want of the object's own memory. The first call has
-/// number 1.
+/// many have failed, and how often the object's own memory ran out. The first call has number 1.
 #[derive(Drop)]
 pub struct Counts {
     /// How many calls were made, at most 2^64 - 1.
@@ -19,7 +18,7 @@ pub struct Counts {
     pub stop: u64,
     /// How many calls have failed, at most 2^64 - 1.
     pub faults: u64,
-    /// How many of these failed for want of memory, at most 2^64 - 1.
+    /// How often the object's own memory ran out, at most 2^64 - 1.
     pub starved: u64,
 }
 
@@ -28,6 +27,7 @@ impl Counts {
     pub fn fail(&mut self) -> DiskFault
         ensures rose { CountRose self.old.faults self.new.faults }
         ensures later { self.old.faults ≤ self.new.faults }
+        ensures counted { self.new.faults ≡ next_call self.old.faults }
         ensures made { self.new.made ≡ self.old.made }
         ensures failing { self.new.failing ≡ self.old.failing }
         ensures stop { self.new.stop ≡ self.old.stop }
@@ -37,16 +37,30 @@ impl Counts {
         DiskFault
     }
 
-    /// Counts a fault for want of memory.
+    /// Counts that the object ran out of memory.
+    pub fn lack(&mut self)
+        ensures starved { RanOutOfMemory self.old self.new }
+        ensures counted { self.new.starved ≡ next_call self.old.starved }
+        ensures faults { self.new.faults ≡ self.old.faults }
+        ensures made { self.new.made ≡ self.old.made }
+        ensures failing { self.new.failing ≡ self.old.failing }
+        ensures stop { self.new.stop ≡ self.old.stop }
+    {
+        self.starved = self.starved.saturating_add(1);
+    }
+
+    /// Counts a fault because the object ran out of memory.
     pub fn starve(&mut self) -> DiskFault
         ensures rose { CountRose self.old.faults self.new.faults }
         ensures later { self.old.faults ≤ self.new.faults }
+        ensures counted { self.new.faults ≡ next_call self.old.faults }
+        ensures starved_once { self.new.starved ≡ next_call self.old.starved }
         ensures made { self.new.made ≡ self.old.made }
         ensures failing { self.new.failing ≡ self.old.failing }
         ensures stop { self.new.stop ≡ self.old.stop }
         ensures starved { RanOutOfMemory self.old self.new }
     {
-        self.starved = self.starved.saturating_add(1);
+        self.lack();
         self.fail()
     }
 
@@ -56,6 +70,7 @@ impl Counts {
         ensures made { self.new.made ≤ self.old.made + 1 }
         ensures called { IsCalled self.old self.new result }
         ensures only { IsErr result → IsToFail self.old }
+        ensures counted { OnErr result (self.new.faults ≡ next_call self.old.faults) }
         ensures starved { self.new.starved ≡ self.old.starved }
     {
         self.made = self.made.saturating_add(1);

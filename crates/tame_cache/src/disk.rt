@@ -6,6 +6,7 @@ ghost use Rattle.tame_cache.specs.Disk.{File, Step, Synced, first_of, content, w
 ghost use Rattle.tame_cache.specs.Folders.{MakesOnly};
 
 use std::alloc::Global;
+use tame_names::Text;
 
 /// What a look at a file's first byte finds.
 #[derive(Clone, Copy, Debug, PartialEq, Eq)]
@@ -31,11 +32,33 @@ pub enum DiskReadFault {
     NoMemory,
 }
 
+/// A call on a disk, by name.
+#[derive(Clone, Copy, Debug, PartialEq, Eq)]
+pub enum DiskCall {
+    Peek,
+    Read,
+    MakeDirs,
+    WriteAt,
+    Cut,
+    Sync,
+}
+
+/// A call on a disk that failed.
+#[derive(Debug, Drop, PartialEq, Eq)]
+pub struct FailedDiskCall {
+    /// Which call it was.
+    pub call: DiskCall,
+    /// The path that it was given.
+    pub path: Text,
+}
+
 /// A disk of cache files, each named by a path.
 ///
 /// Until a file is synced, a crash may undo a change of it or leave it half done; after a sync it
 /// leaves what a read gives. A failed write or cut may have been half done.
 pub trait CacheDisk {
+    ghost use Rattle.tame_cache.specs.FailedCalls.{AddsFailed, AddsFailedBut, FailedAt, FailedDiskCalls, FailedReading};
+
     /// That it tells what is in its files.
     ghost tells: { Type 0 };
 
@@ -44,6 +67,9 @@ pub trait CacheDisk {
 
     /// The paths above which folders were made, the first in front, where they are told.
     ghost folders: { Self → List (List ℕ) };
+
+    /// The calls that have failed, the first in front; none where they aren't all told.
+    ghost failed: { Self → FailedDiskCalls };
 
     /// How often a call has failed.
     ghost faults: { Self → ℕ };
@@ -62,6 +88,8 @@ pub trait CacheDisk {
         ensures same { tells → (q : List ℕ) → past self.new q ≡ past self.old q }
         ensures folders { tells → folders self.new ≡ folders self.old }
         ensures calls { made self.new ≤ made self.old + 1 }
+        ensures failed { AddsFailed (FailedAt DiskCall.Peek path.now) (failed self.old)
+            (failed self.new) result }
         ensures cause { HasDiskCause (faults self.old) (faults self.new) result };
 
     /// Reads a whole file; nothing where there is no file.
@@ -71,6 +99,8 @@ pub trait CacheDisk {
         ensures same { tells → (q : List ℕ) → past self.new q ≡ past self.old q }
         ensures folders { tells → folders self.new ≡ folders self.old }
         ensures calls { made self.new ≤ made self.old + 1 }
+        ensures failed { AddsFailedBut DiskReadFault.NoMemory (FailedReading path.now)
+            (failed self.old) (failed self.new) result }
         ensures cause { HasCause DiskReadFault.NoMemory (faults self.old)
             (faults self.new) result };
 
@@ -81,6 +111,8 @@ pub trait CacheDisk {
             (folders self.new) }
         ensures made { tells → OnOk result (folders self.new ≡ folders self.old ++ path.now ∷ []) }
         ensures calls { made self.new ≤ made self.old + 1 }
+        ensures failed { AddsFailed (FailedAt DiskCall.MakeDirs path.now) (failed self.old)
+            (failed self.new) result }
         ensures cause { HasDiskCause (faults self.old) (faults self.new) result };
 
     /// Writes a piece at a place, over what is there and past the end. An absent file counts as
@@ -95,6 +127,8 @@ pub trait CacheDisk {
         ensures others { tells → (q : List ℕ) → q ≢ path.now → past self.new q ≡ past self.old q }
         ensures folders { tells → folders self.new ≡ folders self.old }
         ensures calls { made self.new ≤ made self.old + 1 }
+        ensures failed { AddsFailed (FailedAt DiskCall.WriteAt path.now) (failed self.old)
+            (failed self.new) result }
         ensures cause { HasDiskCause (faults self.old) (faults self.new) result };
 
     /// Cuts a file to a length in bytes, where it is longer.
@@ -106,6 +140,8 @@ pub trait CacheDisk {
         ensures others { tells → (q : List ℕ) → q ≢ path.now → past self.new q ≡ past self.old q }
         ensures folders { tells → folders self.new ≡ folders self.old }
         ensures calls { made self.new ≤ made self.old + 1 }
+        ensures failed { AddsFailed (FailedAt DiskCall.Cut path.now) (failed self.old)
+            (failed self.new) result }
         ensures cause { HasDiskCause (faults self.old) (faults self.new) result };
 
     /// Brings a file onto the disk: a crash then leaves what a read gives.
@@ -117,5 +153,7 @@ pub trait CacheDisk {
         ensures others { tells → (q : List ℕ) → q ≢ path.now → past self.new q ≡ past self.old q }
         ensures folders { tells → folders self.new ≡ folders self.old }
         ensures calls { made self.new ≤ made self.old + 1 }
+        ensures failed { AddsFailed (FailedAt DiskCall.Sync path.now) (failed self.old)
+            (failed self.new) result }
         ensures cause { HasDiskCause (faults self.old) (faults self.new) result };
 }

@@ -28,12 +28,13 @@ mod gating;
 mod laws;
 mod laying;
 mod memory_disk;
+mod memory_writes;
 mod settling;
 mod storing;
 mod writing;
 
 pub use cache::{CacheFault, IndexCache, Kept};
-pub use disk::{CacheDisk, DiskFault, DiskReadFault, Peek};
+pub use disk::{CacheDisk, DiskCall, DiskFault, DiskReadFault, FailedDiskCall, Peek};
 pub use gating::{close, open_gate};
 pub use laws::{
     empty_is_kept, histories_keep, kept_for_more, refused_is_kept, shared_folders_stay_kept,

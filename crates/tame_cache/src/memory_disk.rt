@@ -1,29 +1,32 @@
 //! A disk in memory, which keeps a record of all its changes.
 ghost use Rattle.std.specs.Prelude.{◌≡◌, ◌≢◌, ◌⊎◌, ◌<◌, ◌≤◌, ◌+◌, ◌-◌, ◌/◌, ◌^◌, ◌++◌, min, map, ⊤, Some, Err, [], ◌∷◌, List, ℕ, length, take, false, true, IfOk, IsErr, OnOk, OnErr, option_map, option_copied};
 ghost use Rattle.std.specs.String.{string_bytes};
-ghost use Rattle.tame_names.specs.Counts.{HasCause};
+ghost use Rattle.tame_names.specs.Counts.{CountRose, HasCause, next_call};
 ghost use Rattle.tame_cache.specs.Counting.{IsCalled, IsToFail, RanOutOfMemory};
 ghost use Rattle.tame_cache.specs.Faults.{HasDiskCause};
 ghost use Rattle.tame_cache.specs.Disk.{Step, Synced, Wrote, MayCut, MaySync, MayWrite, content, reads, first_of, with_piece};
+ghost use Rattle.tame_cache.specs.FailedCalls.{AddsFailed, AddsFailedBut, FailedAt, FailedReading};
 ghost use Rattle.tame_cache.specs.Folders.{MakesOnly};
 ghost use Rattle.tame_cache.specs.Calls.{file_of, past_of, with_change};
 
-use crate::calls::{Change, content_of, copy_of, front_of, with_bytes};
+use crate::calls::{Change, copy_of, front_of};
 use crate::changes::Changes;
 use crate::counting::Counts;
-use crate::disk::{CacheDisk, DiskFault, DiskReadFault, Peek};
+use crate::disk::{CacheDisk, DiskCall, DiskFault, DiskReadFault, FailedDiskCall, Peek};
 use std::alloc::{AllocError, Global};
-use tame_names::NoMemory;
+use tame_names::{Items, NoMemory, Text};
 
 /// A disk whose files are kept in memory, with each call that changed one. The calls whose numbers
 /// are listed, counted from 1, fail.
 #[derive(Drop)]
 pub struct MemCacheDisk {
-    alloc: Global,
+    pub(crate) alloc: Global,
     pub(crate) changes: Changes,
     folders: Vec<String>,
     tears: bool,
-    counts: Counts,
+    pub(crate) counts: Counts,
+    /// The calls that have failed; none once memory ran out for one of them.
+    pub(crate) failed: Option<Items<FailedDiskCall>>,
 }
 
 impl MemCacheDisk {
@@ -39,6 +42,7 @@ impl MemCacheDisk {
         ensures made { result.counts.made ≡ 0 }
         ensures faults { result.counts.faults ≡ 0 }
         ensures starved { result.counts.starved ≡ 0 }
+        ensures failed { result.failed ≡ Some [] }
     {
         MemCacheDisk {
             alloc,
@@ -52,6 +56,7 @@ impl MemCacheDisk {
                 faults: 0,
                 starved: 0,
             },
+            failed: Some(Items::new(alloc)),
         }
     }
 }
@@ -65,33 +70,70 @@ fn add_folder(alloc: Global, folders: &mut Vec<String>, path: &str) -> Result<()
     Ok(())
 }
 
+/// The failed calls with one more, or none where memory runs out.
+pub(crate) fn with_failed(
+    alloc: Global,
+    failed: Option<Items<FailedDiskCall>>,
+    call: DiskCall,
+    path: &str,
+) -> Option<Items<FailedDiskCall>>
+    ensures { FailedAt call path.now failed result }
+{
+    let Some(mut calls) = failed else {
+        return None;
+    };
+    let Ok(path) = Text::of(alloc, path) else {
+        return None;
+    };
+    match calls.add(FailedDiskCall { call, path }) {
+        Ok(()) => Some(calls),
+        Err(_) => None,
+    }
+}
+
 impl MemCacheDisk {
     ghost use Rattle.tame_cache.specs.MemoryDisk.{folders_in, past_in};
 
-    /// Notes a change of a file.
-    fn record_change(
-        &mut self,
-        path: &str,
-        change: Change,
-        now: Option<Vec<u8>>,
-    ) -> Result<(), DiskFault>
-        ensures noted { OnOk result ((q : List ℕ)
-            → past_of q [] self.new.changes
-            ≡ with_change q (past_of q [] self.old.changes) path.now change (file_of now)) }
-        ensures same { OnErr result (self.new.changes ≡ self.old.changes) }
+    /// Begins a call, which fails where its number is listed or isn't below the stop.
+    fn begin(&mut self, call: DiskCall, path: &str) -> Result<(), DiskFault>
+        ensures changes { self.new.changes ≡ self.old.changes }
         ensures folders { self.new.folders ≡ self.old.folders }
         ensures tears { self.new.tears ≡ self.old.tears }
-        ensures counted { OnOk result (self.new.counts ≡ self.old.counts) }
-        ensures starved { OnErr result (RanOutOfMemory self.old.counts self.new.counts) }
         ensures cause { HasDiskCause self.old.counts.faults self.new.counts.faults result }
+        ensures made { self.new.counts.made ≤ self.old.counts.made + 1 }
+        ensures called { IsCalled self.old.counts self.new.counts result }
+        ensures only { IsErr result → IsToFail self.old.counts }
+        ensures once { OnErr result
+            (self.new.counts.faults ≡ next_call self.old.counts.faults) }
+        ensures starved { self.new.counts.starved ≡ self.old.counts.starved }
+        ensures failed { AddsFailed (FailedAt call path.now) self.old.failed self.new.failed
+            result }
+    {
+        match self.counts.begin() {
+            Ok(()) => Ok(()),
+            Err(fault) => {
+                self.failed = with_failed(self.alloc, self.failed.take(), call, path);
+                Err(fault)
+            }
+        }
+    }
+
+    /// Counts a fault because memory ran out.
+    pub(crate) fn starve(&mut self, call: DiskCall, path: &str) -> DiskFault
+        ensures changes { self.new.changes ≡ self.old.changes }
+        ensures folders { self.new.folders ≡ self.old.folders }
+        ensures tears { self.new.tears ≡ self.old.tears }
+        ensures rose { CountRose self.old.counts.faults self.new.counts.faults }
+        ensures later { self.old.counts.faults ≤ self.new.counts.faults }
+        ensures once { self.new.counts.faults ≡ next_call self.old.counts.faults }
         ensures made { self.new.counts.made ≡ self.old.counts.made }
         ensures failing { self.new.counts.failing ≡ self.old.counts.failing }
         ensures stop { self.new.counts.stop ≡ self.old.counts.stop }
+        ensures starved { RanOutOfMemory self.old.counts self.new.counts }
+        ensures failed { FailedAt call path.now self.old.failed self.new.failed }
     {
-        match self.changes.add(self.alloc, path, change, now) {
-            Ok(()) => Ok(()),
-            Err(_) => Err(self.counts.starve()),
-        }
+        self.failed = with_failed(self.alloc, self.failed.take(), call, path);
+        self.counts.starve()
     }
 
     /// Sets a file that is on the disk.
@@ -103,6 +145,7 @@ impl MemCacheDisk {
         ensures folders { folders_in self.new ≡ folders_in self.old }
         ensures counts { self.new.counts ≡ self.old.counts }
         ensures tears { self.new.tears ≡ self.old.tears }
+        ensures failed { self.new.failed ≡ self.old.failed }
     {
         let now = bytes.to_vec(alloc)?;
         Ok(self.changes.add(alloc, path, Change::Sync, Some(now))?)
@@ -115,8 +158,10 @@ impl MemCacheDisk {
         ensures folders { folders_in self.new ≡ folders_in self.old }
         ensures faults { self.new.counts.faults ≡ self.old.counts.faults }
         ensures made { self.new.counts.made ≡ self.old.counts.made }
+        ensures starved { self.new.counts.starved ≡ self.old.counts.starved }
         ensures failing { self.new.counts.failing ≡ self.old.counts.failing }
         ensures stop { self.new.counts.stop ≡ min (self.old.counts.made + n) (2 ^ 64 - 1) }
+        ensures failed { self.new.failed ≡ self.old.failed }
     {
         self.counts.stop = self.counts.made.saturating_add(n);
     }
@@ -127,67 +172,16 @@ impl MemCacheDisk {
         ensures same { (q : List ℕ) → past_in self.new q ≡ past_in self.old q }
         ensures folders { folders_in self.new ≡ folders_in self.old }
         ensures counts { self.new.counts ≡ self.old.counts }
+        ensures failed { self.new.failed ≡ self.old.failed }
     {
         self.tears = true;
     }
 
-    /// How many calls have failed for want of the disk's own memory.
+    /// How often the disk's own memory ran out.
     pub fn starved(&self) -> u64
         ensures { result ≡ self.now.counts.starved }
     {
         self.counts.starved
-    }
-
-    /// Writes a piece at a place.
-    fn write_whole(&mut self, path: &str, at: u64, piece: &[u8]) -> Result<(), DiskFault>
-        ensures written { OnOk result (reads (past_in self.new path.now)
-            ≡ Some (with_piece (content (reads (past_in self.old path.now))) at piece.now)) }
-        ensures step { MayWrite at (length piece.now) (past_in self.old path.now)
-            (past_in self.new path.now) }
-        ensures same { OnErr result (past_in self.new path.now ≡ past_in self.old path.now) }
-        ensures others { (q : List ℕ) → q ≢ path.now → past_in self.new q ≡ past_in self.old q }
-        ensures folders { self.new.folders ≡ self.old.folders }
-        ensures tears { self.new.tears ≡ self.old.tears }
-        ensures counted { OnOk result (self.new.counts ≡ self.old.counts) }
-        ensures only { OnErr result ((length (content (reads (past_in self.old path.now))) < at)
-            ⊎ RanOutOfMemory self.old.counts self.new.counts) }
-        ensures cause { HasDiskCause self.old.counts.faults self.new.counts.faults result }
-        ensures made { self.new.counts.made ≡ self.old.counts.made }
-        ensures failing { self.new.counts.failing ≡ self.old.counts.failing }
-        ensures stop { self.new.counts.stop ≡ self.old.counts.stop }
-    {
-        let old = content_of(self.changes.current(path));
-        if at > old.len() as u64 {
-            return Err(self.counts.fail());
-        }
-        match with_bytes(self.alloc, old, at as usize, piece) {
-            Ok(now) => self.record_change(path, Change::Write(at, piece.len() as u64), Some(now)),
-            Err(_) => Err(self.counts.starve()),
-        }
-    }
-
-    /// Does half of a write, where there is memory for it.
-    fn write_half(&mut self, path: &str, at: u64, piece: &[u8])
-        ensures step { MayWrite at (length piece.now) (past_in self.old path.now)
-            (past_in self.new path.now) }
-        ensures others { (q : List ℕ) → q ≢ path.now → past_in self.new q ≡ past_in self.old q }
-        ensures folders { self.new.folders ≡ self.old.folders }
-        ensures tears { self.new.tears ≡ self.old.tears }
-        ensures counts { self.new.counts ≡ self.old.counts }
-    {
-        let old = content_of(self.changes.current(path));
-        if at > old.len() as u64 {
-            return;
-        }
-        let len = piece.len() as u64;
-        let front = &piece[..piece.len() / 2];
-        match with_bytes(self.alloc, old, at as usize, front) {
-            Ok(now) => {
-                let change = Change::Write(at, len);
-                let _noted = self.changes.add(self.alloc, path, change, Some(now));
-            }
-            Err(_) => {}
-        }
     }
 }
 
@@ -199,6 +193,8 @@ impl CacheDisk for MemCacheDisk {
     ghost past = { λ disk path. past_of path [] disk.changes };
 
     ghost folders = { λ disk. map (λ path. string_bytes path) disk.folders.items };
+
+    ghost failed = { λ disk. disk.failed };
 
     ghost faults = { λ disk. disk.counts.faults };
 
@@ -215,11 +211,15 @@ impl CacheDisk for MemCacheDisk {
         ensures same { (q : List ℕ) → past_in self.new q ≡ past_in self.old q }
         ensures folders { folders_in self.new ≡ folders_in self.old }
         ensures calls { self.new.counts.made ≤ self.old.counts.made + 1 }
+        ensures failed { AddsFailed (FailedAt DiskCall.Peek path.now) self.old.failed
+            self.new.failed result }
         ensures cause { HasDiskCause self.old.counts.faults self.new.counts.faults result }
         ensures called { IsCalled self.old.counts self.new.counts result }
+        ensures once { OnErr result
+            (self.new.counts.faults ≡ next_call self.old.counts.faults) }
         ensures only { OnErr result (IsToFail self.old.counts) }
     {
-        self.counts.begin()?;
+        self.begin(DiskCall::Peek, path)?;
         Ok(match self.changes.current(path) {
             None => Peek::Absent,
             Some(bytes) => match bytes.first() {
@@ -236,12 +236,18 @@ impl CacheDisk for MemCacheDisk {
         ensures same { (q : List ℕ) → past_in self.new q ≡ past_in self.old q }
         ensures folders { folders_in self.new ≡ folders_in self.old }
         ensures calls { self.new.counts.made ≤ self.old.counts.made + 1 }
+        ensures failed { AddsFailedBut DiskReadFault.NoMemory (FailedReading path.now)
+            self.old.failed self.new.failed result }
         ensures cause { HasCause DiskReadFault.NoMemory self.old.counts.faults
             self.new.counts.faults result }
         ensures called { IsCalled self.old.counts self.new.counts result }
+        ensures once { result ≡ Err DiskReadFault.Failed
+            → self.new.counts.faults ≡ next_call self.old.counts.faults }
+        ensures uncounted { result ≡ Err DiskReadFault.NoMemory
+            → self.new.counts.faults ≡ self.old.counts.faults }
         ensures only { result ≡ Err DiskReadFault.Failed → IsToFail self.old.counts }
     {
-        if self.counts.begin().is_err() {
+        if self.begin(DiskCall::Read, path).is_err() {
             return Err(DiskReadFault::Failed);
         }
         match self.changes.current(path) {
@@ -260,15 +266,20 @@ impl CacheDisk for MemCacheDisk {
             (folders_in self.new) }
         ensures made { OnOk result (folders_in self.new ≡ folders_in self.old ++ path.now ∷ []) }
         ensures calls { self.new.counts.made ≤ self.old.counts.made + 1 }
+        ensures failed { AddsFailed (FailedAt DiskCall.MakeDirs path.now) self.old.failed
+            self.new.failed result }
         ensures cause { HasDiskCause self.old.counts.faults self.new.counts.faults result }
         ensures called { IsCalled self.old.counts self.new.counts result }
+        ensures untorn { OnErr result (folders_in self.new ≡ folders_in self.old) }
+        ensures once { OnErr result
+            (self.new.counts.faults ≡ next_call self.old.counts.faults) }
         ensures only { OnErr result (IsToFail self.old.counts
             ⊎ RanOutOfMemory self.old.counts self.new.counts) }
     {
-        self.counts.begin()?;
+        self.begin(DiskCall::MakeDirs, path)?;
         match add_folder(self.alloc, &mut self.folders, path) {
             Ok(()) => Ok(()),
-            Err(_) => Err(self.counts.starve()),
+            Err(_) => Err(self.starve(DiskCall::MakeDirs, path)),
         }
     }
 
@@ -281,17 +292,29 @@ impl CacheDisk for MemCacheDisk {
         ensures others { (q : List ℕ) → q ≢ path.now → past_in self.new q ≡ past_in self.old q }
         ensures folders { folders_in self.new ≡ folders_in self.old }
         ensures calls { self.new.counts.made ≤ self.old.counts.made + 1 }
+        ensures failed { AddsFailed (FailedAt DiskCall.WriteAt path.now) self.old.failed
+            self.new.failed result }
         ensures cause { HasDiskCause self.old.counts.faults self.new.counts.faults result }
         ensures called { IsCalled self.old.counts self.new.counts result }
+        ensures once { OnErr result
+            (self.new.counts.faults ≡ next_call self.old.counts.faults) }
         // which writes fail, and what they leave
         ensures only { OnErr result (IsToFail self.old.counts
             ⊎ ((length (content (reads (past_in self.old path.now))) < at)
             ⊎ RanOutOfMemory self.old.counts self.new.counts)) }
         ensures untorn { OnErr result (self.old.tears ≡ false
             → past_in self.new path.now ≡ past_in self.old path.now) }
+        ensures whole { OnErr result (¬ (IsToFail self.old.counts)
+            → past_in self.new path.now ≡ past_in self.old path.now) }
+        ensures torn { OnErr result (self.old.tears ≡ true → IsToFail self.old.counts
+            → at ≤ length (content (reads (past_in self.old path.now)))
+            → (reads (past_in self.new path.now)
+            ≡ Some (with_piece (content (reads (past_in self.old path.now))) at
+            (take (length piece.now / 2) piece.now)))
+            ⊎ RanOutOfMemory self.old.counts self.new.counts) }
         ensures tears { self.new.tears ≡ self.old.tears }
     {
-        match self.counts.begin() {
+        match self.begin(DiskCall::WriteAt, path) {
             Ok(()) => self.write_whole(path, at, piece),
             Err(fault) => {
                 if self.tears {
@@ -310,15 +333,20 @@ impl CacheDisk for MemCacheDisk {
         ensures others { (q : List ℕ) → q ≢ path.now → past_in self.new q ≡ past_in self.old q }
         ensures folders { folders_in self.new ≡ folders_in self.old }
         ensures calls { self.new.counts.made ≤ self.old.counts.made + 1 }
+        ensures failed { AddsFailed (FailedAt DiskCall.Cut path.now) self.old.failed
+            self.new.failed result }
         ensures cause { HasDiskCause self.old.counts.faults self.new.counts.faults result }
         ensures called { IsCalled self.old.counts self.new.counts result }
+        ensures untorn { OnErr result (past_in self.new path.now ≡ past_in self.old path.now) }
+        ensures once { OnErr result
+            (self.new.counts.faults ≡ next_call self.old.counts.faults) }
         ensures only { OnErr result (IsToFail self.old.counts
             ⊎ RanOutOfMemory self.old.counts self.new.counts) }
     {
-        self.counts.begin()?;
+        self.begin(DiskCall::Cut, path)?;
         match front_of(self.alloc, self.changes.current(path), len) {
-            Ok(now) => self.record_change(path, Change::Cut(len), now),
-            Err(_) => Err(self.counts.starve()),
+            Ok(now) => self.record_change(DiskCall::Cut, path, Change::Cut(len), now),
+            Err(_) => Err(self.starve(DiskCall::Cut, path)),
         }
     }
 
@@ -330,15 +358,20 @@ impl CacheDisk for MemCacheDisk {
         ensures others { (q : List ℕ) → q ≢ path.now → past_in self.new q ≡ past_in self.old q }
         ensures folders { folders_in self.new ≡ folders_in self.old }
         ensures calls { self.new.counts.made ≤ self.old.counts.made + 1 }
+        ensures failed { AddsFailed (FailedAt DiskCall.Sync path.now) self.old.failed
+            self.new.failed result }
         ensures cause { HasDiskCause self.old.counts.faults self.new.counts.faults result }
         ensures called { IsCalled self.old.counts self.new.counts result }
+        ensures untorn { OnErr result (past_in self.new path.now ≡ past_in self.old path.now) }
+        ensures once { OnErr result
+            (self.new.counts.faults ≡ next_call self.old.counts.faults) }
         ensures only { OnErr result (IsToFail self.old.counts
             ⊎ RanOutOfMemory self.old.counts self.new.counts) }
     {
-        self.counts.begin()?;
+        self.begin(DiskCall::Sync, path)?;
         match copy_of(self.alloc, self.changes.current(path)) {
-            Ok(now) => self.record_change(path, Change::Sync, now),
-            Err(_) => Err(self.counts.starve()),
+            Ok(now) => self.record_change(DiskCall::Sync, path, Change::Sync, now),
+            Err(_) => Err(self.starve(DiskCall::Sync, path)),
         }
     }
 }

@@ -2,6 +2,7 @@
 ghost use Rattle.std.specs.Prelude.{◌≡◌, ◌≢◌, ◌≤◌, ◌+◌, ◌++◌, ◌∷◌, [], List, ℕ, IfOk, OnOk, None};
 ghost use Rattle.tame_cache.specs.Disk.{reads, may_leave, EachMoment};
 ghost use Rattle.tame_cache.specs.Folders.{MakesOnly};
+ghost use Rattle.tame_cache.specs.FailedCalls.{AddsFailed, FailedWriting};
 ghost use Rattle.tame_cache.specs.Faults.{HasDiskCause};
 ghost use Rattle.tame_cache.specs.Gate.{IsSettled};
 
@@ -22,6 +23,8 @@ pub fn settle<D: CacheDisk>(disk: &mut D, path: &str) -> Result<Peek, DiskFault>
     ensures folders { D.tells → MakesOnly (λ q. q ≡ path.now) (D.folders disk.old)
         (D.folders disk.new) }
     ensures calls { D.made disk.new ≤ D.made disk.old + 4 }
+    ensures failed { AddsFailed (FailedWriting path.now) (D.failed disk.old) (D.failed disk.new)
+        result }
     ensures cause { HasDiskCause (D.faults disk.old) (D.faults disk.new) result }
 {
     if disk.peek(path)? == Peek::Absent {

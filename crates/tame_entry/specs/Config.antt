@@ -1,7 +1,11 @@
 -- The configuration of an index, and where a crate is downloaded from (Cargo Book, "Registry
 -- Index", index configuration).
 use Rattle.std.specs.Prelude.{ℕ, codes, List, [], ◌∷◌, ◌++◌, flat_map, ◌==◌, bytes_eq, nat_eq, Bool, Option, Some, None, option_map, option_and_then, if◌then◌else◌}
+use Rattle.std.specs.Cmp.Lexicographic.{slice_cmp}
 use Rattle.std.specs.List.{ends_with, list_any, slice_split}
+use Rattle.std.specs.Option.{option_cmp}
+use Rattle.std.specs.Ordering.{bool_cmp, nat_cmp, ordering_then}
+use Rattle.std.specs.declared.cmp.Ordering.{Ordering}
 use Rattle.std.specs.Str.{str_to_ascii_lowercase}
 use Rattle.serde_json.specs.Data.{Data}
 use Rattle.serde_json.specs.Find.{get}
@@ -10,6 +14,13 @@ use Rattle.tame_records.specs.Members.{flag_or_false, text_at, text_or_null}
 use Rattle.tame_records.specs.Record.{value_of}
 use Rattle.tame_entry.specs.Prefixes.{without_prefix}
 use Rattle.tame_entry.specs.declared.config.IndexConfig.{IndexConfig}
+
+-- configurations are ordered by `dl`, then by `api`, an absent one first, then by the flag
+abbrev pub config_cmp : IndexConfig → IndexConfig → Ordering
+config_cmp one other =
+    ordering_then (slice_cmp nat_cmp one.dl other.dl)
+    (ordering_then (option_cmp (slice_cmp nat_cmp) one.api other.api)
+    (bool_cmp one.auth_required other.auth_required))
 
 -- `dl` is a text, `api` a text or null, `auth-required` a flag
 abbrev pub config_of_data : Data → Option IndexConfig

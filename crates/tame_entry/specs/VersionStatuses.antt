@@ -1,5 +1,6 @@
 -- What the lines of a crate say of a version.
-use Rattle.std.specs.Prelude.{ℕ, List, [], ◌∷◌, Bool, bytes_eq, filter, map, Option, Some, None, option_map, option_and_then}
+use Rattle.std.specs.Prelude.{◌≡◌, ◌≢◌, ℕ, List, [], ◌∷◌, ◌++◌, Bool, bytes_eq, filter, map, Option, Some, None, option_map, option_and_then}
+use Rattle.std.specs.List.{AllByRecursion}
 use Rattle.tame_records.specs.Record.{record_of, version_flag}
 use Rattle.tame_records.specs.declared.versions.VersionFlag.{VersionFlag}
 use Rattle.tame_entry.specs.declared.version_status.VersionStatus.{VersionStatus}
@@ -36,3 +37,13 @@ status_among (Some flags) version = status_of_flag (last_flag flags version)
 -- last record that has it
 abbrev pub version_status : List (List ℕ) → List ℕ → VersionStatus
 version_status ls version = status_among (version_flags ls) version
+
+-- a flag is that of the last of these that has this version: those after it have others
+pub record IsOfLast (flags : List VersionFlag) (version : List ℕ) (flag : Bool) : Type 0 where
+  pub before : List VersionFlag
+  pub last : VersionFlag
+  pub after : List VersionFlag
+  pub whole : flags ≡ before ++ last ∷ after
+  pub named : last.version ≡ version
+  pub said : last.yanked ≡ flag
+  pub others : AllByRecursion (λ h. h.version ≢ version) after

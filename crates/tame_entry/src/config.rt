@@ -5,13 +5,14 @@ ghost use Rattle.std.specs.Str.{str_to_ascii_lowercase};
 ghost use Rattle.serde_json.specs.View.{view};
 ghost use Rattle.tame_names.specs.KrateNames.{text_of};
 ghost use Rattle.tame_names.specs.Names.{prefix};
-ghost use Rattle.tame_entry.specs.Config.{config_of_data, with_slash, filled_part, is_brace, slash};
+ghost use Rattle.tame_entry.specs.Config.{config_cmp, config_of_data, with_slash, filled_part, is_brace, slash};
 ghost use Rattle.tame_entry.specs.Config as spec;
 ghost use Rattle.tame_entry.specs.Prefixes.{without_prefix};
 
 use crate::prefixes::without_prefix;
 use serde_json::Value;
 use std::alloc::{AllocError, Global};
+use std::cmp::Ordering;
 use tame_names::{KrateName, NoMemory, Text};
 use tame_records::{IndexVersion, LineFault, flag_or_false, read_value, text_or_null};
 
@@ -25,6 +26,13 @@ pub struct IndexConfig {
     pub api: Option<Text>,
     /// Whether each request has to be authorized.
     pub auth_required: bool,
+}
+
+/// What configurations compare as.
+pub fn configs_compare(one: &IndexConfig, other: &IndexConfig) -> Ordering
+    ensures { result ≡ config_cmp one.now other.now }
+{
+    one.cmp(other)
 }
 
 fn config_of(alloc: Global, value: &Value) -> Result<IndexConfig, LineFault>

@@ -1,6 +1,6 @@
 //! Laws of entries, over their definitions.
-ghost use Rattle.std.specs.Prelude.{◌≡◌, ◌≢◌, ◌↔◌, ◌∷◌, ◌++◌, ◌&&◌, ℕ, codes, List, IsErr, IsTrue, Option, Ok, Err, Some, None, flat_map, map, true, false};
-ghost use Rattle.std.specs.List.{list_any};
+ghost use Rattle.std.specs.Prelude.{◌≡◌, ◌≢◌, ◌↔◌, ◌∷◌, ◌++◌, ◌&&◌, ℕ, codes, Bool, List, IsErr, IsTrue, Option, Ok, Err, Some, None, flat_map, map, true, false};
+ghost use Rattle.std.specs.List.{AllByRecursion, list_any};
 ghost use Rattle.std.specs.Result.{result_ok};
 ghost use Rattle.std.specs.Str.{IsUtf8, is_utf8, str_to_ascii_lowercase};
 ghost use Rattle.semver.specs.Parse.{Parts, version_parts};
@@ -22,6 +22,8 @@ ghost use Rattle.tame_entry.specs.Raw.{raw_version};
 ghost use Rattle.tame_entry.specs.Revision.{EntryRevision, IsFormed, IsRevision, entry_text, revision_of, unnamed_revision};
 ghost use Rattle.tame_entry.specs.RevisionNames.{IsUnsplit, revision_named};
 ghost use Rattle.tame_entry.specs.Scan.{line_flag, scanned};
+ghost use Rattle.tame_entry.specs.VersionStatuses.{IsOfLast, last_flag};
+ghost use Rattle.tame_records.specs.declared.versions.VersionFlag.{VersionFlag};
 ghost use Rattle.tame_entry.specs.Scannable.{IsScannable, IsTextOf, is_clear_behind};
 
 /// The entry of a plain body under a revision without a zero byte is readable for its index, whose
@@ -131,4 +133,14 @@ pub fn written_lines_are_scanned()
     ensures scan { (v : IndexVersion) (p : Parts) (text : Option (List ℕ)) → IsScannable v p
         → IsTextOf v text → scanned (result_ok (version_parts (version_text text (line v))))
         (line_flag (line v)) ≡ Ok (p, v.yanked) }
+{}
+
+/// Records say of a version what the last one with it says: those after it have other versions. They
+/// say nothing of it exactly if none has it.
+pub fn last_record_decides()
+    ensures last { (flags : List VersionFlag) (version : List ℕ) (flag : Bool)
+        → (last_flag flags version ≡ Some flag) ↔ IsOfLast flags version flag }
+    ensures none { (flags : List VersionFlag) (version : List ℕ)
+        → (last_flag flags version ≡ None)
+        ↔ AllByRecursion (λ h. h.version ≢ version) flags }
 {}

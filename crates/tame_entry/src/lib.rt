@@ -32,14 +32,14 @@ mod sha1;
 mod version_status;
 mod writes;
 
-pub use config::{IndexConfig, version_url};
+pub use config::{IndexConfig, configs_compare, version_url};
 pub use entries::{CURRENT_CACHE_VERSION, INDEX_V_MAX, ValidCacheEntry};
 pub use entry_pieces::{EntryPieces, PIECE_LEN};
 pub use index_entries::{IndexEntry, IndexEntryVersion, LockedMmap};
 pub use iterating::IndexEntryIter;
 pub use json_lines::JsonLines;
 pub use laws::{
-    entries_read_as_bodies, entries_read_back, markers_are_replaced_in_place,
+    entries_read_as_bodies, entries_read_back, last_record_decides, markers_are_replaced_in_place,
     other_entries_are_refused, readable_entries_are_joined, revisions_are_read_by_name,
     written_lines_are_scanned,
 };

@@ -1,8 +1,9 @@
 //! The caches of indices of every kind.
-ghost use Rattle.std.specs.Prelude.{◌≡◌, ◌≢◌, ◌⊎◌, ◌≤◌, ℕ, List, Err, Some, IfOk, IfErr, option_map};
+ghost use Rattle.std.specs.Prelude.{◌≡◌, ◌≢◌, ◌⊎◌, ◌≤◌, ◌+◌, ℕ, List, Err, Some, IfOk, IfErr, option_map};
 ghost use Rattle.tame_names.specs.Counts.{CountRose};
 ghost use Rattle.tame_names.specs.KrateNames.{text_of};
 ghost use Rattle.tame_cache.specs.Disk.{reads};
+ghost use Rattle.tame_cache.specs.FailedCalls.{AddsFailedBut, FailedReading};
 ghost use Rattle.tame_local.specs.Combos as spec;
 ghost use Rattle.tame_names.specs.declared.host.FileCall.TheVariants as FileCall;
 ghost use Rattle.tame_location.specs.declared.locations.IndexLocation.{IndexLocation};
@@ -119,11 +120,16 @@ impl ComboIndexCache {
             → CountRose (D.faults disk.old) (D.faults disk.new) }
         ensures files_rose { (path : List ℕ) → result ≡ Err (Error.IoPath IoKind.Failed path)
             → CountRose (F.faults files.old) (F.faults files.new) }
+        ensures calls { D.made disk.new ≤ D.made disk.old + 1 }
         ensures disk_later { D.faults disk.old ≤ D.faults disk.new }
         ensures files_later { F.faults files.old ≤ F.faults files.new }
         ensures failed { F.tells → AddsFailed
             (IsEntryCall (kept_in self.now) (text_of name.entry))
             (F.failed files.old) (F.failed files.new) result }
+        ensures failed_disk { (q : List ℕ)
+            → cached_file_of (kept_in self.now) (text_of name.entry) ≡ Some q
+            → AddsFailedBut Error.NoMemory (FailedReading q) (D.failed disk.old)
+            (D.failed disk.new) result }
         ensures disk_uncalled { (index : List ℕ) → kept_in self.now ≡ InIndex index
             → disk.new ≡ disk.old }
         ensures files_uncalled { (root url : List ℕ) → kept_in self.now ≡ InCache root url

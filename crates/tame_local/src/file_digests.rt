@@ -66,8 +66,8 @@ fn piece_at<F: Files>(
     }
 }
 
-/// The SHA-256 digest of the file at a path, which is read in pieces. `IoPath`: `NotFound` where
-/// nothing is there, `Failed` where it can't be read.
+/// The SHA-256 digest of the file at a path. `IoPath`: `NotFound` where nothing is there, `Failed`
+/// where it can't be read.
 pub(crate) fn digest_at<F: Files>(
     alloc: Global,
     files: &mut F,

@@ -10,6 +10,8 @@ use Rattle.tame_names.specs.declared.errors.Error.TheVariants as fault
 use Rattle.tame_names.specs.declared.errors.LockError.{LockError}
 use Rattle.tame_names.specs.declared.errors.LockError.TheVariants as error
 use Rattle.tame_names.specs.declared.errors.NoMemory.{NoMemory}
+use Rattle.tame_names.specs.declared.host.FailedCall.{FailedCall}
+use Rattle.tame_names.specs.declared.host.FileCall.TheVariants as file_call
 use Rattle.tame_names.specs.declared.host.LockOpenFault.{LockOpenFault}
 use Rattle.tame_names.specs.declared.host.LockOpenFault.TheVariants as open_fault
 use Rattle.tame_names.specs.declared.host.LockTakeFault.{LockTakeFault}
@@ -24,15 +26,34 @@ use Rattle.tame_location.specs.declared.locks.LockRefusal.TheVariants as refusal
 
 -- ---- steps
 
--- a host at a moment: what it was asked of locks up to then, what it has, and how often a call
--- failed
+-- a host at a moment: what it was asked of locks up to then, what it has, how often a call failed,
+-- and which calls did
 pub record LockMoment : Type 0 where
   pub locks : Locks
   pub host : Host
   pub faults : ℕ
+  pub failed : List FailedCall
 
-abbrev pub lock_moment : Locks → Host → ℕ → LockMoment
-lock_moment locks host faults = record { locks = locks; host = host; faults = faults }
+abbrev pub lock_moment : Locks → Host → ℕ → List FailedCall → LockMoment
+lock_moment locks host faults failed =
+    record { locks = locks; host = host; faults = faults; failed = failed }
+
+-- the calls that have failed after an opening that was refused so, a taking, and the making of a
+-- folder that was made or wasn't
+abbrev pub with_opening : List ℕ → Option LockOpenFault → List FailedCall → List FailedCall
+with_opening path (Some open_fault.Failed) calls =
+    calls ++ record { call = file_call.OpenLock; path = Some path } ∷ []
+with_opening path _ calls = calls
+
+abbrev pub with_taking : List ℕ → Option LockTakeFault → List FailedCall → List FailedCall
+with_taking path (Some take_fault.Failed) calls =
+    calls ++ record { call = file_call.TakeLock; path = Some path } ∷ []
+with_taking path _ calls = calls
+
+abbrev pub with_making : List ℕ → Bool → List FailedCall → List FailedCall
+with_making folder true calls = calls
+with_making folder false calls =
+    calls ++ record { call = file_call.MakeDirs; path = Some folder } ∷ []
 
 -- an opening of the file, and why it was refused, if it was: it is a step, a failed one was
 -- counted, and an exclusive one that wasn't refused, or failed, may have made an empty file
@@ -42,6 +63,7 @@ pub record Opens (path : List ℕ) (exclusive : Bool) (why : Option LockOpenFaul
   pub cause : HasLockCause (why ≡ Some open_fault.Failed) before.faults now.faults
   pub made : MayMake exclusive path before.host now.host
   pub refused : IfSome why (λ f. f ≢ open_fault.Failed → now.host ≡ before.host)
+  pub failed : now.failed ≡ with_opening path why before.failed
 
 -- a taking of its lock, and why it was refused, if it was
 pub record Takes (path : List ℕ) (exclusive block : Bool) (why : Option LockTakeFault)
@@ -49,6 +71,7 @@ pub record Takes (path : List ℕ) (exclusive block : Bool) (why : Option LockTa
   pub step : now.locks.steps ≡ before.locks.steps ++ take_step path exclusive block why ∷ []
   pub cause : HasLockCause (why ≡ Some take_fault.Failed) before.faults now.faults
   pub same : now.host ≡ before.host
+  pub failed : now.failed ≡ with_taking path why before.failed
 
 -- ---- opening
 
@@ -97,6 +120,7 @@ AreMade false ways before now = (n : ℕ) × (now ≡ with_folders (take n ways)
 pub record MakesFolder (made : Bool) (folder : List ℕ) (before now : LockMoment) : Type 0 where
   pub locks : now.locks ≡ before.locks
   pub cause : HasLockCause (made ≡ false) before.faults now.faults
+  pub failed : now.failed ≡ with_making folder made before.failed
   pub folders : AreMade made (ways_to folder) before.host now.host
 
 -- whether the folder that the file is in is made: it is in none; it is in the current one, which is

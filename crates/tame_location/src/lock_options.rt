@@ -47,8 +47,11 @@ fn take_waiting<F: Files, G: Fn(&str) -> Option<u32>>(
 ) -> Result<(), LockRefusal>
     requires { G.IsAlwaysCallable wait }
     ensures steps { F.tells → TellsTaken (IsWaiting (FnReturnsAt G.Fn wait path.now) path.now
-        exclusive (lock_moment (F.locks files.old) (F.host files.old) (F.faults files.old))
-        (lock_moment (F.locks files.new) (F.host files.new) (F.faults files.new))) result }
+        exclusive
+        (lock_moment (F.locks files.old) (F.host files.old)
+        (F.faults files.old) (F.failed files.old))
+        (lock_moment (F.locks files.new) (F.host files.new)
+        (F.faults files.new) (F.failed files.new))) result }
     ensures taken { F.tells → IsTakenBy opened.now result
         (F.locks files.old) (F.locks files.new) }
     ensures cause { HasLockCause (result ≡ Err (LockRefusal.Lock LockError.Lock))
@@ -143,8 +146,10 @@ impl<'p> LockOptions<'p> {
     fn open<F: Files>(&self, files: &mut F) -> Result<(OpenedLock, LockState), LockRefusal>
         ensures steps { F.tells → Tells (IsOpening self.now.exclusive self.now.fallback
             (cow_str_bytes self.now.path)
-            (lock_moment (F.locks files.old) (F.host files.old) (F.faults files.old))
-            (lock_moment (F.locks files.new) (F.host files.new) (F.faults files.new))) result }
+            (lock_moment (F.locks files.old) (F.host files.old)
+            (F.faults files.old) (F.failed files.old))
+            (lock_moment (F.locks files.new) (F.host files.new)
+            (F.faults files.new) (F.failed files.new))) result }
         ensures left { F.tells → Leaves self.now.exclusive (cow_str_bytes self.now.path)
             (F.host files.old) (F.host files.new) }
         ensures gives { F.tells → Gives result (F.locks files.old) (F.locks files.new) }
@@ -162,8 +167,10 @@ impl<'p> LockOptions<'p> {
     fn held_at_once<F: Files>(&self, files: &mut F) -> Result<FileLock, LockRefusal>
         ensures steps { F.tells → TellsHeld (IsLockedAtOnce self.now.exclusive self.now.fallback
             (cow_str_bytes self.now.path)
-            (lock_moment (F.locks files.old) (F.host files.old) (F.faults files.old))
-            (lock_moment (F.locks files.new) (F.host files.new) (F.faults files.new))) result }
+            (lock_moment (F.locks files.old) (F.host files.old)
+            (F.faults files.old) (F.failed files.old))
+            (lock_moment (F.locks files.new) (F.host files.new)
+            (F.faults files.new) (F.failed files.new))) result }
         ensures left { F.tells → Leaves self.now.exclusive (cow_str_bytes self.now.path)
             (F.host files.old) (F.host files.new) }
         ensures holds { F.tells → Holds result (F.locks files.old) (F.locks files.new) }
@@ -193,8 +200,10 @@ impl<'p> LockOptions<'p> {
         ensures steps { F.tells → TellsHeld (IsLockedWaiting
             (FnReturnsAt G.Fn wait (cow_str_bytes self.now.path)) self.now.exclusive
             self.now.fallback (cow_str_bytes self.now.path)
-            (lock_moment (F.locks files.old) (F.host files.old) (F.faults files.old))
-            (lock_moment (F.locks files.new) (F.host files.new) (F.faults files.new))) result }
+            (lock_moment (F.locks files.old) (F.host files.old)
+            (F.faults files.old) (F.failed files.old))
+            (lock_moment (F.locks files.new) (F.host files.new)
+            (F.faults files.new) (F.failed files.new))) result }
         ensures left { F.tells → Leaves self.now.exclusive (cow_str_bytes self.now.path)
             (F.host files.old) (F.host files.new) }
         ensures holds { F.tells → Holds result (F.locks files.old) (F.locks files.new) }
@@ -223,8 +232,10 @@ impl<'p> LockOptions<'p> {
     pub fn try_lock<F: Files>(&self, alloc: Global, files: &mut F) -> Result<FileLock, Error>
         ensures steps { F.tells → TellsLock (cow_str_bytes self.now.path)
             (IsLockedAtOnce self.now.exclusive self.now.fallback (cow_str_bytes self.now.path)
-            (lock_moment (F.locks files.old) (F.host files.old) (F.faults files.old))
-            (lock_moment (F.locks files.new) (F.host files.new) (F.faults files.new))) result }
+            (lock_moment (F.locks files.old) (F.host files.old)
+            (F.faults files.old) (F.failed files.old))
+            (lock_moment (F.locks files.new) (F.host files.new)
+            (F.faults files.new) (F.failed files.new))) result }
         ensures left { F.tells → Leaves self.now.exclusive (cow_str_bytes self.now.path)
             (F.host files.old) (F.host files.new) }
         ensures holds { F.tells → Holds result (F.locks files.old) (F.locks files.new) }
@@ -249,8 +260,10 @@ impl<'p> LockOptions<'p> {
         ensures steps { F.tells → TellsLock (cow_str_bytes self.now.path) (IsLockedWaiting
             (FnReturnsAt G.Fn wait (cow_str_bytes self.now.path)) self.now.exclusive
             self.now.fallback (cow_str_bytes self.now.path)
-            (lock_moment (F.locks files.old) (F.host files.old) (F.faults files.old))
-            (lock_moment (F.locks files.new) (F.host files.new) (F.faults files.new))) result }
+            (lock_moment (F.locks files.old) (F.host files.old)
+            (F.faults files.old) (F.failed files.old))
+            (lock_moment (F.locks files.new) (F.host files.new)
+            (F.faults files.new) (F.failed files.new))) result }
         ensures left { F.tells → Leaves self.now.exclusive (cow_str_bytes self.now.path)
             (F.host files.old) (F.host files.new) }
         ensures holds { F.tells → Holds result (F.locks files.old) (F.locks files.new) }

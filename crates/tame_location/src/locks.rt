@@ -47,8 +47,10 @@ fn opening<F: Files>(
     exclusive: bool,
 ) -> Result<Result<OpenedLock, LockOpenFault>, NoMemory>
     ensures opens { F.tells → IfOk result (λ answer. Opens path.now exclusive (fault_of answer)
-        (lock_moment (F.locks files.old) (F.host files.old) (F.faults files.old))
-        (lock_moment (F.locks files.new) (F.host files.new) (F.faults files.new))) }
+        (lock_moment (F.locks files.old) (F.host files.old)
+        (F.faults files.old) (F.failed files.old))
+        (lock_moment (F.locks files.new) (F.host files.new)
+        (F.faults files.new) (F.failed files.new))) }
     ensures gives { F.tells → GivesAt result (F.locks files.old) (F.locks files.new) }
     ensures same { F.tells → IsErr result → F.host files.new ≡ F.host files.old }
     ensures shared { F.tells → exclusive ≡ false → F.host files.new ≡ F.host files.old }
@@ -63,8 +65,10 @@ pub fn open_shared<F: Files>(
     path: &str,
 ) -> Result<(OpenedLock, LockState), LockRefusal>
     ensures steps { F.tells → Tells (IsShared path.now
-        (lock_moment (F.locks files.old) (F.host files.old) (F.faults files.old))
-        (lock_moment (F.locks files.new) (F.host files.new) (F.faults files.new))) result }
+        (lock_moment (F.locks files.old) (F.host files.old)
+        (F.faults files.old) (F.failed files.old))
+        (lock_moment (F.locks files.new) (F.host files.new)
+        (F.faults files.new) (F.failed files.new))) result }
     ensures same { F.tells → F.host files.new ≡ F.host files.old }
     ensures gives { F.tells → Gives result (F.locks files.old) (F.locks files.new) }
     ensures only { IfErr result IsOpenRefusal }
@@ -85,8 +89,10 @@ fn fall_back<F: Files>(
     fault: LockOpenFault,
 ) -> Result<(OpenedLock, LockState), LockRefusal>
     ensures steps { F.tells → Tells (Follows fallback path.now (Some fault)
-        (lock_moment (F.locks files.old) (F.host files.old) (F.faults files.old))
-        (lock_moment (F.locks files.new) (F.host files.new) (F.faults files.new))) result }
+        (lock_moment (F.locks files.old) (F.host files.old)
+        (F.faults files.old) (F.failed files.old))
+        (lock_moment (F.locks files.new) (F.host files.new)
+        (F.faults files.new) (F.failed files.new))) result }
     ensures same { F.tells → F.host files.new ≡ F.host files.old }
     ensures gives { F.tells → Gives result (F.locks files.old) (F.locks files.new) }
     ensures only { IfErr result IsOpenRefusal }
@@ -111,8 +117,10 @@ fn open_again<F: Files>(
     fallback: bool,
 ) -> Result<(OpenedLock, LockState), LockRefusal>
     ensures steps { F.tells → Tells (IsAgain fallback path.now
-        (lock_moment (F.locks files.old) (F.host files.old) (F.faults files.old))
-        (lock_moment (F.locks files.new) (F.host files.new) (F.faults files.new))) result }
+        (lock_moment (F.locks files.old) (F.host files.old)
+        (F.faults files.old) (F.failed files.old))
+        (lock_moment (F.locks files.new) (F.host files.new)
+        (F.faults files.new) (F.failed files.new))) result }
     ensures left { F.tells → MayMake true path.now (F.host files.old) (F.host files.new) }
     ensures gives { F.tells → Gives result (F.locks files.old) (F.locks files.new) }
     ensures only { IfErr result IsOpenRefusal }
@@ -127,8 +135,10 @@ fn open_again<F: Files>(
 /// Makes the folder above a path; whether it was made, or needn't be.
 fn make_folder<F: Files>(files: &mut F, path: &str) -> Result<bool, NoMemory>
     ensures made { F.tells → IfOk result (λ made. IsMade made (parent_of path.now)
-        (lock_moment (F.locks files.old) (F.host files.old) (F.faults files.old))
-        (lock_moment (F.locks files.new) (F.host files.new) (F.faults files.new))) }
+        (lock_moment (F.locks files.old) (F.host files.old)
+        (F.faults files.old) (F.failed files.old))
+        (lock_moment (F.locks files.new) (F.host files.new)
+        (F.faults files.new) (F.failed files.new))) }
     ensures left { F.tells → (n : ℕ) × (F.host files.new
         ≡ with_folders (first n (folder_ways (parent_of path.now))) (F.host files.old)) }
     ensures locks { F.tells → F.locks files.new ≡ F.locks files.old }
@@ -154,8 +164,10 @@ fn open_below<F: Files>(
     fallback: bool,
 ) -> Result<(OpenedLock, LockState), LockRefusal>
     ensures steps { F.tells → Tells (IsBelow fallback path.now
-        (lock_moment (F.locks files.old) (F.host files.old) (F.faults files.old))
-        (lock_moment (F.locks files.new) (F.host files.new) (F.faults files.new))) result }
+        (lock_moment (F.locks files.old) (F.host files.old)
+        (F.faults files.old) (F.failed files.old))
+        (lock_moment (F.locks files.new) (F.host files.new)
+        (F.faults files.new) (F.failed files.new))) result }
     ensures left { F.tells → Leaves true path.now (F.host files.old) (F.host files.new) }
     ensures gives { F.tells → Gives result (F.locks files.old) (F.locks files.new) }
     ensures only { IfErr result IsOpenRefusal }
@@ -175,8 +187,10 @@ pub fn open_exclusive<F: Files>(
     fallback: bool,
 ) -> Result<(OpenedLock, LockState), LockRefusal>
     ensures steps { F.tells → Tells (IsExclusive fallback path.now
-        (lock_moment (F.locks files.old) (F.host files.old) (F.faults files.old))
-        (lock_moment (F.locks files.new) (F.host files.new) (F.faults files.new))) result }
+        (lock_moment (F.locks files.old) (F.host files.old)
+        (F.faults files.old) (F.failed files.old))
+        (lock_moment (F.locks files.new) (F.host files.new)
+        (F.faults files.new) (F.failed files.new))) result }
     ensures left { F.tells → Leaves true path.now (F.host files.old) (F.host files.new) }
     ensures gives { F.tells → Gives result (F.locks files.old) (F.locks files.new) }
     ensures only { IfErr result IsOpenRefusal }
@@ -201,8 +215,11 @@ pub fn taking<F: Files>(
     block: bool,
 ) -> Result<Result<(), LockTakeFault>, NoMemory>
     ensures takes { F.tells → IfOk result (λ answer. Takes path.now exclusive block
-        (fault_of answer) (lock_moment (F.locks files.old) (F.host files.old) (F.faults files.old))
-        (lock_moment (F.locks files.new) (F.host files.new) (F.faults files.new))) }
+        (fault_of answer)
+        (lock_moment (F.locks files.old) (F.host files.old)
+        (F.faults files.old) (F.failed files.old))
+        (lock_moment (F.locks files.new) (F.host files.new)
+        (F.faults files.new) (F.failed files.new))) }
     ensures taken { F.tells → IsTakenAt opened.now result
         (F.locks files.old) (F.locks files.new) }
     ensures cause { HasLockCause (result ≡ Ok (Err LockTakeFault.Failed))
@@ -234,8 +251,10 @@ pub fn take<F: Files>(
     block: bool,
 ) -> Result<(), LockRefusal>
     ensures steps { F.tells → TellsTaken (IsTaking path.now exclusive block
-        (lock_moment (F.locks files.old) (F.host files.old) (F.faults files.old))
-        (lock_moment (F.locks files.new) (F.host files.new) (F.faults files.new))) result }
+        (lock_moment (F.locks files.old) (F.host files.old)
+        (F.faults files.old) (F.failed files.old))
+        (lock_moment (F.locks files.new) (F.host files.new)
+        (F.faults files.new) (F.failed files.new))) result }
     ensures taken { F.tells → IsTakenBy opened.now result
         (F.locks files.old) (F.locks files.new) }
     ensures cause { HasLockCause (result ≡ Err (LockRefusal.Lock LockError.Lock))
@@ -258,8 +277,10 @@ pub fn take_tries<F: Files>(
     times: u32,
 ) -> Result<(), LockRefusal>
     ensures steps { F.tells → TellsTaken (AreTries times path.now exclusive
-        (lock_moment (F.locks files.old) (F.host files.old) (F.faults files.old))
-        (lock_moment (F.locks files.new) (F.host files.new) (F.faults files.new))) result }
+        (lock_moment (F.locks files.old) (F.host files.old)
+        (F.faults files.old) (F.failed files.old))
+        (lock_moment (F.locks files.new) (F.host files.new)
+        (F.faults files.new) (F.failed files.new))) result }
     ensures taken { F.tells → IsTakenBy opened.now result
         (F.locks files.old) (F.locks files.new) }
     ensures cause { HasLockCause (result ≡ Err (LockRefusal.Lock LockError.Lock))

@@ -1,5 +1,5 @@
 -- Counts of faults. Each object of the outside counts how often it has failed.
-use Rattle.std.specs.Prelude.{◌≡◌, ◌≢◌, ◌+◌, ◌-◌, ◌^◌, ◌<◌, ◌≤◌, ℕ, min, nat_eq, List, IsTrue, Result, IfErr}
+use Rattle.std.specs.Prelude.{◌≡◌, ◌≢◌, ◌+◌, ◌-◌, ◌^◌, ◌<◌, ◌≤◌, ℕ, min, nat_eq, List, IsTrue, Result, IfErr, IsOk}
 use Rattle.std.specs.List.{list_any}
 
 -- a count rose: it is higher at the second moment, or it stands at its end there
@@ -14,11 +14,13 @@ CountRoseBy more before now = min (before + more) (2 ^ 64 - 1) ≤ now
 abbrev pub CountStayed : ℕ → ℕ → Type 0
 CountStayed before now = (now ≡ before) × (before < 2 ^ 64 - 1)
 
--- the count never falls, and a call that failed raised it; want of memory is no fault
+-- the count never falls; a call that failed raised it, and one that succeeded left it; being out of
+-- memory is no fault
 pub record HasCause {T E : Type 0} (no_memory : E) (before now : ℕ)
     (result : Result T E) : Type 0 where
   pub later : before ≤ now
   pub failed : IfErr result (λ e. e ≢ no_memory → CountRose before now)
+  pub stayed : IsOk result → now ≡ before
 
 -- ---- calls that are to fail, by their numbers
 

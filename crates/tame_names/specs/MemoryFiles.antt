@@ -1,12 +1,16 @@
 -- A host in memory, as lists (this project).
-use Rattle.std.specs.Prelude.{◌≡◌, ◌≢◌, ℕ, List, [], ◌∷◌, bytes_eq, Option, Some, None, if◌then◌else◌, Result, Err, IsErr}
+use Rattle.std.specs.Prelude.{◌≡◌, ◌≢◌, ℕ, List, [], ◌∷◌, length, nat_lt, bytes_eq, Option, Some, None, IfSome, Vec, if◌then◌else◌, Result, Ok, Err, IsErr}
+use Rattle.std.specs.declared.alloc.Global.{Global}
 use Rattle.tame_names.specs.Counts.{IsListed, next_call}
 use Rattle.tame_names.specs.Paths.{plain_path}
 use Rattle.tame_names.specs.Standing.{Host, Standing, Nothing, File, Folder, Other}
 use Rattle.tame_names.specs.declared.host.EnvValue.{EnvValue}
-use Rattle.tame_names.specs.declared.host.EnvValue.TheVariants.{Unset}
+use Rattle.tame_names.specs.declared.host.EnvValue.TheVariants as env_value
 use Rattle.tame_names.specs.declared.host.FileFault.{FileFault}
 use Rattle.tame_names.specs.declared.host.FileFault.TheVariants as file_fault
+use Rattle.tame_names.specs.declared.host.Listed.{Listed}
+use Rattle.tame_names.specs.declared.host.ReadAnswer.{ReadAnswer}
+use Rattle.tame_names.specs.declared.host.ReadAnswer.TheVariants as answer
 use Rattle.tame_names.specs.declared.memory_nodes.MemFile.{MemFile}
 use Rattle.tame_names.specs.declared.memory_files.MemFiles.{MemFiles}
 use Rattle.tame_names.specs.declared.memory_nodes.MemNode.{MemNode}
@@ -36,7 +40,7 @@ standing_in files path = standing_of (file_at files path)
 
 -- the value of a variable: that of the first with this name, or none
 abbrev pub value_in : List MemVariable → List ℕ → EnvValue
-value_in [] name = Unset
+value_in [] name = env_value.Unset
 value_in (variable ∷ variables) name =
     if bytes_eq variable.name name then variable.value else value_in variables name
 
@@ -56,13 +60,38 @@ IsReadable Nothing = Unit {0}
 IsReadable (File bytes) = Unit {0}
 IsReadable _ = ⊥
 
--- one call more is counted; where its number is listed it fails, else not, if it can succeed, but
--- that memory may run out; each failure is counted
-pub record Counted {T : Type 0} (can : Type 0) (old new : MemFiles)
+-- what a read answers that needs no memory: that nothing is there, or that a file is over the limit
+abbrev pub read_free : Standing → ℕ → Option ReadAnswer
+read_free Nothing limit = Some answer.Absent
+read_free (File bytes) limit =
+    if nat_lt limit (length bytes) then Some (answer.Over (length bytes)) else None
+read_free _ limit = None
+
+-- what the read of a part answers that needs no memory: that nothing is there
+abbrev pub part_free : Standing → Option (Option (Vec ℕ Global))
+part_free Nothing = Some None
+part_free _ = None
+
+-- what a listing answers that needs no memory: that no folder is there
+abbrev pub list_free : Standing → Option (Option (List Listed))
+list_free (Folder entries) = None
+list_free _ = Some None
+
+-- the value of a variable that needs no memory: any but a text
+abbrev pub value_free : EnvValue → Option EnvValue
+value_free (env_value.Value text) = None
+value_free value = Some value
+
+-- one call more is counted. If its number is listed, it fails. Else it doesn't, if it can succeed,
+-- unless memory runs out; and an answer that needs no memory comes. Each failure is counted, no
+-- other call is, and the locks stay
+pub record Counted {T : Type 0} (can : Type 0) (free : Option T) (old new : MemFiles)
     (result : Result T FileFault) : Type 0 where
   pub count : new.calls ≡ next_call old.calls
   pub listed : new.fails ≡ old.fails
   pub fails : IsListed new.calls old.fails → IsErr result
   pub unlisted : ¬ (IsListed new.calls old.fails) → can → result ≢ Err file_fault.Failed
+  pub fed : ¬ (IsListed new.calls old.fails) → IfSome free (λ a. result ≡ Ok a)
   pub counted : result ≡ Err file_fault.Failed → new.faults ≡ next_call old.faults
   pub uncounted : result ≢ Err file_fault.Failed → new.faults ≡ old.faults
+  pub locks : new.locks ≡ old.locks

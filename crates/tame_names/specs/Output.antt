@@ -1,5 +1,5 @@
 -- What a sink holds after a put.
-use Rattle.std.specs.Prelude.{◌≡◌, ◌≤◌, ℕ, List, ◌++◌, take, Result, Ok, Err, IsErr}
+use Rattle.std.specs.Prelude.{◌≡◌, ◌≤◌, ℕ, List, ◌++◌, take, Result, Ok, Err, IsErr, IsOk}
 use Rattle.tame_names.specs.Counts.{CountRose}
 
 -- a part from the front of a piece was added
@@ -11,7 +11,8 @@ abbrev pub Puts : {E : Type 0} → List ℕ → List ℕ → List ℕ → Result
 Puts before piece now (Ok done) = now ≡ before ++ piece
 Puts before piece now (Err fault) = AddsPrefix before piece now
 
--- the count never falls, and each failure raised it
+-- the count never falls; each failure raised it, and a success left it
 pub record HasPutCause {T E : Type 0} (before now : ℕ) (result : Result T E) : Type 0 where
   pub later : before ≤ now
   pub failed : IsErr result → CountRose before now
+  pub stayed : IsOk result → now ≡ before

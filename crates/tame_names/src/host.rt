@@ -284,6 +284,8 @@ pub trait Files {
     ) -> Result<Result<OpenedLock, LockOpenFault>, NoMemory>
         ensures cause { HasLockCause (result ≡ Ok (Err LockOpenFault.Failed))
             (faults self.old) (faults self.new) }
+        ensures stayed { result ≢ Ok (Err LockOpenFault.Failed)
+            → faults self.new ≡ faults self.old }
         ensures made { tells → Makes exclusive path.now result (host self.old) (host self.new) }
         ensures failed { tells → failed self.new
             ≡ failed_opening path.now result (failed self.old) }
@@ -302,6 +304,8 @@ pub trait Files {
     ) -> Result<Result<(), LockTakeFault>, NoMemory>
         ensures cause { HasLockCause (result ≡ Ok (Err LockTakeFault.Failed))
             (faults self.old) (faults self.new) }
+        ensures stayed { result ≢ Ok (Err LockTakeFault.Failed)
+            → faults self.new ≡ faults self.old }
         ensures contested { result ≡ Ok (Err LockTakeFault.Contested) → block ≡ false }
         ensures same { tells → host self.new ≡ host self.old }
         ensures failed { tells → failed self.new

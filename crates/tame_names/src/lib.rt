@@ -26,6 +26,7 @@ mod memory_locks;
 mod memory_nodes;
 mod memory_sink;
 mod memory_source;
+mod memory_stating;
 mod memory_variables;
 mod names;
 mod output;

@@ -1,16 +1,16 @@
 //! A host in memory.
-ghost use Rattle.std.specs.Prelude.{◌≡◌, ◌≢◌, ◌≤◌, [], ⊤, true, false, Ok, Some, None, Err, IfOk, IfErr, OnOk, option_map};
+ghost use Rattle.std.specs.Prelude.{◌≡◌, ◌≢◌, ◌≤◌, [], ⊤, true, false, Ok, Some, None, Err, IfOk, IfErr, OnOk, OnErr, option_map};
 ghost use Rattle.tame_names.specs.Changes.{AreFolders, Creates, MakesFolders, can_create, is_folder};
-ghost use Rattle.tame_names.specs.Counts.{HasCause, CountRose, next_call};
+ghost use Rattle.tame_names.specs.Counts.{HasCause, CountRose, IsListed, next_call};
 ghost use Rattle.tame_names.specs.Locks.{HasLockCause, Makes, after_opening, after_taking, failed_opening, failed_taking};
-ghost use Rattle.tame_names.specs.MemoryLocks.{LockCounted, locks_after};
-ghost use Rattle.tame_names.specs.MemoryFiles.{Counted, IsReadable, host_in, standing_in, value_in};
+ghost use Rattle.tame_names.specs.MemoryLocks.{LockCounted, locks_after, opening_stated, taking_stated};
+ghost use Rattle.tame_names.specs.MemoryFiles.{Counted, IsReadable, host_in, list_free, part_free, read_free, standing_in, value_free, value_in};
 ghost use Rattle.tame_names.specs.Paths.{ways_to};
 ghost use Rattle.tame_names.specs.Standing.{IsAboveLimit, IsLeft, IsWithin, Reads, ReadsPart, StaysButInput, File, failed_calls, kind_of, listing, with_fault};
 
 use crate::errors::NoMemory;
 use crate::host::{
-    EnvValue, FailedCall, FileCall, FileFault, Files, Listed, LockCall, LockOpenFault, LockStep,
+    EnvValue, FailedCall, FileCall, FileFault, Files, Listed, LockCall, LockOpenFault,
     LockTakeFault, OpenedLock, PathKind, ReadAnswer,
 };
 use crate::lists::Items;
@@ -32,97 +32,18 @@ use std::alloc::Global;
 #[derive(Drop)]
 pub struct MemFiles {
     pub(crate) alloc: Global,
-    files: Items<MemFile>,
-    input: Items<u8>,
-    variables: Items<MemVariable>,
-    current: Text,
+    pub(crate) files: Items<MemFile>,
+    pub(crate) input: Items<u8>,
+    pub(crate) variables: Items<MemVariable>,
+    pub(crate) current: Text,
     pub(crate) locks: MemLocks,
     pub(crate) fails: Items<u64>,
-    failed: Items<FailedCall>,
+    pub(crate) failed: Items<FailedCall>,
     pub(crate) calls: u64,
     pub(crate) faults: u64,
 }
 
 impl MemFiles {
-    /// These files, with an empty input, no variable, the empty path as current folder, and no
-    /// answer for calls on locks; the calls of these numbers are to fail.
-    pub fn new(alloc: Global, files: Items<MemFile>, fails: Items<u64>) -> MemFiles
-        ensures files { result.files ≡ files }
-        ensures input { result.input ≡ [] }
-        ensures variables { result.variables ≡ [] }
-        ensures current { result.current ≡ [] }
-        ensures answers { result.locks.answers ≡ [] }
-        ensures asked { result.locks.asked ≡ 0 }
-        ensures steps { result.locks.steps ≡ [] }
-        ensures fails { result.fails ≡ fails }
-        ensures failed { result.failed ≡ [] }
-        ensures calls { result.calls ≡ 0 }
-        ensures faults { result.faults ≡ 0 }
-    {
-        MemFiles {
-            alloc,
-            files,
-            input: Items::new(alloc),
-            variables: Items::new(alloc),
-            current: Text::from_string(String::new(alloc)),
-            locks: MemLocks::new(alloc, Items::new(alloc)),
-            fails,
-            failed: Items::new(alloc),
-            calls: 0,
-            faults: 0,
-        }
-    }
-
-    /// The same with this input.
-    pub fn with_input(self, input: Items<u8>) -> MemFiles
-        ensures { result ≡ record self { input = input } }
-    {
-        let mut files = self;
-        files.input = input;
-        files
-    }
-
-    /// The same with these variables.
-    pub fn with_variables(self, variables: Items<MemVariable>) -> MemFiles
-        ensures { result ≡ record self { variables = variables } }
-    {
-        let mut files = self;
-        files.variables = variables;
-        files
-    }
-
-    /// The same with this current folder.
-    pub fn with_current(self, current: Text) -> MemFiles
-        ensures { result ≡ record self { current = current } }
-    {
-        let mut files = self;
-        files.current = current;
-        files
-    }
-
-    /// The same with these answers of the calls on locks.
-    pub fn with_locks(self, answers: Items<LockAnswer>) -> MemFiles
-        ensures { result ≡ record self { locks = record self.locks { answers = answers } } }
-    {
-        let mut files = self;
-        files.locks = files.locks.with_answers(answers);
-        files
-    }
-
-    /// The steps on locks, the first in front.
-    pub fn steps(&self) -> &[LockStep]
-        ensures { result.now ≡ self.now.locks.steps }
-    {
-        self.locks.steps()
-    }
-
-    /// The calls that have failed, the first in front.
-    pub fn failed(&self) -> &[FailedCall]
-        ensures { result.now ≡ self.now.failed }
-    {
-        self.failed.as_slice()
-    }
-
     /// The fault of a call on a path or a variable, which is counted unless memory runs out.
     pub(crate) fn fail(&mut self, call: FileCall, path: Option<&str>) -> FileFault
         ensures files { self.new.files ≡ self.old.files }
@@ -159,7 +80,7 @@ impl MemFiles {
         ensures current { self.new.current ≡ self.old.current }
         ensures locks { self.new.locks ≡ self.old.locks }
         ensures cause { HasCause FileFault.NoMemory self.old.faults self.new.faults result }
-        ensures counted { Counted (Unit {0}) self.old self.new result }
+        ensures counted { Counted (Unit {0}) (Some tt) self.old self.new result }
         ensures failed { self.new.failed ≡ failed_calls self.old.failed call
             (option_map (λ text. text.now) path.entry) result }
     {
@@ -195,7 +116,7 @@ impl Files for MemFiles {
             ≡ failed_calls self.old.failed FileCall.Read (Some path.now) result }
         ensures locks { locks_after self.new.locks.steps ≡ locks_after self.old.locks.steps }
         ensures counted { Counted (IsReadable (standing_in self.old.files path.now))
-            self.old self.new result }
+            (read_free (standing_in self.old.files path.now) limit) self.old self.new result }
     {
         self.begin(FileCall::Read, Some(path))?;
         if is_readable(self.files.as_slice(), path) {
@@ -220,7 +141,7 @@ impl Files for MemFiles {
             ≡ failed_calls self.old.failed FileCall.Read (Some path.now) result }
         ensures locks { locks_after self.new.locks.steps ≡ locks_after self.old.locks.steps }
         ensures counted { Counted (IsReadable (standing_in self.old.files path.now))
-            self.old self.new result }
+            (part_free (standing_in self.old.files path.now)) self.old self.new result }
     {
         self.begin(FileCall::Read, Some(path))?;
         if is_readable(self.files.as_slice(), path) {
@@ -240,7 +161,9 @@ impl Files for MemFiles {
         ensures failed { self.new.failed
             ≡ failed_calls self.old.failed FileCall.ReadStdin None result }
         ensures locks { locks_after self.new.locks.steps ≡ locks_after self.old.locks.steps }
-        ensures counted { Counted (Unit {0}) self.old self.new result }
+        ensures kept { OnErr result (self.new.input ≡ self.old.input) }
+        ensures counted { Counted (Unit {0}) (read_free (File self.old.input) limit)
+            self.old self.new result }
     {
         self.begin(FileCall::ReadStdin, None)?;
         let answer = copy_within(alloc, self.input.as_slice(), limit)?;
@@ -256,7 +179,8 @@ impl Files for MemFiles {
         ensures failed { self.new.failed
             ≡ failed_calls self.old.failed FileCall.List (Some path.now) result }
         ensures locks { locks_after self.new.locks.steps ≡ locks_after self.old.locks.steps }
-        ensures counted { Counted (Unit {0}) self.old self.new result }
+        ensures counted { Counted (Unit {0}) (list_free (standing_in self.old.files path.now))
+            self.old self.new result }
     {
         self.begin(FileCall::List, Some(path))?;
         Ok(entries_at(alloc, self.files.as_slice(), path)?)
@@ -270,7 +194,8 @@ impl Files for MemFiles {
         ensures failed { self.new.failed
             ≡ failed_calls self.old.failed FileCall.Kind (Some path.now) result }
         ensures locks { locks_after self.new.locks.steps ≡ locks_after self.old.locks.steps }
-        ensures counted { Counted (Unit {0}) self.old self.new result }
+        ensures counted { Counted (Unit {0}) (Some (kind_of (standing_in self.old.files path.now)))
+            self.old self.new result }
     {
         self.begin(FileCall::Kind, Some(path))?;
         Ok(kind_at(self.files.as_slice(), path))
@@ -283,7 +208,8 @@ impl Files for MemFiles {
         ensures failed { self.new.failed
             ≡ failed_calls self.old.failed FileCall.Env (Some name.now) result }
         ensures locks { locks_after self.new.locks.steps ≡ locks_after self.old.locks.steps }
-        ensures counted { Counted (Unit {0}) self.old self.new result }
+        ensures counted { Counted (Unit {0}) (value_free (value_in self.old.variables name.now))
+            self.old self.new result }
     {
         self.begin(FileCall::Env, Some(name))?;
         Ok(value_of(alloc, self.variables.as_slice(), name)?)
@@ -296,7 +222,7 @@ impl Files for MemFiles {
         ensures failed { self.new.failed
             ≡ failed_calls self.old.failed FileCall.CurrentDir None result }
         ensures locks { locks_after self.new.locks.steps ≡ locks_after self.old.locks.steps }
-        ensures counted { Counted (Unit {0}) self.old self.new result }
+        ensures counted { Counted (Unit {0}) None self.old self.new result }
     {
         self.begin(FileCall::CurrentDir, None)?;
         Ok(self.current.try_clone(alloc)?)
@@ -312,8 +238,10 @@ impl Files for MemFiles {
         ensures failed { self.new.failed
             ≡ failed_calls self.old.failed FileCall.MakeDirs (Some path.now) result }
         ensures locks { locks_after self.new.locks.steps ≡ locks_after self.old.locks.steps }
+        ensures untorn { IsListed self.new.calls self.old.fails
+            → host_in self.new ≡ host_in self.old }
         ensures counted { Counted (AreFolders (ways_to path.now) (standing_in self.old.files))
-            self.old self.new result }
+            None self.old self.new result }
     {
         self.begin(FileCall::MakeDirs, Some(path))?;
         let ways = ways_to(self.alloc, path)?;
@@ -330,8 +258,10 @@ impl Files for MemFiles {
         ensures failed { self.new.failed
             ≡ failed_calls self.old.failed FileCall.Create (Some path.now) result }
         ensures locks { locks_after self.new.locks.steps ≡ locks_after self.old.locks.steps }
+        ensures untorn { IsListed self.new.calls self.old.fails
+            → host_in self.new ≡ host_in self.old }
         ensures counted { Counted (can_create path.now (standing_in self.old.files) ≡ true)
-            self.old self.new result }
+            None self.old self.new result }
     {
         self.begin(FileCall::Create, Some(path))?;
         if !can_create(self.files.as_slice(), path) {
@@ -349,11 +279,13 @@ impl Files for MemFiles {
     ) -> Result<Result<OpenedLock, LockOpenFault>, NoMemory>
         ensures cause { HasLockCause (result ≡ Ok (Err LockOpenFault.Failed))
             self.old.faults self.new.faults }
+        ensures stayed { result ≢ Ok (Err LockOpenFault.Failed)
+            → self.new.faults ≡ self.old.faults }
         ensures made { Makes exclusive path.now result (host_in self.old) (host_in self.new) }
         ensures failed { self.new.failed ≡ failed_opening path.now result self.old.failed }
         ensures locks { locks_after self.new.locks.steps
             ≡ after_opening path.now exclusive result (locks_after self.old.locks.steps) }
-        ensures counted { LockCounted LockOpenFault.Failed LockAnswer.Open
+        ensures counted { LockCounted LockOpenFault.Failed LockAnswer.Open opening_stated
             self.old self.new result }
         ensures same { host_in self.new ≡ host_in self.old }
     {
@@ -384,13 +316,15 @@ impl Files for MemFiles {
     ) -> Result<Result<(), LockTakeFault>, NoMemory>
         ensures cause { HasLockCause (result ≡ Ok (Err LockTakeFault.Failed))
             self.old.faults self.new.faults }
+        ensures stayed { result ≢ Ok (Err LockTakeFault.Failed)
+            → self.new.faults ≡ self.old.faults }
         ensures contested { result ≡ Ok (Err LockTakeFault.Contested) → block ≡ false }
         ensures same { host_in self.new ≡ host_in self.old }
         ensures failed { self.new.failed ≡ failed_taking path.now result self.old.failed }
         ensures locks { locks_after self.new.locks.steps ≡ after_taking path.now opened.now
             exclusive block result (locks_after self.old.locks.steps) }
         ensures counted { LockCounted LockTakeFault.Failed LockAnswer.Take
-            self.old self.new result }
+            (taking_stated opened.now.file block) self.old self.new result }
     {
         let answer = self.begin_lock();
         let fault = match opened.file {

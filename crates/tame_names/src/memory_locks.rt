@@ -1,7 +1,8 @@
 //! Calls on the locks of a host in memory: what they answer, and their steps.
-ghost use Rattle.std.specs.Prelude.{◌≡◌, ◌≢◌, ◌≤◌, ◌++◌, ◌∷◌, [], false, Some, None, OnOk, OnErr};
+ghost use Rattle.std.specs.Prelude.{◌≡◌, ◌≢◌, ◌≤◌, ◌++◌, ◌∷◌, [], ℕ, false, Some, None, OnOk, OnErr};
 ghost use Rattle.std.specs.List.{slice_get};
 ghost use Rattle.tame_names.specs.Counts.{CountRose, IsListed, next_call};
+ghost use Rattle.tame_names.specs.MemoryLocks.{opening_stated, taking_stated};
 
 use crate::errors::NoMemory;
 use crate::host::{FileCall, FileFault, LockCall, LockOpenFault, LockStep, LockTakeFault};
@@ -94,7 +95,8 @@ impl MemLocks {
 
 /// What an opening answers that is to give this answer.
 pub(crate) fn opening_fault(answer: Option<LockAnswer>) -> Option<LockOpenFault>
-    ensures { result ≢ Some LockOpenFault.Failed → answer ≡ Some (LockAnswer.Open result) }
+    ensures given { result ≢ Some LockOpenFault.Failed → answer ≡ Some (LockAnswer.Open result) }
+    ensures stated { result ≡ opening_stated answer }
 {
     match answer {
         Some(LockAnswer::Open(fault)) => fault,
@@ -107,6 +109,7 @@ pub(crate) fn opening_fault(answer: Option<LockAnswer>) -> Option<LockOpenFault>
 pub(crate) fn taking_fault(answer: Option<LockAnswer>, block: bool) -> Option<LockTakeFault>
     ensures given { result ≢ Some LockTakeFault.Failed → answer ≡ Some (LockAnswer.Take result) }
     ensures contested { result ≡ Some LockTakeFault.Contested → block ≡ false }
+    ensures stated { result ≡ taking_stated {A = ℕ} None block answer }
 {
     match answer {
         Some(LockAnswer::Take(Some(LockTakeFault::Contested))) if block => {
@@ -128,6 +131,8 @@ impl MemFiles {
         ensures faults { self.new.faults ≡ self.old.faults }
         ensures listed { IsListed self.new.calls self.old.fails → result ≡ None }
         ensures answer { result ≢ None
+            → result ≡ slice_get self.old.locks.answers self.old.locks.asked }
+        ensures fed { ¬ (IsListed self.new.calls self.old.fails)
             → result ≡ slice_get self.old.locks.answers self.old.locks.asked }
     {
         let answer = self.locks.next_answer();

@@ -67,6 +67,10 @@ impl Source for MemSource {
         ensures listed { self.new.fails ≡ self.old.fails }
         ensures fails { IsErr result → IsListed self.new.calls self.old.fails }
         ensures listed_fails { IsListed self.new.calls self.old.fails → IsErr result }
+        ensures counted { OnErr result (self.new.faults ≡ next_call self.old.faults) }
+        ensures uncounted { OnOk result (self.new.faults ≡ self.old.faults) }
+        ensures kept { OnErr result (self.new.at ≡ self.old.at) }
+        ensures same { self.new.bytes ≡ self.old.bytes }
     {
         self.calls = self.calls.saturating_add(1);
         if self.fails.as_slice().contains(&self.calls) {

@@ -1,6 +1,6 @@
 //! The environment of a host in memory.
-ghost use Rattle.std.specs.Prelude.{◌≡◌, IfOk};
-ghost use Rattle.tame_names.specs.MemoryFiles.{value_in};
+ghost use Rattle.std.specs.Prelude.{◌≡◌, Ok, IfOk, IfSome};
+ghost use Rattle.tame_names.specs.MemoryFiles.{value_free, value_in};
 
 use crate::errors::NoMemory;
 use crate::host::EnvValue;
@@ -19,7 +19,8 @@ pub struct MemVariable {
 impl EnvValue {
     /// A copy of this value.
     fn copied(&self, alloc: Global) -> Result<EnvValue, NoMemory>
-        ensures { IfOk result (λ copy. copy ≡ self.now) }
+        ensures same { IfOk result (λ copy. copy ≡ self.now) }
+        ensures free { IfSome (value_free self.now) (λ a. result ≡ Ok a) }
     {
         match self {
             EnvValue::Unset => Ok(EnvValue::Unset),
@@ -35,7 +36,8 @@ pub(crate) fn value_of(
     variables: &[MemVariable],
     name: &str,
 ) -> Result<EnvValue, NoMemory>
-    ensures { IfOk result (λ value. value ≡ value_in variables.now name.now) }
+    ensures first { IfOk result (λ value. value ≡ value_in variables.now name.now) }
+    ensures free { IfSome (value_free (value_in variables.now name.now)) (λ a. result ≡ Ok a) }
 {
     for variable in variables {
         if variable.name.as_str() == name {

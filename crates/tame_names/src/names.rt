@@ -251,10 +251,13 @@ impl KrateName<'static> {
 }
 
 impl fmt::Display for KrateName<'_> {
+    ghost use Rattle.std.specs.Fmt.{padded};
     ghost use Rattle.std.specs.Prelude.{Some};
     ghost use Rattle.tame_names.specs.KrateNames.{text_of};
 
     ghost output = { λ name. Some (text_of name) };
+
+    ghost styled_output = { λ name spec. Some (padded spec (text_of name)) };
 
     fn fmt<W: fmt::Write>(&self, f: &mut fmt::Formatter<W>) -> fmt::Result {
         f.pad(self.text)

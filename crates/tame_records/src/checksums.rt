@@ -2,7 +2,7 @@
 ghost use Rattle.std.specs.Prelude.{◌≡◌, ◌↔◌, ℕ, List, length, IsOk, IsTrue, Some, Ok, IfOk, is_none};
 ghost use Rattle.std.specs.Char.{is_ascii_hexdigit};
 ghost use Rattle.std.specs.List.{list_all};
-ghost use Rattle.std.specs.Fmt.{WritesOnOk};
+ghost use Rattle.std.specs.Fmt.{WritesOnOk, WritesStyledOnOk};
 ghost use Rattle.hex.specs.Hex.{IsBytes, encode_lower};
 ghost use Rattle.tame_records.specs.Checksums.{chksum_of};
 ghost use Rattle.tame_records.specs.Checksums as spec;
@@ -81,7 +81,10 @@ impl Chksum {
 
     /// Writes the 64 hex digits.
     fn write_digits<W: fmt::Write>(&self, f: &mut fmt::Formatter<W>) -> fmt::Result
-        ensures { WritesOnOk W.write_str_gives f.old result (encode_lower self.now.0) f.new }
+        ensures writes { WritesOnOk W.write_str_gives f.old result
+            (encode_lower self.now.0) f.new }
+        ensures styled { WritesStyledOnOk W.write_str_gives f.old result
+            (encode_lower self.now.0) f.new }
     {
         let mut digits = [0u8; 64];
         if encode_to_slice(self.0.as_slice(), &mut digits).is_err() {
@@ -115,6 +118,8 @@ impl FromStr for Chksum {
 
 impl fmt::Display for Chksum {
     ghost output = { λ digest. Some (encode_lower digest.0) };
+
+    ghost styled_output = { λ digest spec. Some (encode_lower digest.0) };
 
     fn fmt<W: fmt::Write>(&self, f: &mut fmt::Formatter<W>) -> fmt::Result {
         self.write_digits(f)

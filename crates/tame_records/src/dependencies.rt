@@ -14,15 +14,24 @@ use std::alloc::Global;
 use tame_names::{Error, Items, Text};
 
 /// What a dependency is used for.
-#[derive(Clone, Copy, Debug, Default, PartialEq, Eq, Hash)]
+#[derive(Clone, Copy, Debug, PartialEq, Eq, Hash)]
 pub enum DependencyKind {
     /// For the crate itself.
-    #[default]
     Normal,
     /// For examples, tests and benchmarks alone.
     Dev,
     /// For the build script alone.
     Build,
+}
+
+impl Default for DependencyKind {
+    ghost use Rattle.tame_records.specs.declared.dependencies.DependencyKind.TheVariants.{Normal};
+
+    ghost is_default = { λ kind. kind ≡ Normal };
+
+    fn default() -> DependencyKind {
+        DependencyKind::Normal
+    }
 }
 
 /// A dependency of a version in the index (Cargo Book, "Registry Index", JSON schema).

@@ -1,7 +1,8 @@
 //! The versions of a crate.
-ghost use Rattle.std.specs.Prelude.{◌≡◌, ◌≢◌, ◌⊎◌, ◌<◌, ◌≤◌, ◌-◌, ℕ, List, length, slice_get, option_map, Some, None, Ok, Err, IfOk, IfErr};
+ghost use Rattle.std.specs.Prelude.{◌≡◌, ◌≢◌, ◌⊎◌, ◌<◌, ◌≤◌, ◌-◌, ◌++◌, ◌∷◌, [], ℕ, List, length, slice_get, option_map, Some, None, Ok, Err, IfOk, IfErr};
 ghost use Rattle.tame_names.specs.Counts.{CountRose};
 ghost use Rattle.tame_names.specs.Pieces.{pieces};
+ghost use Rattle.tame_names.specs.declared.host.FileCall.TheVariants as FileCall;
 ghost use Rattle.tame_records.specs.Krates.{IsRead, IsReadAt, first_unread, unread};
 ghost use Rattle.tame_records.specs.Krates as spec;
 ghost use Rattle.tame_records.specs.Lines.{lines, trimmed};
@@ -54,6 +55,11 @@ impl IndexKrate {
         ensures read { F.tells → IsReadAt ((F.host files.old).stands path.now) result }
         ensures failed { result ≡ Err (Error.Io IoKind.Failed)
             → CountRose (F.faults files.old) (F.faults files.new) }
+        ensures told { F.tells → result ≡ Err (Error.Io IoKind.Failed) → F.failed files.new
+            ≡ F.failed files.old
+            ++ record { call = FileCall.Read; path = Some path.now } ∷ [] }
+        ensures untold { F.tells → result ≢ Err (Error.Io IoKind.Failed)
+            → F.failed files.new ≡ F.failed files.old }
         ensures later { F.faults files.old ≤ F.faults files.new }
         ensures same { F.tells → F.host files.new ≡ F.host files.old }
     {
@@ -68,7 +74,7 @@ impl IndexKrate {
 
     /// The versions that the lines of a body are, newlines at its end left out. A body without
     /// a line is refused with `NoCrateVersions`, else `Json` tells the first line that has no
-    /// record. Versions with equal dependency lists or equal maps of features share them.
+    /// record.
     pub fn from_slice(alloc: Global, bytes: &[u8]) -> Result<IndexKrate, Error>
         ensures { IsRead bytes.now result }
     {

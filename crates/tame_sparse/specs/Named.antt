@@ -15,6 +15,7 @@ use Rattle.tame_entry.specs.declared.index_entries.IndexEntry.TheVariants.{Remot
 use Rattle.tame_entry.specs.declared.revisions.OwnedRevision.{OwnedRevision}
 use Rattle.tame_entry.specs.declared.revisions.OwnedRevision.TheVariants.{Etag, LastModified}
 use Rattle.tame_cache.specs.Disk.{File}
+use Rattle.tame_cache.specs.FailedCalls.{FailedDiskCalls, FailedReading}
 
 -- a revision with its text trimmed
 abbrev pub trimmed : OwnedRevision → OwnedRevision
@@ -61,6 +62,14 @@ pub record NamesKept (index : List ℕ) (file : File) (before now : ℕ)
     (named : Option OwnedRevision) : Type 0 where
   pub quiet : CountStayed before now → named ≡ named_file index file
   pub else_nothing : (named ≡ None) ⊎ (named ≡ named_file index file)
+
+-- it names what the file's revision allows, and no call on the disk failed; or it names nothing, and
+-- the read of that file failed, no other call
+abbrev pub NamesUnlessFailed : List ℕ → List ℕ → File → FailedDiskCalls → FailedDiskCalls
+    → Option OwnedRevision → Type 0
+NamesUnlessFailed index q file before now named =
+    ((named ≡ named_file index file) × (now ≡ before))
+    ⊎ ((named ≡ None) × FailedReading q before now)
 
 -- what a revision names that was handed in: it is refused where another byte stands in its trimmed
 -- text, and the empty text names nothing

@@ -16,7 +16,8 @@ use Rattle.tame_entry.specs.Revision.{EntryRevision, Http, Unknown, entry_text, 
 use Rattle.tame_entry.specs.declared.index_entries.IndexEntry.{IndexEntry}
 use Rattle.tame_entry.specs.declared.index_entries.IndexEntry.TheVariants.{Remote}
 use Rattle.tame_entry.specs.declared.revisions.OwnedRevision.{OwnedRevision}
-use Rattle.tame_cache.specs.Disk.{EachMoment, may_leave}
+use Rattle.tame_cache.specs.Disk.{EachMoment, Step, may_leave}
+use Rattle.tame_cache.specs.FailedCalls.{FailedDiskCalls, AddsFailedBut, FailedReading, FailedWriting}
 use Rattle.tame_cache.specs.Gate.{IsOrderly, IsUnreadable, IsStored}
 use Rattle.tame_cache.specs.Kept.{Disk, IsKept, Keeps, cache_file_of}
 use Rattle.tame_cache.specs.LaidPieces.{piece_count}
@@ -52,22 +53,22 @@ IsStatusFault status text taken =
 
 -- by the status; what comes at 304 is said beside it, over the file of the cache
 pub record IsResponseResult (response : Response) (taken : ResponseResult) : Type 0 where
-  pub sent : response.status ≡ 200 → IsBodyResult response.body.now taken
-  pub not_modified : response.status ≡ 304
+  pub sent : response.status_code ≡ 200 → IsBodyResult response.body.now taken
+  pub not_modified : response.status_code ≡ 304
       → IfErr taken (λ e. (e ≡ error.NoMemory) ⊎ (e ≡ error.Io io_kind.Failed))
-  pub absent : SaysAbsent response.status → taken ≡ Ok None
-  pub unauthorized : response.status ≡ 401
+  pub absent : SaysAbsent response.status_code → taken ≡ Ok None
+  pub unauthorized : response.status_code ≡ 401
       → IsStatusFault 401 (codes "the request was not authorized") taken
-  pub other : ¬ (SaysAbsent response.status) → response.status ≢ 200 → response.status ≢ 304
-      → response.status ≢ 401
-      → IsStatusFault response.status (codes "the status code is invalid for this protocol") taken
+  pub other : ¬ (SaysAbsent response.status_code) → response.status_code ≢ 200 → response.status_code ≢ 304
+      → response.status_code ≢ 401
+      → IsStatusFault response.status_code (codes "the status code is invalid for this protocol") taken
 
 -- ---- what is stored
 
 -- a response as the answer of a wire
 abbrev pub came : Response → WireAnswer
 came response = record {
-  status = response.status;
+  status = response.status_code;
   revision = option_map http_value response.revision;
   body = response.body.now;
 }
@@ -117,3 +118,25 @@ pub record Stores (index root name : List ℕ) (answer : WireAnswer) (write : Bo
 abbrev pub StoresWhole : List ℕ → List ℕ → List ℕ → WireAnswer → Disk → Type 0
 StoresWhole index root name answer new =
     (q : List ℕ) → cache_file_of root name ≡ Some q → IsStored (entry_of index answer) (new q)
+
+-- ---- which calls on the disk may have failed
+
+-- a file holds these bytes, and no call failed; or one failed that writes the file, no other call
+abbrev pub StoresUnlessFailed : List ℕ → List ℕ → List Step → FailedDiskCalls → FailedDiskCalls
+    → Type 0
+StoresUnlessFailed bytes q new before now =
+    (IsStored bytes new × (now ≡ before)) ⊎ FailedWriting q before now
+
+-- no call failed, or one that writes this file
+abbrev pub FailedAtMostWriting : List ℕ → FailedDiskCalls → FailedDiskCalls → Type 0
+FailedAtMostWriting q before now = (now ≡ before) ⊎ FailedWriting q before now
+
+-- at not-modified the read of the file, where it is refused but for want of memory; else at most one
+-- call that writes the file, and only where the answer is stored
+pub record FailsFor (index q : List ℕ) (answer : WireAnswer) (write : Bool)
+    (before now : FailedDiskCalls) (taken : ResponseResult) : Type 0 where
+  pub not_modified : answer.status ≡ 304
+      → AddsFailedBut error.NoMemory (FailedReading q) before now taken
+  pub sent : answer.status ≢ 304 → FailedAtMostWriting q before now
+  pub unwanted : answer.status ≢ 304 → write ≡ false → now ≡ before
+  pub unstored : answer.status ≢ 304 → ¬ (IsToStore index answer) → now ≡ before

@@ -9,10 +9,10 @@ ghost use Rattle.tame_cache.specs.CacheFiles.{HandsOut};
 ghost use Rattle.tame_cache.specs.Disk.{reads};
 ghost use Rattle.tame_cache.specs.Folders.{MakesOnly};
 ghost use Rattle.tame_cache.specs.Kept.{IsKept, Keeps, cache_file_of};
-ghost use Rattle.tame_sparse.specs.ResponseResults.{IsResponseResult, IsToStore, Stores, StoresWhole, came, storing_calls};
+ghost use Rattle.tame_sparse.specs.ResponseResults.{FailsFor, IsResponseResult, IsToStore, Stores, StoresUnlessFailed, StoresWhole, came, entry_of, storing_calls};
 ghost use Rattle.tame_sparse.specs.Etags.{after_response, etag_at, with_etag};
 ghost use Rattle.tame_sparse.specs.Etags as spec;
-ghost use Rattle.tame_sparse.specs.Named.{NamesKept, handed};
+ghost use Rattle.tame_sparse.specs.Named.{NamesKept, NamesUnlessFailed, handed};
 ghost use Rattle.tame_sparse.specs.Urls.{http_url};
 
 use crate::network::Request;
@@ -97,6 +97,13 @@ impl EtagCache {
             → cache_file_of index.now.cache.path (text_of name.entry) ≡ Some q
             → IfOk result (λ request. NamesKept index.now.cache.index (reads (D.past disk.old q))
             (D.faults disk.old) (D.faults disk.new) request.named) }
+        ensures named_unless_failed { D.tells → etag_at self.now (text_of name.entry) ≡ None
+            → (q : List ℕ) → cache_file_of index.now.cache.path (text_of name.entry) ≡ Some q
+            → IfOk result (λ request. NamesUnlessFailed index.now.cache.index q
+            (reads (D.past disk.old q)) (D.failed disk.old) (D.failed disk.new) request.named) }
+        ensures unfailed { OnErr result ((q : List ℕ)
+            → cache_file_of index.now.cache.path (text_of name.entry) ≡ Some q
+            → D.failed disk.new ≡ D.failed disk.old) }
         ensures handed { (etag : List ℕ) → etag_at self.now (text_of name.entry) ≡ Some etag
             → IfOk result (λ request. handed (Etag etag) ≡ Ok request.named) }
         ensures refused { IfErr result
@@ -143,11 +150,11 @@ impl EtagCache {
             → etag_at self.new n ≡ etag_at self.old n }
         // by the status; at 304 what a read of the file gave
         ensures taken { (result ≡ Err Error.NoMemory) ⊎ IsResponseResult response.entry result }
-        ensures read { D.tells → response.entry.status ≡ 304 → (q : List ℕ)
+        ensures read { D.tells → response.entry.status_code ≡ 304 → (q : List ℕ)
             → cache_file_of index.now.cache.path (text_of name.entry) ≡ Some q
             → IfOk result (λ e. HandsOut index.now.cache.index e (reads (D.past disk.old q))) }
         ensures rose { result ≡ Err (Error.Io IoKind.Failed)
-            → (response.entry.status ≡ 304) × CountRose (D.faults disk.old) (D.faults disk.new) }
+            → (response.entry.status_code ≡ 304) × CountRose (D.faults disk.old) (D.faults disk.new) }
         // what is stored
         ensures stores { D.tells → Stores index.now.cache.index index.now.cache.path
             (text_of name.entry) (came response.entry) write_cache_entry (D.past disk.old)
@@ -156,6 +163,17 @@ impl EtagCache {
             → write_cache_entry ≡ true → IsToStore index.now.cache.index (came response.entry)
             → OnOk result (StoresWhole index.now.cache.index index.now.cache.path
             (text_of name.entry) (came response.entry) (D.past disk.new)) }
+        ensures stored_unless_failed { D.tells → write_cache_entry ≡ true
+            → IsToStore index.now.cache.index (came response.entry) → (q : List ℕ)
+            → cache_file_of index.now.cache.path (text_of name.entry) ≡ Some q
+            → OnOk result (StoresUnlessFailed
+            (entry_of index.now.cache.index (came response.entry)) q (D.past disk.new q)
+            (D.failed disk.old) (D.failed disk.new)) }
+        ensures failed { (q : List ℕ)
+            → cache_file_of index.now.cache.path (text_of name.entry) ≡ Some q
+            → (result ≡ Err Error.NoMemory)
+            ⊎ FailsFor index.now.cache.index q (came response.entry) write_cache_entry
+            (D.failed disk.old) (D.failed disk.new) result }
         ensures folders { D.tells → MakesOnly
             (λ q. cache_file_of index.now.cache.path (text_of name.entry) ≡ Some q)
             (D.folders disk.old) (D.folders disk.new) }

@@ -10,6 +10,7 @@ ghost use Rattle.tame_entry.specs.ServerMaps.{ServerMap};
 ghost use Rattle.tame_entry.specs.Revision.{Commit};
 ghost use Rattle.tame_cache.specs.CacheFiles.{HandsOut};
 ghost use Rattle.tame_cache.specs.Disk.{EachMoment, may_leave, reads};
+ghost use Rattle.tame_cache.specs.FailedCalls.{AddsFailedBut, FailedReading, FailedWriting};
 ghost use Rattle.tame_cache.specs.Folders.{MakesOnly};
 ghost use Rattle.tame_cache.specs.Gate.{IsOrderly, IsUnreadable, IsStored};
 ghost use Rattle.tame_cache.specs.Kept.{IsKept, Keeps, cache_file_of};
@@ -99,6 +100,10 @@ impl GitIndex {
         ensures same { D.tells → (q : List ℕ) → D.past disk.new q ≡ D.past disk.old q }
         ensures folders { D.tells → D.folders disk.new ≡ D.folders disk.old }
         ensures calls { D.made disk.new ≤ D.made disk.old + 1 }
+        ensures failed { (q : List ℕ)
+            → cache_file_of self.now.cache.path (text_of name.entry) ≡ Some q
+            → AddsFailedBut Error.NoMemory (FailedReading q) (D.failed disk.old)
+            (D.failed disk.new) result }
         ensures cause { HasCause Error.NoMemory (D.faults disk.old) (D.faults disk.new) result }
         ensures only { IfErr result (λ e. (e ≡ Error.NoMemory) ⊎ (e ≡ Error.Io IoKind.Failed)) }
     {
@@ -168,6 +173,12 @@ impl GitIndex {
         ensures later { D.faults disk.old ≤ D.faults disk.new }
         ensures rose { result ≡ Err (Error.Io IoKind.Failed)
             → CountRose (D.faults disk.old) (D.faults disk.new) }
+        ensures failed { result ≡ Err (Error.Io IoKind.Failed) → (q : List ℕ)
+            → cache_file_of self.now.cache.path (spec.first_name krate.now.versions) ≡ Some q
+            → FailedWriting q (D.failed disk.old) (D.failed disk.new) }
+        ensures unfailed { result ≢ Err (Error.Io IoKind.Failed) → (q : List ℕ)
+            → cache_file_of self.now.cache.path (spec.first_name krate.now.versions) ≡ Some q
+            → D.failed disk.new ≡ D.failed disk.old }
     {
         let Some(id) = self.stored_id(blob_id) else {
             return Ok(None);

@@ -1,6 +1,7 @@
 //! The header fields of a request.
 ghost use Rattle.std.specs.Prelude.{◌≡◌, ◌≢◌, ◌⊎◌, ◌≤◌, ◌+◌, [], ◌∷◌, ◌++◌, true, false, codes, length, IfOk, IfErr, OnOk, Ok, Err};
 ghost use Rattle.http.specs.Request.{head_of};
+ghost use Rattle.http.specs.declared.version.TheConstants.Version.{HTTP_11};
 ghost use Rattle.http_header.specs.FieldValue.{is_visible_text, plain_value};
 ghost use Rattle.http_header.specs.HeaderMap.{append, append_all, value_count};
 ghost use Rattle.http_uri.specs.Uri.{Spells, SpellsNone};
@@ -132,10 +133,11 @@ impl Request {
         ])
     }
 
-    /// The request of `http`: a GET of the url with the three header fields.
+    /// The request of `http`: a GET of the url by HTTP/1.1 with the three header fields.
     /// `Http(InvalidHeaderValue)` as `headers`, and then `Http(Http)` where the url is no target.
     pub fn into_http(self, alloc: Global) -> Result<http::Request<()>, Error>
         ensures method { IfOk result (λ request. (head_of request).method ≡ codes "GET") }
+        ensures version { IfOk result (λ request. (head_of request).version ≡ HTTP_11) }
         ensures uri { IfOk result (λ request. Spells self.uri (head_of request).uri) }
         ensures headers { IfOk result (λ request. (head_of request).headers
             ≡ append_all [] (fields self.named)) }

@@ -33,6 +33,7 @@ mod network;
 mod responses;
 mod serving;
 mod sparse;
+mod taking;
 mod urls;
 
 pub use etags::EtagCache;

@@ -15,7 +15,7 @@ use tame_names::utf8_text;
 #[derive(Drop)]
 pub struct Response<'r> {
     /// The status code (RFC 9110, section 15).
-    pub status: u16,
+    pub status_code: u16,
     /// The revision of the body, where the response names one.
     pub revision: Option<HttpRevision<'r>>,
     /// The bytes of the body.
@@ -51,13 +51,13 @@ impl<'r> Response<'r> {
     /// What a response says: its status, its entity tag, else its date, and its body. A field with
     /// a byte that isn't tab or 32 to 126 is no revision.
     pub fn of(value: &'r http::Response<Vec<u8>>) -> Response<'r>
-        ensures status { result.status ≡ (head_of value.now).status }
+        ensures status { result.status_code ≡ (head_of value.now).status }
         ensures revision { option_map http_value result.revision
             ≡ spec.sent_revision (head_of value.now).headers }
         ensures body { result.body.now ≡ (body_of value.now).items }
     {
         Response {
-            status: value.status().as_u16(),
+            status_code: value.status().as_u16(),
             revision: sent_revision(value.headers()),
             body: value.body().as_slice(),
         }

@@ -1,8 +1,9 @@
 //! A sparse index with its cache.
-ghost use Rattle.std.specs.Prelude.{◌≡◌, ◌≢◌, ◌⊎◌, ◌≤◌, ◌+◌, ℕ, List, ◌++◌, true, false, drop, map, Ok, Err, Some, None, IsTrue, IfOk, IfErr, OnOk};
+ghost use Rattle.std.specs.Prelude.{◌≡◌, ◌≢◌, ◌⊎◌, ◌≤◌, ◌+◌, ℕ, List, [], ◌∷◌, ◌++◌, true, false, drop, map, Ok, Err, Some, None, IsTrue, IfOk, IfErr, OnOk, OnErr};
 ghost use Rattle.tame_names.specs.Counts.{HasCause, CountStayed, CountRose};
 ghost use Rattle.tame_names.specs.KrateNames.{text_of};
 ghost use Rattle.tame_names.specs.Names.{IsIndexPath, path};
+ghost use Rattle.tame_location.specs.Calls.{read_call};
 ghost use Rattle.tame_entry.specs.Entry.{entry, is_storable, pair_of};
 ghost use Rattle.tame_entry.specs.ServerMaps.{ServerMap};
 ghost use Rattle.tame_entry.specs.JsonLines.{lines_of};
@@ -10,25 +11,24 @@ ghost use Rattle.tame_entry.specs.Revision.{http_value, revision_value};
 ghost use Rattle.tame_entry.specs.declared.revisions.HttpRevision.{HttpRevision};
 ghost use Rattle.tame_cache.specs.CacheFiles.{HandsOut};
 ghost use Rattle.tame_cache.specs.Disk.{EachMoment, may_leave, reads};
+ghost use Rattle.tame_cache.specs.FailedCalls.{AddsFailedBut, FailedReading};
 ghost use Rattle.tame_cache.specs.Folders.{MakesOnly};
 ghost use Rattle.tame_cache.specs.Gate.{IsOrderly, IsUnreadable, IsStored};
 ghost use Rattle.tame_cache.specs.Kept.{IsKept, IsWrittenFor, Keeps, cache_file_of};
 ghost use Rattle.tame_cache.specs.LaidPieces.{piece_count};
-ghost use Rattle.tame_sparse.specs.ResponseResults.{IsBodyResult, IsResponseResult, IsToStore, Stores, StoresWhole, came, storing_calls};
-ghost use Rattle.tame_sparse.specs.Named.{NamesKept, handed};
+ghost use Rattle.tame_sparse.specs.ResponseResults.{FailedAtMostWriting, FailsFor, IsBodyResult, IsResponseResult, IsToStore, Stores, StoresUnlessFailed, StoresWhole, came, entry_of, storing_calls};
+ghost use Rattle.tame_sparse.specs.Named.{NamesKept, NamesUnlessFailed, handed};
 ghost use Rattle.tame_sparse.specs.Urls.{IsConfigRead, config_file, http_url, is_sparse_url};
 ghost use Rattle.tame_sparse.specs.Urls as spec;
 
 use crate::configs::config_of;
 use crate::naming::{named_entry, named_handed};
 use crate::network::Request;
-use crate::responses::{Response, stored_under};
+use crate::responses::Response;
 use crate::urls::http_url;
 use std::alloc::Global;
-use tame_cache::{CacheDisk, CacheFault, IndexCache};
-use tame_entry::{
-    CacheWrite, HttpRevision, IndexConfig, IndexEntry, JsonLines, OwnedRevision, Revision,
-};
+use tame_cache::{CacheDisk, IndexCache};
+use tame_entry::{HttpRevision, IndexConfig, IndexEntry, OwnedRevision};
 use tame_location::is_sparse_url;
 use tame_names::{
     Error, FileFault, FileLock, Files, HttpError, InvalidUrl, InvalidUrlError, IoKind, KrateName,
@@ -73,6 +73,11 @@ impl SparseIndex {
             ((F.host files.old).stands (config_file self.now.cache.path)) result }
         ensures failed { (p : List ℕ) → result ≡ Err (Error.IoPath IoKind.Failed p)
             → CountRose (F.faults files.old) (F.faults files.new) }
+        ensures told { F.tells → (p : List ℕ) → result ≡ Err (Error.IoPath IoKind.Failed p)
+            → F.failed files.new ≡ F.failed files.old ++ read_call p ∷ [] }
+        ensures untold { F.tells
+            → ((p : List ℕ) → result ≢ Err (Error.IoPath IoKind.Failed p))
+            → F.failed files.new ≡ F.failed files.old }
         ensures later { F.faults files.old ≤ F.faults files.new }
         ensures same { F.tells → F.host files.new ≡ F.host files.old }
     {
@@ -133,6 +138,10 @@ impl SparseIndex {
         ensures same { D.tells → (q : List ℕ) → D.past disk.new q ≡ D.past disk.old q }
         ensures folders { D.tells → D.folders disk.new ≡ D.folders disk.old }
         ensures calls { D.made disk.new ≤ D.made disk.old + 1 }
+        ensures failed { (q : List ℕ)
+            → cache_file_of self.now.cache.path (text_of name.entry) ≡ Some q
+            → AddsFailedBut Error.NoMemory (FailedReading q) (D.failed disk.old)
+            (D.failed disk.new) result }
         ensures cause { HasCause Error.NoMemory (D.faults disk.old) (D.faults disk.new) result }
         ensures only { IfErr result (λ e. (e ≡ Error.NoMemory) ⊎ (e ≡ Error.Io IoKind.Failed)) }
     {
@@ -160,6 +169,13 @@ impl SparseIndex {
             → cache_file_of self.now.cache.path (text_of name.entry) ≡ Some q
             → IfOk result (λ request. NamesKept self.now.cache.index (reads (D.past disk.old q))
             (D.faults disk.old) (D.faults disk.new) request.named) }
+        ensures named_unless_failed { D.tells → revision.entry ≡ None → (q : List ℕ)
+            → cache_file_of self.now.cache.path (text_of name.entry) ≡ Some q
+            → IfOk result (λ request. NamesUnlessFailed self.now.cache.index q
+            (reads (D.past disk.old q)) (D.failed disk.old) (D.failed disk.new) request.named) }
+        ensures unfailed { OnErr result ((q : List ℕ)
+            → cache_file_of self.now.cache.path (text_of name.entry) ≡ Some q
+            → D.failed disk.new ≡ D.failed disk.old) }
         ensures handed { (r : HttpRevision) → revision.entry ≡ Some r
             → IfOk result (λ request. handed (http_value r) ≡ Ok request.named) }
         ensures refused { IfErr result
@@ -195,6 +211,13 @@ impl SparseIndex {
             → cache_file_of self.now.cache.path (text_of name.entry) ≡ Some q
             → IfOk result (NamesKept self.now.cache.index (reads (D.past disk.old q))
             (D.faults disk.old) (D.faults disk.new)) }
+        ensures named_unless_failed { D.tells → revision.entry ≡ None → (q : List ℕ)
+            → cache_file_of self.now.cache.path (text_of name.entry) ≡ Some q
+            → IfOk result (NamesUnlessFailed self.now.cache.index q (reads (D.past disk.old q))
+            (D.failed disk.old) (D.failed disk.new)) }
+        ensures unfailed { OnErr result ((q : List ℕ)
+            → cache_file_of self.now.cache.path (text_of name.entry) ≡ Some q
+            → D.failed disk.new ≡ D.failed disk.old) }
         ensures handed { (r : HttpRevision) → revision.entry ≡ Some r
             → IfOk result (λ named. handed (http_value r) ≡ Ok named) }
         ensures refused { IfErr result
@@ -224,6 +247,13 @@ impl SparseIndex {
             → cache_file_of self.now.cache.path (text_of name.entry) ≡ Some q
             → IfOk result (NamesKept self.now.cache.index (reads (D.past disk.old q))
             (D.faults disk.old) (D.faults disk.new)) }
+        ensures named_unless_failed { D.tells → (q : List ℕ)
+            → cache_file_of self.now.cache.path (text_of name.entry) ≡ Some q
+            → IfOk result (NamesUnlessFailed self.now.cache.index q (reads (D.past disk.old q))
+            (D.failed disk.old) (D.failed disk.new)) }
+        ensures unfailed { OnErr result ((q : List ℕ)
+            → cache_file_of self.now.cache.path (text_of name.entry) ≡ Some q
+            → D.failed disk.new ≡ D.failed disk.old) }
         ensures memory { IfErr result (λ e. e ≡ Error.NoMemory) }
         ensures same { D.tells → (q : List ℕ) → D.past disk.new q ≡ D.past disk.old q }
         ensures folders { D.tells → D.folders disk.new ≡ D.folders disk.old }
@@ -256,11 +286,11 @@ impl SparseIndex {
     ) -> Result<Option<IndexEntry<'r, 'l>>, Error>
         // by the status; at 304 what a read of the file gave
         ensures taken { IsResponseResult response.entry result }
-        ensures read { D.tells → response.entry.status ≡ 304 → (q : List ℕ)
+        ensures read { D.tells → response.entry.status_code ≡ 304 → (q : List ℕ)
             → cache_file_of self.now.cache.path (text_of name.entry) ≡ Some q
             → IfOk result (λ e. HandsOut self.now.cache.index e (reads (D.past disk.old q))) }
         ensures rose { result ≡ Err (Error.Io IoKind.Failed)
-            → (response.entry.status ≡ 304) × CountRose (D.faults disk.old) (D.faults disk.new) }
+            → (response.entry.status_code ≡ 304) × CountRose (D.faults disk.old) (D.faults disk.new) }
         // what is stored
         ensures stores { D.tells → Stores self.now.cache.index self.now.cache.path
             (text_of name.entry) (came response.entry) write_cache_entry (D.past disk.old)
@@ -269,6 +299,19 @@ impl SparseIndex {
             → write_cache_entry ≡ true → IsToStore self.now.cache.index (came response.entry)
             → OnOk result (StoresWhole self.now.cache.index self.now.cache.path
             (text_of name.entry) (came response.entry) (D.past disk.new)) }
+        ensures stored_unless_failed { D.tells → write_cache_entry ≡ true
+            → IsToStore self.now.cache.index (came response.entry) → (q : List ℕ)
+            → cache_file_of self.now.cache.path (text_of name.entry) ≡ Some q
+            → OnOk result (StoresUnlessFailed
+            (entry_of self.now.cache.index (came response.entry)) q (D.past disk.new q)
+            (D.failed disk.old) (D.failed disk.new)) }
+        ensures failed { (q : List ℕ)
+            → cache_file_of self.now.cache.path (text_of name.entry) ≡ Some q
+            → FailsFor self.now.cache.index q (came response.entry) write_cache_entry
+            (D.failed disk.old) (D.failed disk.new) result }
+        // without a file and an entry no memory is taken
+        ensures fed { response.entry.status_code ≢ 304 → write_cache_entry ≡ false
+            → result ≢ Err Error.NoMemory }
         ensures folders { D.tells → MakesOnly
             (λ q. cache_file_of self.now.cache.path (text_of name.entry) ≡ Some q)
             (D.folders disk.old) (D.folders disk.new) }
@@ -276,7 +319,7 @@ impl SparseIndex {
             + storing_calls self.now.cache.index (came response.entry) }
         ensures later { D.faults disk.old ≤ D.faults disk.new }
     {
-        match response.status {
+        match response.status_code {
             200 => self.take_body(alloc, name, response, write_cache_entry, lock, disk),
             304 => self.cache.cached_krate(alloc, name, lock, disk),
             404 | 410 | 451 => Ok(None),
@@ -288,110 +331,6 @@ impl SparseIndex {
                 code,
                 msg: "the status code is invalid for this protocol",
             })),
-        }
-    }
-
-    /// The lines of a body that was sent.
-    fn take_body<'r, 'l, D: CacheDisk>(
-        &self,
-        alloc: Global,
-        name: KrateName<'_>,
-        response: Response<'r>,
-        write_cache_entry: bool,
-        lock: &'l FileLock,
-        disk: &mut D,
-    ) -> Result<Option<IndexEntry<'r, 'l>>, Error>
-        requires { response.status ≡ 200 }
-        ensures taken { IsBodyResult response.entry.body.now result }
-        ensures stores { D.tells → Stores self.now.cache.index self.now.cache.path
-            (text_of name.entry) (came response.entry) write_cache_entry (D.past disk.old)
-            (D.past disk.new) }
-        ensures stored { D.tells → CountStayed (D.faults disk.old) (D.faults disk.new)
-            → write_cache_entry ≡ true → IsToStore self.now.cache.index (came response.entry)
-            → OnOk result (StoresWhole self.now.cache.index self.now.cache.path
-            (text_of name.entry) (came response.entry) (D.past disk.new)) }
-        ensures folders { D.tells → MakesOnly
-            (λ q. cache_file_of self.now.cache.path (text_of name.entry) ≡ Some q)
-            (D.folders disk.old) (D.folders disk.new) }
-        ensures calls { D.made disk.new ≤ D.made disk.old
-            + storing_calls self.now.cache.index (came response.entry) }
-        ensures later { D.faults disk.old ≤ D.faults disk.new }
-    {
-        let lines = match JsonLines::validate(response.body) {
-            Ok(lines) => lines,
-            Err(error) => return Err(Error::InvalidJsonLines(error)),
-        };
-        if write_cache_entry {
-            let revision = stored_under(response.revision);
-            match self.keep(alloc, name, lines, &revision, lock, disk) {
-                Ok(()) => {}
-                Err(_) => return Err(Error::NoMemory),
-            }
-        }
-        Ok(Some(IndexEntry::Remote(lines)))
-    }
-
-    /// Stores lines under a revision, where the disk does it.
-    fn keep<D: CacheDisk>(
-        &self,
-        alloc: Global,
-        name: KrateName<'_>,
-        lines: JsonLines<'_>,
-        revision: &Revision<'_>,
-        lock: &FileLock,
-        disk: &mut D,
-    ) -> Result<(), NoMemory>
-        ensures stored { D.tells → CountStayed (D.faults disk.old) (D.faults disk.new)
-            → IsTrue (is_storable self.now.cache.index (revision_value revision.now)
-            (map pair_of (lines_of lines.entry)))
-            → (q : List ℕ) → cache_file_of self.now.cache.path (text_of name.entry) ≡ Some q
-            → OnOk result
-            (IsStored (entry self.now.cache.index (revision_value revision.now)
-            (map pair_of (lines_of lines.entry))) (D.past disk.new q)) }
-        ensures unstored { D.tells → ¬
-            (IsTrue (is_storable self.now.cache.index (revision_value revision.now)
-            (map pair_of (lines_of lines.entry)))) → (q : List ℕ)
-            → D.past disk.new q ≡ D.past disk.old q }
-        ensures any_moment { D.tells → (q : List ℕ)
-            → cache_file_of self.now.cache.path (text_of name.entry) ≡ Some q
-            → IsOrderly (D.past disk.old q)
-            → EachMoment (D.past disk.old q) (D.past disk.new q)
-            (λ file. may_leave (D.past disk.old q) file
-            ⊎ (IsUnreadable file
-            ⊎ (file ≡ Some (entry self.now.cache.index (revision_value revision.now)
-            (map pair_of (lines_of lines.entry)))))) }
-        ensures orderly { D.tells → (q : List ℕ)
-            → cache_file_of self.now.cache.path (text_of name.entry) ≡ Some q
-            → IsOrderly (D.past disk.old q) → IsOrderly (D.past disk.new q) }
-        ensures others { D.tells → (q : List ℕ)
-            → cache_file_of self.now.cache.path (text_of name.entry) ≢ Some q
-            → D.past disk.new q ≡ D.past disk.old q }
-        ensures kept { D.tells → (m : ServerMap)
-            → ((p : List ℕ) → path (text_of name.entry) ≡ Some p
-            → IsTrue (is_storable self.now.cache.index (revision_value revision.now)
-            (map pair_of (lines_of lines.entry)))
-            → IsWrittenFor m p (revision_value revision.now) (map pair_of (lines_of lines.entry)))
-            → IsKept m self.now.cache.index self.now.cache.path (D.past disk.old)
-            → Keeps m self.now.cache.index self.now.cache.path (D.past disk.old) (D.past disk.new) }
-        ensures folders { D.tells → MakesOnly
-            (λ q. cache_file_of self.now.cache.path (text_of name.entry) ≡ Some q)
-            (D.folders disk.old) (D.folders disk.new) }
-        ensures calls { D.made disk.new ≤ D.made disk.old
-            + (piece_count (drop 1 (entry self.now.cache.index (revision_value revision.now)
-            (map pair_of (lines_of lines.entry)))) + 12) }
-        ensures later { D.faults disk.old ≤ D.faults disk.new }
-    {
-        match self.cache.write_to_cache(
-            alloc,
-            name,
-            CacheWrite::Remote(lines),
-            revision,
-            lock,
-            disk,
-        ) {
-            Ok(_) => Ok(()),
-            Err(CacheFault::Disk) => Ok(()),
-            Err(CacheFault::NoMemory) => Err(NoMemory),
         }
     }
 }

@@ -1,6 +1,6 @@
 //! What stands at a key: a value of the wanted form, another one, or none. Each function takes the
 //! member that was found, or nothing where the key is absent.
-ghost use Rattle.std.specs.Prelude.{◌≡◌, IfOk, option_map};
+ghost use Rattle.std.specs.Prelude.{◌≡◌, [], Ok, Some, None, IfOk, option_map};
 ghost use Rattle.toml.specs.Data.{as_bool, as_str, as_table};
 ghost use Rattle.toml.specs.View.{view, table_view, items_view};
 ghost use Rattle.toml_tables.specs.Members.{natural, optional, required};
@@ -107,8 +107,9 @@ pub fn optional_texts(
     alloc: Global,
     member: Option<&Value>,
 ) -> Result<Option<Items<Text>>, NoMemory>
-    ensures { IfOk result (λ texts. texts
+    ensures texts { IfOk result (λ texts. texts
         ≡ spec.optional_texts (option_map (λ v. view v.now) member.entry)) }
+    ensures absent { member.entry ≡ None → result ≡ Ok (Some []) }
 {
     match member {
         None => Ok(Some(Items::new(alloc))),

@@ -50,7 +50,7 @@ honest_at : (m : ServerMap) (q : List ℕ) (es : List Exchange) (e : Exchange) �
 honest_at m q [] e h is = cc
 honest_at m q (x ∷ es) e h is = honest_case m (bytes_eq x.path q) x e _ h.0 (honest_at m q es e h.1) is
 
-abbrev InOrder : Turn → Type 0
+abbrev pub InOrder : Turn → Type 0
 InOrder t = (t.disk_before ≤ t.disk_asked) × (t.disk_asked ≤ t.disk_after)
 
 order_case : (b : Bool) (x t : Turn) (o : Option Turn) → InOrder x → (o ≡ Some t → InOrder t) → cond b (Some x) o ≡ Some t → InOrder t
@@ -58,7 +58,7 @@ order_case true x t o mine more is = let same : x ≡ t = cc in subst InOrder sa
 order_case false x t o mine more is = more is
 
 -- within a turn the disk's count never falls
-order_at : (q : List ℕ) (wire disk last_wire last_disk : ℕ) (ts : List Turn) (t : Turn) → Chains wire disk ts last_wire last_disk → turn_of q ts ≡ Some t → InOrder t
+pub order_at : (q : List ℕ) (wire disk last_wire last_disk : ℕ) (ts : List Turn) (t : Turn) → Chains wire disk ts last_wire last_disk → turn_of q ts ≡ Some t → InOrder t
 order_at q wire disk last_wire last_disk [] t h is = cc
 order_at q wire disk last_wire last_disk (x ∷ ts) t h is =
     order_case (bytes_eq x.path q) x t _ (h.3, h.4) (order_at q x.wire_after x.disk_after last_wire last_disk ts t h.5) is
@@ -98,7 +98,7 @@ passed_case Is n p true rest [] h f = absurd h
 passed_case Is n p true rest (j ∷ js) h f = f js h.2
 passed_case Is n p false rest js h f = f js h
 
-judged_at : (Is : List ℕ → Option (List ℕ) → Verdict → Type 0) (n : ℕ) (packages : List Package) (js : List Judged) (place : ℕ) (p : Package) → AreVerdicts Is (filter (λ x. is_default x.1) (enumerate_from n packages)) js
+pub judged_at : (Is : List ℕ → Option (List ℕ) → Verdict → Type 0) (n : ℕ) (packages : List Package) (js : List Judged) (place : ℕ) (p : Package) → AreVerdicts Is (filter (λ x. is_default x.1) (enumerate_from n packages)) js
     → slice_get packages place ≡ Some p → is_default p ≡ true → (v : Verdict) × Is p.version (path p.name) v
 judged_at Is n [] js place p h at is = cc
 judged_at Is n (x ∷ xs) js zero p h at is =
@@ -114,7 +114,7 @@ judged_at Is n (x ∷ xs) js (suc place) p h at is =
 -- ---- one package
 
 -- the disk of an audit at its entry and at its exit, its exchanges and its turns
-record IsHonestly (m : ServerMap) (old new : Disk) (es : List Exchange) (ts : List Turn) : Type 0 where
+pub record IsHonestly (m : ServerMap) (old new : Disk) (es : List Exchange) (ts : List Turn) : Type 0 where
   pub honest : AreHonest m es
   pub kept : IsKept m crates_io_index [] old
   pub turned : TurnsNameAndLeave old new es ts
@@ -127,7 +127,7 @@ stayed_since before asked after first second quiet =
     let one : asked ≡ before = omega (arith, first, second, same) in
     (same ∙ sym one, subst (λ n. n < 2 ^ 64 - 1) (sym one) low)
 
-file_held : (m : ServerMap) (old new : Disk) (es : List Exchange) (ts : List Turn) (q : List ℕ) (e : Exchange) (t : Turn) → IsHonestly m old new es ts → exchange_of q es ≡ Some e → turn_of q ts ≡ Some t → LeavesHeld e t
+pub file_held : (m : ServerMap) (old new : Disk) (es : List Exchange) (ts : List Turn) (q : List ℕ) (e : Exchange) (t : Turn) → IsHonestly m old new es ts → exchange_of q es ≡ Some e → turn_of q ts ≡ Some t → LeavesHeld e t
     → HasHeldRecords (reads (new (index_file q))) e.held
 file_held m old new es ts q e t h is_e is_t leaves =
     let pair = turned_at old new q es ts e t h.turned is_e is_t in
@@ -191,7 +191,7 @@ all_items A B packages [] f h = tt
 all_items A B packages (item ∷ items) f h =
     (place_case A B packages item.«package» (slice_get packages item.«package») item.outcome refl (λ p at is. f item.«package» p item.outcome at is) h.0, all_items A B packages items f h.1)
 
-online_says : (wire disk : Type 0) (checks : Checks) (began left : Moment) (packages : List Package) (turns : List Turn) (verdicts : List Judged) → checks ≡ Online
+pub online_says : (wire disk : Type 0) (checks : Checks) (began left : Moment) (packages : List Package) (turns : List Turn) (verdicts : List Judged) → checks ≡ Online
     → AuditSays checks wire disk began left (asked_of checks packages) (judged_of checks packages) turns verdicts
     → AuditSays Online wire disk began left (asked_of Online packages) (judged_of Online packages) turns verdicts
 online_says wire disk checks began left packages turns verdicts online says =

@@ -1,10 +1,12 @@
 -- One package more in a plan.
 use Rattle.std.proofs.Common.{◌≡◌, ◌≢◌, ◌⊎◌, inl, inr, ℕ, suc, ◌+◌, ◌≤◌, List, [], ◌∷◌, ◌++◌, Bool, true, false, cond, Option, Some, None, refl, sym, ap, subst, ◌∙◌, append_assoc, append-nil, drop, length, arith}
 use Rattle.std.specs.List.{filter}
+use Rattle.std.specs.Prelude.{IsSomeAnd, slice_get}
 use Rattle.std.proofs.lemmas.List.{drop_all, length-append}
 use Rattle.std.proofs.lemmas.List.Elements.{filter-append}
 use Rattle.tame_names.specs.Counts.{CountRose, CountRoseBy}
 use Rattle.tame_cache.specs.Disk.{File}
+use Rattle.tame_cache.specs.FailedCalls.{FailedDiskCalls}
 use Rattle.tame_cache.specs.Kept.{cache_file_of}
 use Rattle.tame_cache.specs.declared.cache.IndexCache.{IndexCache}
 use Rattle.audit_lock.specs.declared.resolving.Package.{Package}
@@ -12,7 +14,7 @@ use Rattle.audit_advisory.specs.Hits.{is_from_default}
 use Rattle.audit_advisory.specs.Places.{places_from}
 use Rattle.audit_advisory.specs.declared.advisories.Advisory.{Advisory}
 use Rattle.audit_advisory.specs.declared.settings.Settings.{Settings}
-use Rattle.upgrade_plan.specs.Plans.{IsFileOutcome, IsOutcome, IsPathOutcome, IsPlanOf, IsSourceOutcome, is_store, stores}
+use Rattle.upgrade_plan.specs.Plans.{IsFileOutcome, IsOutcome, IsPathOutcome, IsPlanOf, IsSourceOutcome, ReadsOnly, ReadsOwn, is_store, stores}
 use Rattle.upgrade_plan.specs.Recorded.{file_records, is_of_cache}
 use Rattle.upgrade_plan.specs.declared.records.NoRecord.TheVariants as why
 use Rattle.upgrade_plan.specs.declared.records.Recorded.{Recorded}
@@ -79,6 +81,24 @@ by_records told settings advisories index p file r o of from h =
         | inr is ↦ inr (subst (λ x. IsOutcome settings advisories p x o) is h)
       ];
     }
+
+-- ---- the file of a package
+
+-- a plan says that the file couldn't be read where the records do
+pub outcome_store : (settings : Settings) (advisories : List Advisory) (p : Package) (r : Recorded) (o : PlanOutcome) → IsOutcome settings advisories p r o → o ≡ outcome.NoRecord why.Store → r ≡ Missing why.Store
+outcome_store settings advisories p (Missing cause) o h is = cc (h, is)
+outcome_store settings advisories p (Versions krate) (outcome.To w) h is = cc
+outcome_store settings advisories p (Versions krate) outcome.NoneSafe h is = cc
+outcome_store settings advisories p (Versions krate) (outcome.NoRecord cause) h is = absurd h
+
+pub store_outcome : (settings : Settings) (advisories : List Advisory) (p : Package) (r : Recorded) (o : PlanOutcome) → IsOutcome settings advisories p r o → r ≡ Missing why.Store → o ≡ outcome.NoRecord why.Store
+store_outcome settings advisories p (Missing cause) o h is = cc (h, is)
+store_outcome settings advisories p (Versions krate) o h is = cc
+
+pub read_own : (cache : IndexCache) (packages : List Package) (item : PlanItem) (p : Package) (before now : FailedDiskCalls) → slice_get packages item.«package» ≡ Some p
+    → ReadsOnly (cache_file_of cache.path p.name) before now item.outcome → ReadsOwn cache packages item before now
+read_own cache packages item p before now there h =
+    subst (λ o. IsSomeAnd o (λ x. ReadsOnly (cache_file_of cache.path x.name) before now item.outcome)) (sym there) h
 
 -- ---- counts
 

@@ -13,6 +13,7 @@ use Rattle.tame_entry.specs.declared.index_entries.IndexEntry.{IndexEntry}
 use Rattle.tame_entry.specs.declared.index_entries.IndexEntry.TheVariants.{Remote, Cache, Local}
 use Rattle.tame_cache.specs.CacheFiles.{HandsOut}
 use Rattle.tame_cache.specs.Disk.{File}
+use Rattle.tame_cache.specs.FailedCalls.{AddsFailedBut, FailedDiskCalls, FailedReading}
 use Rattle.upgrade_plan.specs.Recorded.{IsRecordedAs, file_records, if_recorded, is_of_cache, items_records, read_records}
 use Rattle.upgrade_plan.specs.declared.records.NoRecord.TheVariants as why
 use Rattle.upgrade_plan.specs.declared.records.Recorded.{Recorded}
@@ -54,6 +55,18 @@ pub store_failed : {P : Type 0} (taken : Result (Option IndexEntry) Error) (r : 
 store_failed (Ok None) r h store failed = absurd (cc)
 store_failed (Ok (Some entry)) r h store failed = absurd (not_refused (iterated entry) (sym h ∙ store))
 store_failed (Err e) r h store failed = failed (λ memory. failed_is_no_memory (sym h.0 ∙ memory))
+
+-- that the file couldn't be read is said where its read failed, and no other call did
+pub store_read : (q : List ℕ) (before now : FailedDiskCalls) (taken : Result (Option IndexEntry) Error) (r : Recorded) → AddsFailedBut error.NoMemory (FailedReading q) before now taken → IsRecordedAs taken r
+    → r ≡ Missing why.Store → FailedReading q before now
+store_read q before now (Ok None) r adds h store = absurd (cc)
+store_read q before now (Ok (Some entry)) r adds h store = absurd (not_refused (iterated entry) (sym h ∙ store))
+store_read q before now (Err e) r adds h store = adds.1 (λ memory. failed_is_no_memory (sym h.0 ∙ memory))
+
+pub read_quiet : (q : List ℕ) (before now : FailedDiskCalls) (taken : Result (Option IndexEntry) Error) (r : Recorded) → AddsFailedBut error.NoMemory (FailedReading q) before now taken → IsRecordedAs taken r
+    → r ≢ Missing why.Store → now ≡ before
+read_quiet q before now (Ok o) r adds h other = adds
+read_quiet q before now (Err e) r adds h other = absurd (other h.1)
 
 lines_of_cache : (o : Option (List IndexVersion)) → is_of_cache (if_recorded o) ≡ true
 lines_of_cache None = refl

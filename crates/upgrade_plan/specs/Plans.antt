@@ -1,8 +1,9 @@
 -- The plan for the vulnerable packages of an audit, by what the cache keeps (this project).
-use Rattle.std.specs.Prelude.{◌≡◌, ◌≢◌, ◌⊎◌, ◌<◌, ℕ, List, [], length, map, get_or, IfSome, Bool, true, false, ◌==◌, Option, Some, None, slice_get}
+use Rattle.std.specs.Prelude.{◌≡◌, ◌≢◌, ◌⊎◌, ◌<◌, ℕ, List, [], length, map, get_or, IfSome, IsSomeAnd, Bool, true, false, ◌==◌, Option, Some, None, slice_get}
 use Rattle.std.specs.List.{AllByRecursion, filter, list_any}
 use Rattle.tame_names.specs.Counts.{CountRoseBy}
 use Rattle.tame_cache.specs.Disk.{File, reads}
+use Rattle.tame_cache.specs.FailedCalls.{FailedDiskCalls, FailedReading}
 use Rattle.tame_cache.specs.Kept.{Disk, cache_file_of}
 use Rattle.tame_cache.specs.declared.cache.IndexCache.{IndexCache}
 use Rattle.tame_sparse.specs.Exchanges.{crates_io_index}
@@ -109,6 +110,20 @@ is_store (outcome.NoRecord why.Record) = false
 -- how many items say so
 abbrev pub stores : List PlanItem → ℕ
 stores items = length (filter (λ item. is_store item.outcome) items)
+
+-- a plan read this file: that it couldn't be read is said where the read failed, and no other call
+-- on the disk did; else none failed
+pub record ReadsOnly (file : Option (List ℕ)) (before now : FailedDiskCalls) (o : PlanOutcome)
+    : Type 0 where
+  pub store : o ≡ outcome.NoRecord why.Store → IsSomeAnd file (λ q. FailedReading q before now)
+  pub quiet : o ≢ outcome.NoRecord why.Store → now ≡ before
+
+-- so does an item of the file of its own package
+abbrev pub ReadsOwn : IndexCache → List Package → PlanItem → FailedDiskCalls → FailedDiskCalls
+    → Type 0
+ReadsOwn cache packages item before now =
+    IsSomeAnd (slice_get packages item.«package»)
+    (λ p. ReadsOnly (cache_file_of cache.path p.name) before now item.outcome)
 
 -- the cache of the index that audits ask
 abbrev pub crates_io_cache : IndexCache

@@ -3,9 +3,11 @@ ghost use Rattle.std.specs.Prelude.{◌≡◌, ◌≤◌, ℕ, List, IfOk, map};
 ghost use Rattle.std.specs.List.{AllByRecursion};
 ghost use Rattle.tame_names.specs.Counts.{CountRose, CountRoseBy};
 ghost use Rattle.tame_cache.specs.Disk.{reads};
+ghost use Rattle.tame_cache.specs.Kept.{cache_file_of};
 ghost use Rattle.audit_advisory.specs.Hits as hits_spec;
 ghost use Rattle.audit_advisory.specs.Reports.{report_of, with_yanked};
-ghost use Rattle.upgrade_plan.specs.Plans.{IsOutcome, IsPlannedAt, IsPlanOf, hit_places, stores, vulnerable_places};
+ghost use Rattle.audit_core.specs.FailedTurns.{InSteps};
+ghost use Rattle.upgrade_plan.specs.Plans.{IsOutcome, IsPlannedAt, IsPlanOf, ReadsOnly, ReadsOwn, hit_places, stores, vulnerable_places};
 
 use crate::records::{NoRecord, Recorded, kept_records};
 use crate::safest::least_safe;
@@ -82,6 +84,8 @@ fn outcome_of<D: CacheDisk>(
         index.now.cache (λ q. reads (D.past disk.old q)) «package».now) }
     ensures store { IfOk result (λ o. o ≡ PlanOutcome.NoRecord NoRecord.Store
         → CountRose (D.faults disk.old) (D.faults disk.new)) }
+    ensures reads { IfOk result (ReadsOnly (cache_file_of index.now.cache.path «package».now.name)
+        (D.failed disk.old) (D.failed disk.new)) }
     ensures later { D.faults disk.old ≤ D.faults disk.new }
     ensures same { D.tells → (q : List ℕ) → D.past disk.new q ≡ D.past disk.old q }
     ensures folders { D.tells → D.folders disk.new ≡ D.folders disk.old }
@@ -120,6 +124,11 @@ pub fn plan<D: CacheDisk>(
         ≡ hit_places audited.now.report.settings database.now audited.now.lockfile) }
     ensures stores { IfOk result
         (λ items. CountRoseBy (stores items) (D.faults disk.old) (D.faults disk.new)) }
+    // the calls on the disk that failed are the reads of the items' own files that couldn't be read,
+    // in the order of the items
+    ensures reads { IfOk result (λ items. InSteps
+        (ReadsOwn index.now.cache audited.now.lockfile) (D.failed disk.old) items
+        (D.failed disk.new)) }
     ensures later { D.faults disk.old ≤ D.faults disk.new }
     ensures same { D.tells → (q : List ℕ) → D.past disk.new q ≡ D.past disk.old q }
     ensures folders { D.tells → D.folders disk.new ≡ D.folders disk.old }

@@ -1,9 +1,10 @@
 //! The records of a package's crate, as the cache keeps them.
-ghost use Rattle.std.specs.Prelude.{◌≡◌, ◌⊎◌, ◌≤◌, ℕ, List, Some, true, IfErr, IfOk, map, option_map};
+ghost use Rattle.std.specs.Prelude.{◌≡◌, ◌≢◌, ◌⊎◌, ◌≤◌, ℕ, List, Some, true, IfErr, IfOk, map, option_map};
 ghost use Rattle.tame_names.specs.Counts.{CountRose};
 ghost use Rattle.tame_names.specs.KrateNames.{text_of};
 ghost use Rattle.tame_records.specs.Krates.{records_of};
 ghost use Rattle.tame_cache.specs.Disk.{reads};
+ghost use Rattle.tame_cache.specs.FailedCalls.{FailedReading};
 ghost use Rattle.tame_cache.specs.Kept.{cache_file_of};
 ghost use Rattle.upgrade_plan.specs.Recorded.{IsRecordedAs, file_records, is_of_cache};
 ghost use Rattle.upgrade_plan.specs.Recorded as spec;
@@ -104,6 +105,14 @@ pub fn kept_records<D: CacheDisk>(
     ensures own { IfOk result (λ r. is_of_cache r ≡ true) }
     ensures store { IfOk result (λ r. r ≡ Recorded.Missing NoRecord.Store
         → CountRose (D.faults disk.old) (D.faults disk.new)) }
+    ensures store_failed { (q : List ℕ)
+        → cache_file_of index.now.cache.path (text_of name.entry) ≡ Some q
+        → IfOk result (λ r. r ≡ Recorded.Missing NoRecord.Store
+        → FailedReading q (D.failed disk.old) (D.failed disk.new)) }
+    ensures unfailed { (q : List ℕ)
+        → cache_file_of index.now.cache.path (text_of name.entry) ≡ Some q
+        → IfOk result (λ r. r ≢ Recorded.Missing NoRecord.Store
+        → D.failed disk.new ≡ D.failed disk.old) }
     ensures later { D.faults disk.old ≤ D.faults disk.new }
     ensures same { D.tells → (q : List ℕ) → D.past disk.new q ≡ D.past disk.old q }
     ensures folders { D.tells → D.folders disk.new ≡ D.folders disk.old }

@@ -11,6 +11,8 @@ ghost use Rattle.audit_settings.specs.Settings.{settings};
 ghost use Rattle.audit_settings.specs.Refusals.{Refuses};
 ghost use Rattle.audit_settings.specs.declared.configs.AuditConfig.{AuditConfig};
 ghost use Rattle.audit_core.specs.Auditors.{IsReportOf, audit_exit, audit_report};
+ghost use Rattle.audit_core.specs.Audits.{IsAuditOf};
+ghost use Rattle.audit_core.specs.declared.auditing.Audited.{Audited};
 ghost use Rattle.audit_core.specs.Opened.{IsUnopenedFor, opened_text, standing_at};
 ghost use Rattle.audit_core.specs.declared.verdicts.Judged.{Judged};
 ghost use Rattle.audit_report.specs.Outputs.{IsPut};
@@ -121,6 +123,25 @@ pub fn exit_of_lockfile<F: Files, W: Wire, D: CacheDisk>(
         × (opened_text (standing_at (F.host files.old) path.now) ≡ Ok text)
         × (locked text ≡ Ok packages)
         × (status ≡ audit_exit auditor.now (audit_report auditor.now packages judged))) }
+    // by the verdicts of the audit
+    ensures audited { IfOk result (λ status. (text : List ℕ) × (audited : Audited)
+        × (F.tells → opened_text (standing_at (F.host files.old) path.now) ≡ Ok text)
+        × IsAuditOf auditor.now W.tells D.tells
+        (record {
+          exchanges = W.exchanges wire.old;
+          files = D.past disk.old;
+          wire_faults = W.faults wire.old;
+          disk_faults = D.faults disk.old;
+          disk_failed = D.failed disk.old;
+        })
+        (record {
+          exchanges = W.exchanges wire.new;
+          files = D.past disk.new;
+          wire_faults = W.faults wire.new;
+          disk_faults = D.faults disk.new;
+          disk_failed = D.failed disk.new;
+        })
+        text audited × (status ≡ audited.exit)) }
     ensures reason { IfErr result
         (IsUnopenedFor F.tells (standing_at (F.host files.old) path.now)) }
 {

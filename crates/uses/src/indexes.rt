@@ -198,25 +198,25 @@ pub fn newest_sent<D: CacheDisk>(
     response: Response<'_>,
     disk: &mut D,
 ) -> Result<Option<Text>, Error>
-    ensures sent { response.entry.status ≡ 200 → IfOk result
+    ensures sent { response.entry.status_code ≡ 200 → IfOk result
         (IsNewestOf response.entry.body.now) }
-    ensures refused { response.entry.status ≡ 200 → IfErr result
+    ensures refused { response.entry.status_code ≡ 200 → IfErr result
         (IsBodyRefusal response.entry.body.now) }
-    ensures absent { SaysAbsent response.entry.status → result ≡ Ok None }
+    ensures absent { SaysAbsent response.entry.status_code → result ≡ Ok None }
     // at 304 by the file of the cache
-    ensures kept { D.tells → response.entry.status ≡ 304 → (q : List ℕ)
+    ensures kept { D.tells → response.entry.status_code ≡ 304 → (q : List ℕ)
         → cache_file_of index.now.cache.path (text_of name.entry) ≡ Some q
         → IfOk result (IsNewestIn index.now.cache.index (reads (D.past disk.old q))) }
-    ensures kept_refused { response.entry.status ≡ 304
+    ensures kept_refused { response.entry.status_code ≡ 304
         → IfErr result (IsKeptRefusal (D.faults disk.old) (D.faults disk.new)
         (λ entry. D.tells → (q : List ℕ)
         → cache_file_of index.now.cache.path (text_of name.entry) ≡ Some q
         → HandsOut index.now.cache.index (Some entry) (reads (D.past disk.old q)))) }
-    ensures unauthorized { response.entry.status ≡ 401
+    ensures unauthorized { response.entry.status_code ≡ 401
         → IsRefusedStatus 401 (codes "the request was not authorized") result }
-    ensures other { ¬ (SaysAbsent response.entry.status) → response.entry.status ≢ 200
-        → response.entry.status ≢ 304 → response.entry.status ≢ 401
-        → IsRefusedStatus response.entry.status
+    ensures other { ¬ (SaysAbsent response.entry.status_code) → response.entry.status_code ≢ 200
+        → response.entry.status_code ≢ 304 → response.entry.status_code ≢ 401
+        → IsRefusedStatus response.entry.status_code
         (codes "the status code is invalid for this protocol") result }
     ensures stores { D.tells → Stores index.now.cache.index index.now.cache.path
         (text_of name.entry) (came response.entry) true (D.past disk.old) (D.past disk.new) }

@@ -23,7 +23,7 @@ use Rattle.vendor_registry.proofs.Exact.{AreKnown, AreOn, on_known}
 use Rattle.vendor_registry.proofs.FolderPaths.{base, crate_inner, crate_not_index, in_index, index_inner, index_join, index_same, join_base, path_front, same_inner}
 use Rattle.tame_local.proofs.RegistryPaths.{differ, lower, name_long, parent_behind, plain_behind, relative_parts, same_behind}
 use Rattle.tame_local.proofs.Standings.{AreElsewhere, folders_nothing, nothing_stays}
-use Rattle.vendor_registry.specs.Built.{IsTaken, crate_made, path_made}
+use Rattle.vendor_registry.specs.Built.{IsTaken, IsTakenAt, crate_made, path_made}
 use Rattle.vendor_registry.specs.Checks.{Stock}
 use Rattle.vendor_registry.specs.Vendored.{IsBare, IsInner, on, paths_of}
 use Rattle.vendor_registry.specs.declared.checks.Checked.{Checked}
@@ -254,13 +254,17 @@ not_both : (t : Bool) → t ≡ true → t ≡ false → ⊥
 not_both true h k = cc
 not_both false h k = cc
 
-none_taken : (s : Stock) (to : List ℕ) (all : List Checked) (qs : List (List ℕ)) (host : Host) → AreKnown s all → AreNamed qs → AreApart qs → AreAbsent to qs host
-    → IsTaken to all qs host → ⊥
-none_taken s to all [] host known named apart absent taken = taken
-none_taken s to all (q ∷ qs) host known named apart absent (inl some) = not_both _ absent.0 some
-none_taken s to all (q ∷ qs) host known named apart absent (inr more) =
-    none_taken s to all qs (after (path_made to q (on q all)) host) known named.1 apart.1
-    (all_keep s to q (on q all) qs host (on_known s q all known) named.1 apart.0 absent.1) more
+taken_there : (to q : List ℕ) (cs : List Checked) (host : Host) → IsTakenAt to q cs host → is_nothing (host.stands (join (index_of to) q)) ≡ false
+taken_there to q [] host taken = absurd taken
+taken_there to q (c ∷ cs) host taken = taken
+
+none_taken : (s : Stock) (to : List ℕ) (all : List Checked) (qs : List (List ℕ)) (host now : Host) → AreKnown s all → AreNamed qs → AreApart qs → AreAbsent to qs host
+    → IsTaken to all qs host now → ⊥
+none_taken s to all [] host now known named apart absent taken = taken
+none_taken s to all (q ∷ qs) host now known named apart absent (inl some) = not_both _ absent.0 (taken_there to q (on q all) host some.0)
+none_taken s to all (q ∷ qs) host now known named apart absent (inr more) =
+    none_taken s to all qs (after (path_made to q (on q all)) host) now known named.1 apart.1
+    (all_keep s to q (on q all) qs host (on_known s q all known) named.1 apart.0 absent.1) more.1
 
 -- ---- the paths of what was checked
 
@@ -327,7 +331,7 @@ bare_absent to (q ∷ qs) host bare named =
     (subst (AreElsewhere (ways_to (base to ++ codes "index"))) (sym (file_is to q n)) (ways_to_index to n.0 n.1 n.2)) in
     (folders_nothing (ways_to (index_of to)) host.stands path elsewhere none, bare_absent to qs host bare named.1)
 
-pub never_taken : (s : Stock) (to : List ℕ) (cs : List Checked) (host : Host) → AreKnown s cs → IsBare host to → IsTaken to cs (paths_of cs) (after_change (created to) host) → ⊥
-never_taken s to cs host known bare taken =
-    none_taken s to cs (paths_of cs) (after_change (created to) host) known (paths_named s [] cs known) (paths_apart [] (map (λ (c : Checked). c.path) cs)).1
+pub never_taken : (s : Stock) (to : List ℕ) (cs : List Checked) (host now : Host) → AreKnown s cs → IsBare host to → IsTaken to cs (paths_of cs) (after_change (created to) host) now → ⊥
+never_taken s to cs host now known bare taken =
+    none_taken s to cs (paths_of cs) (after_change (created to) host) now known (paths_named s [] cs known) (paths_apart [] (map (λ (c : Checked). c.path) cs)).1
     (bare_absent to (paths_of cs) host bare (paths_named s [] cs known)) taken

@@ -1,12 +1,9 @@
 -- Changes that were begun, or done in part.
-use Rattle.std.proofs.Common.{◌≡◌, inl, inr, ℕ, List, [], ◌∷◌, ◌++◌, false, Result, Ok, Err, refl, sym, ap, ◌∙◌, subst}
+use Rattle.std.proofs.Common.{◌≡◌, inl, inr, ℕ, List, [], ◌∷◌, ◌++◌, Result, Ok, Err, refl, sym, ap, ◌∙◌, subst}
 use Rattle.std.specs.Prelude.{OnErr}
-use Rattle.tame_names.specs.Changes.{is_nothing}
-use Rattle.tame_names.specs.Paths.{join}
 use Rattle.tame_names.specs.Standing.{Host}
 use Rattle.tame_local.specs.Builders.{HostChange, Makes, Creates, AreBegun, after, after_change, created}
-use Rattle.tame_local.specs.Registries.{index_of}
-use Rattle.vendor_registry.specs.Built.{AreFilled, IsFilled, IsTaken, all_made, path_made, paths_made}
+use Rattle.vendor_registry.specs.Built.{AreFilled, IsFilled, IsTaken, IsTakenAt, all_made, path_made, paths_made}
 use Rattle.vendor_registry.specs.Vendored.{on, paths_of}
 use Rattle.vendor_registry.specs.declared.checks.Checked.{Checked}
 
@@ -53,16 +50,17 @@ filled_more folder cs q p ps left h mid at same done is more =
 pub filled_none : (folder : List ℕ) (cs : List Checked) (left : List (List ℕ)) (h : Host) → left ≡ [] → AreFilled folder cs left h
 filled_none folder cs left h none = subst (λ (l : List (List ℕ)). AreFilled folder cs l h) (sym none) tt
 
-pub taken_here : (folder : List ℕ) (cs : List Checked) (q p : List ℕ) (ps left : List (List ℕ)) (h : Host) → left ≡ q ∷ ps → p ≡ q
-    → is_nothing (h.stands (join (index_of folder) p)) ≡ false → IsTaken folder cs left h
-taken_here folder cs q p ps left h at same some =
-    subst (λ (l : List (List ℕ)). IsTaken folder cs l h) (sym at) (inl (subst (λ (r : List ℕ). is_nothing (h.stands (join (index_of folder) r)) ≡ false) same some))
+pub taken_here : (folder : List ℕ) (cs : List Checked) (q p : List ℕ) (ps left : List (List ℕ)) (h now : Host) → left ≡ q ∷ ps → p ≡ q
+    → IsTakenAt folder p (on p cs) h → now ≡ h → IsTaken folder cs left h now
+taken_here folder cs q p ps left h now at same some stays =
+    subst (λ (l : List (List ℕ)). IsTaken folder cs l h now) (sym at) (inl (subst (λ (r : List ℕ). IsTakenAt folder r (on r cs) h) same some, stays))
 
-pub taken_more : (folder : List ℕ) (cs : List Checked) (q p : List ℕ) (ps left : List (List ℕ)) (h mid : Host) → left ≡ q ∷ ps → p ≡ q
-    → mid ≡ after (path_made folder p (on p cs)) h → IsTaken folder cs ps mid → IsTaken folder cs left h
-taken_more folder cs q p ps left h mid at same done taken =
+pub taken_more : (folder : List ℕ) (cs : List Checked) (q p : List ℕ) (ps left : List (List ℕ)) (h mid now : Host) → left ≡ q ∷ ps → p ≡ q
+    → mid ≡ after (path_made folder p (on p cs)) h → IsFilled folder p (on p cs) h → IsTaken folder cs ps mid now → IsTaken folder cs left h now
+taken_more folder cs q p ps left h mid now at same done is taken =
     let made : mid ≡ after (path_made folder q (on q cs)) h = done ∙ ap (λ (r : List ℕ). after (path_made folder r (on r cs)) h) same in
-    subst (λ (l : List (List ℕ)). IsTaken folder cs l h) (sym at) (inr (subst (λ (m : Host). IsTaken folder cs ps m) made taken))
+    let here : IsFilled folder q (on q cs) h = subst (λ (r : List ℕ). IsFilled folder r (on r cs) h) same is in
+    subst (λ (l : List (List ℕ)). IsTaken folder cs l h now) (sym at) (inr (here, subst (λ (m : Host). IsTaken folder cs ps m now) made taken))
 
 -- ---- all of them
 

@@ -22,7 +22,7 @@ use Rattle.tame_local.specs.Registries.{index_file, index_of, named_unless}
 use Rattle.tame_local.specs.declared.digests.ValidKrate.{ValidKrate}
 use Rattle.vendor_registry.proofs.Changed.{after_append, size_append}
 use Rattle.vendor_registry.proofs.Facts.{path_of_name}
-use Rattle.vendor_registry.specs.Built.{IsFilled, crate_made, free_fault, path_made, paths_made}
+use Rattle.vendor_registry.specs.Built.{IsFilled, IsTakenAt, crate_made, free_fault, path_made, paths_made}
 use Rattle.vendor_registry.specs.Named.{ArePathed}
 use Rattle.vendor_registry.specs.Vendored.{is_on, on}
 use Rattle.vendor_registry.specs.declared.checks.Checked.{Checked}
@@ -92,7 +92,7 @@ absent_some None p Other n q h = refl
 absent_some (Some why) p s n q h = cc
 
 taken_at : (folder q : List ℕ) (cs : List Checked) (vs : List IndexVersion) (host : Host) (n : ℕ) (p : List ℕ) → ArePathedOn q cs → vs ≡ map (λ (c : Checked). c.version) cs
-    → (length vs == 0) ≡ false → insertable folder (first_name vs) host ≡ Err (Occupied n p) → is_nothing (host.stands (join (index_of folder) q)) ≡ false
+    → (length vs == 0) ≡ false → insertable folder (first_name vs) host ≡ Err (Occupied n p) → IsTakenAt folder q cs host
 taken_at folder q [] vs host n p are is some taken =
     absurd (false≢true (sym some ∙ ap (λ (ws : List IndexVersion). length ws == 0) is))
 taken_at folder q (c ∷ cs) vs host n p are is some taken =
@@ -104,7 +104,7 @@ taken_at folder q (c ∷ cs) vs host n p are is some taken =
     ∙ absent_some (refusal_of name) (index_file (index_of folder) name) (host.stands (index_file (index_of folder) name)) n p taken
 
 pub taken_is : (folder q : List ℕ) (all : List Checked) (vs : List IndexVersion) (host : Host) (n : ℕ) (p : List ℕ) → ArePathed all → vs ≡ map (λ (c : Checked). c.version) (on q all)
-    → (length vs == 0) ≡ false → insertable folder (first_name vs) host ≡ Err (Occupied n p) → is_nothing (host.stands (join (index_of folder) q)) ≡ false
+    → (length vs == 0) ≡ false → insertable folder (first_name vs) host ≡ Err (Occupied n p) → IsTakenAt folder q (on q all) host
 taken_is folder q all vs host n p pathed is some taken = taken_at folder q (on q all) vs host n p (pathed_on q all pathed) is some taken
 
 pub written_more : (vs : List IndexVersion) (v : IndexVersion) → AreWritten vs → AreWritten (v ∷ []) → AreWritten (vs ++ v ∷ [])

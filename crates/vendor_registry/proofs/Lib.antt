@@ -10,7 +10,7 @@ mod Firsts
 mod FolderPaths
 mod Groups
 mod Inserting
-mod Pairs
+pub mod Pairs
 mod Places
 mod Premises
 mod Reached
@@ -18,5 +18,6 @@ mod Sets
 mod Slashless
 mod Stocked
 mod Told
-mod Whole
+mod Unread
+pub mod Whole
 mod Within

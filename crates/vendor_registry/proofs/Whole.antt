@@ -26,10 +26,10 @@ use Rattle.vendor_registry.proofs.Places.{read_back_same}
 use Rattle.vendor_registry.proofs.Stocked.{paths_sound}
 use Rattle.vendor_registry.specs.Built.{IsBuildFault, IsOccupied, IsReadBack, IsStoppedBy, IsTaken, all_made, free_fault}
 use Rattle.vendor_registry.specs.Checks.{IsStopped, Stock, all_checked}
-use Rattle.vendor_registry.specs.Failed.{IsToldIn}
+use Rattle.vendor_registry.specs.Failed.{IsToldIn, IsWithin}
 use Rattle.vendor_registry.specs.Looked.{looked}
 use Rattle.vendor_registry.specs.Named.{ArePathed, AreTexts, AreVersioned, IsFolderPath, IsPlace}
-use Rattle.vendor_registry.specs.Vendored.{HoldsEach, HoldsNoOther, IsBare, IsVendored, paths_of, vendored_files}
+use Rattle.vendor_registry.specs.Vendored.{HoldsEach, HoldsNoOther, IsBare, IsVendored, paths_of, size_of, vendored_files}
 use Rattle.vendor_registry.specs.declared.checks.Checked.{Checked}
 use Rattle.vendor_registry.specs.declared.vendoring.Vendored.{Vendored}
 
@@ -140,13 +140,13 @@ no_read_back stock packages to cs before now why checks texts plain path version
 
 -- ---- an index file that has come meanwhile
 
-pub occupied_before : (stock : Stock) (packages : List Package) (to : List ℕ) (cs : List Checked) (before : Host) (n : ℕ)
+pub occupied_before : (stock : Stock) (packages : List Package) (to : List ℕ) (cs : List Checked) (before now : Host) (n : ℕ)
     → all_checked stock (looked packages) ≡ Ok cs → AreTexts cs → IsBare before to → IsOccupied (before.stands to) (fault.NotEmpty n)
-    → (free_fault (before.stands to) ≡ None → IsTaken to cs (paths_of cs) (after_change (created to) before))
+    → (free_fault (before.stands to) ≡ None → IsTaken to cs (paths_of cs) (after_change (created to) before) now)
     → free_fault (before.stands to) ≡ Some (fault.NotEmpty n)
-occupied_before stock packages to cs before n checks texts bare (inl is) taken = is
-occupied_before stock packages to cs before n checks texts bare (inr h) taken =
-    absurd (never_taken stock to cs before (known stock (looked packages) cs (facts_of stock (looked packages) cs checks) texts) bare (taken h.0))
+occupied_before stock packages to cs before now n checks texts bare (inl is) taken = is
+occupied_before stock packages to cs before now n checks texts bare (inr h) taken =
+    absurd (never_taken stock to cs before now (known stock (looked packages) cs (facts_of stock (looked packages) cs checks) texts) bare (taken h.0))
 
 -- ---- a call that failed
 
@@ -157,3 +157,20 @@ by_build stock packages folder e fault within checks = inr (fault, within, is_ok
     is_ok : (a : Result (List Checked) VendorFault) {cs : List Checked} → a ≡ Ok cs → IsOk a
     is_ok (Ok cs) h = refl
     is_ok (Err e) h = cc
+
+-- a call that failed at a path outside of the registry was none of its builder
+pub outside_unwritten : (folder at : List ℕ) (e : VendorFault) (P : Type 0) → IsToldIn folder e → e ≡ fault.File at → (IsWithin folder at → ⊥) → P
+outside_unwritten folder at e P within is outside =
+    absurd (outside (subst (IsToldIn folder) is within))
+
+-- ---- what was checked is so alone
+
+pub one_checked : (r : Result (List Checked) VendorFault) (a b : List Checked) → r ≡ Ok a → r ≡ Ok b → a ≡ b
+one_checked r a b h k = cc (h, k)
+
+-- the numbers of crate files and of bytes by what was checked
+pub numbers_of : (to : List ℕ) (packages bytes : ℕ) (cs others : List Checked) → cs ≡ others → packages ≡ length cs → bytes ≡ min (builders.size_of (all_made to cs)) (2 ^ 64 - 1)
+    → (packages ≡ length others) × (bytes ≡ min (size_of (vendored_files others)) (2 ^ 64 - 1))
+numbers_of to packages bytes cs others same count size =
+    subst (λ (ds : List Checked). (packages ≡ length ds) × (bytes ≡ min (size_of (vendored_files ds)) (2 ^ 64 - 1))) same
+    (count, size ∙ ap (λ m. min m (2 ^ 64 - 1)) (all_size to cs))

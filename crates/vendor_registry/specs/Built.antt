@@ -59,19 +59,26 @@ AreFilled folder cs (q ∷ qs) host =
     IsFilled folder q (on q cs) host
     × AreFilled folder cs qs (after (path_made folder q (on q cs)) host)
 
--- something is at the index file of one of these paths when its turn comes
-abbrev pub IsTaken : List ℕ → List Checked → List (List ℕ) → Host → Type 0
-IsTaken folder cs [] host = ⊥
-IsTaken folder cs (q ∷ qs) host =
-    (is_nothing (host.stands (join (index_of folder) q)) ≡ false)
-    ⊎ IsTaken folder cs qs (after (path_made folder q (on q cs)) host)
+-- something is at the index file of a path where something is to be put
+abbrev pub IsTakenAt : List ℕ → List ℕ → List Checked → Host → Type 0
+IsTakenAt folder q [] host = ⊥
+IsTakenAt folder q (c ∷ cs) host = is_nothing (host.stands (join (index_of folder) q)) ≡ false
+
+-- something is at the index file of one of these paths when its turn comes, of the first such, and
+-- nothing was written from then on
+abbrev pub IsTaken : List ℕ → List Checked → List (List ℕ) → Host → Host → Type 0
+IsTaken folder cs [] host now = ⊥
+IsTaken folder cs (q ∷ qs) host now =
+    (IsTakenAt folder q (on q cs) host × (now ≡ host))
+    ⊎ (IsFilled folder q (on q cs) host
+    × IsTaken folder cs qs (after (path_made folder q (on q cs)) host) now)
 
 -- all packages were checked, and once the folder of the index is made something is at the index
--- file of one of their paths when its turn comes
-abbrev pub IsTakenFor : Stock → List Package → List ℕ → Host → Type 0
-IsTakenFor stock packages folder before =
+-- file of one of their paths when its turn comes; what was put on the paths in front of it stays
+abbrev pub IsTakenFor : Stock → List Package → List ℕ → Host → Host → Type 0
+IsTakenFor stock packages folder before now =
     (cs : List Checked) × (all_checked stock (looked packages) ≡ Ok cs)
-    × IsTaken folder cs (paths_of cs) (after_change (created folder) before)
+    × IsTaken folder cs (paths_of cs) (after_change (created folder) before) now
 
 -- what a refused call left: the host as it was, or all packages were checked and the changes were
 -- begun in their order
@@ -146,6 +153,12 @@ pub record IsReadBack (folder : List ℕ) (cs : List Checked) (before now : Host
       → AreFilled folder cs (paths_of cs) (after_change (created folder) before)
   pub made : ArePathed cs → now ≡ after (all_made folder cs) before
   pub refused : registry_at now folder true ≡ Err (refused_by why)
+
+-- what was built of what the packages were checked for doesn't agree with its index
+abbrev pub IsReadBackFor : Type 0 → Stock → List Package → List ℕ → Host → Host → Error → Type 0
+IsReadBackFor disk_tells stock packages folder before now why =
+    (cs : List Checked) × (disk_tells → all_checked stock (looked packages) ≡ Ok cs)
+    × IsReadBack folder cs before now why
 
 -- a refusal behind the checks, by what is there and not by a call
 abbrev pub is_behind : VendorFault → Bool

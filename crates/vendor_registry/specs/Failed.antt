@@ -1,9 +1,13 @@
 -- Which failed call a refusal is told of (this project).
-use Rattle.std.specs.Prelude.{◌≡◌, ℕ, List, [], ◌∷◌, ◌++◌, Result, Err}
+use Rattle.std.specs.Prelude.{◌≡◌, ℕ, List, [], ◌∷◌, ◌++◌, Some, Result, Err}
+use Rattle.std.specs.List.{slice_get}
 use Rattle.tame_names.specs.Paths.{join}
 use Rattle.tame_names.specs.declared.host.FailedCall.{FailedCall}
+use Rattle.tame_cache.specs.FailedCalls.{FailedDiskCalls, FailedReading}
+use Rattle.tame_cache.specs.Kept.{cache_file_of}
 use Rattle.tame_local.specs.Calls.{IsCallFor}
 use Rattle.tame_local.specs.Registries.{crates_folder, index_of}
+use Rattle.audit_lock.specs.declared.resolving.Package.{Package}
 use Rattle.vendor_registry.specs.declared.faults.VendorFault.{VendorFault}
 use Rattle.vendor_registry.specs.declared.faults.VendorFault.TheVariants as fault
 
@@ -30,3 +34,28 @@ IsToldIn registry e = Unit {0}
 -- an answer that tells of no call on the files
 abbrev pub IsQuiet : {T : Type 0} → Result T VendorFault → Type 0
 IsQuiet result = (calls : List FailedCall) → AddsFailed calls calls result
+
+-- ---- on the disk
+
+-- a refusal by an entry that can't be read adds what failed of the package at its place, any other
+-- answer nothing
+abbrev pub AddsFailedRead : {T : Type 0} → (ℕ → FailedDiskCalls → FailedDiskCalls → Type 0)
+    → FailedDiskCalls → FailedDiskCalls → Result T VendorFault → Type 0
+AddsFailedRead Failed before now (Err (fault.Store place)) = Failed place before now
+AddsFailedRead Failed before now result = now ≡ before
+
+-- the read of the file failed that the cache in a folder has for a package, and no other call
+abbrev pub FailsReadingOf : List ℕ → Package → ℕ → FailedDiskCalls → FailedDiskCalls → Type 0
+FailsReadingOf root p place before now =
+    (q : List ℕ) × (cache_file_of root p.name ≡ Some q) × FailedReading q before now
+
+-- the same for the package at this place
+abbrev pub FailsReadingAt : List ℕ → List Package → ℕ → FailedDiskCalls → FailedDiskCalls → Type 0
+FailsReadingAt root packages place before now =
+    (p : Package) × (slice_get packages place ≡ Some p)
+    × FailsReadingOf root p place before now
+
+-- an answer that tells of no call on the disk
+abbrev pub IsUnread : {T : Type 0} → Result T VendorFault → Type 0
+IsUnread result =
+    (calls : FailedDiskCalls) → AddsFailedRead (λ place before now. ⊥) calls calls result

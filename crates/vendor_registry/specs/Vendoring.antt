@@ -1,17 +1,19 @@
 -- What a call answers that makes a registry of an audit's packages (this project).
-use Rattle.std.specs.Prelude.{◌≡◌, ◌≢◌, ℕ, List, Some, None, true, Result, Ok, Err, IsOk, IsTrue}
+use Rattle.std.specs.Prelude.{◌≡◌, ◌≢◌, ◌-◌, ◌^◌, min, ℕ, List, length, Some, None, true, Result, Ok, Err, IsOk, IsTrue}
 use Rattle.tame_names.specs.Counts.{CountRose}
 use Rattle.tame_names.specs.Standing.{Host}
 use Rattle.tame_names.specs.declared.errors.Error.{Error}
+use Rattle.tame_local.specs.Builders.{after_change, created}
 use Rattle.tame_local.specs.Inserts.{StandsPlain}
-use Rattle.tame_local.specs.Refusals.{refused as refused_by}
 use Rattle.tame_local.specs.Registries.{registry_at}
 use Rattle.audit_lock.specs.declared.resolving.Package.{Package}
-use Rattle.vendor_registry.specs.Built.{IsBuilt, IsOccupied, IsStoppedBy, IsTakenFor, IsUnfinished, free_fault, is_behind}
+use Rattle.vendor_registry.specs.Built.{AreFilled, IsBuilt, IsOccupied, IsReadBackFor, IsStoppedBy, IsTakenFor, IsUnfinished, free_fault, is_behind}
 use Rattle.vendor_registry.specs.Checks.{Stock, all_checked, is_of_checks, is_of_package}
+use Rattle.vendor_registry.specs.Failed.{IsWithin}
 use Rattle.vendor_registry.specs.Looked.{looked}
 use Rattle.vendor_registry.specs.Named.{AreVersioned, IsFolderPath}
-use Rattle.vendor_registry.specs.Vendored.{IsBare, IsVendored}
+use Rattle.vendor_registry.specs.Vendored.{IsBare, IsVendored, paths_of, size_of, vendored_files}
+use Rattle.vendor_registry.specs.declared.checks.Checked.{Checked}
 use Rattle.vendor_registry.specs.declared.faults.VendorFault.{VendorFault}
 use Rattle.vendor_registry.specs.declared.faults.VendorFault.TheVariants as fault
 use Rattle.vendor_registry.specs.declared.vendoring.Vendored.{Vendored}
@@ -48,6 +50,18 @@ pub record IsRegistryMade (v : Vendoring) (made : Vendored) : Type 0 where
   pub free : v.files_tell → free_fault (v.stock.host.stands v.folder) ≡ None
   pub built : v.files_tell → v.disk_tells
       → IsBuilt v.stock v.packages v.folder v.stock.host v.now
+  -- nothing was at an index file when its turn came
+  pub filled : v.files_tell → v.disk_tells → (cs : List Checked)
+      → all_checked v.stock (looked v.packages) ≡ Ok cs
+      → AreFilled v.folder cs (paths_of cs) (after_change (created v.folder) v.stock.host)
+  -- it agrees with its index
+  pub opened : v.files_tell
+      → registry_at v.now v.folder true ≡ Ok made.registry.index.path
+  -- the numbers of its crate files and of their bytes are those of what was checked
+  pub counted : v.files_tell → v.disk_tells → (cs : List Checked)
+      → all_checked v.stock (looked v.packages) ≡ Ok cs
+      → (made.packages ≡ length cs)
+      × (made.bytes ≡ min (size_of (vendored_files cs)) (2 ^ 64 - 1))
 
 -- none was made
 pub record IsRegistryRefused (v : Vendoring) (reason : VendorFault) : Type 0 where
@@ -56,6 +70,10 @@ pub record IsRegistryRefused (v : Vendoring) (reason : VendorFault) : Type 0 whe
   pub refused : v.files_tell → v.disk_tells → IsTrue (is_of_package reason)
       → all_checked v.stock (looked v.packages) ≡ Err reason
   pub unwritten : v.files_tell → IsTrue (is_of_checks reason) → v.now ≡ v.stock.host
+  -- all packages are checked before anything is written: where a call failed at a path that is none
+  -- of the registry, as that of a crate file, nothing was
+  pub unread : v.files_tell → (at : List ℕ) → reason ≡ fault.File at
+      → (IsWithin v.folder at → ⊥) → v.now ≡ v.stock.host
   -- an entry couldn't be read only where the disk failed; a call failed at the first package that
   -- wasn't checked, or at a path of the registry once all were
   pub store : (at : ℕ) → reason ≡ fault.Store at → CountRose v.disk_faults v.disk_faults_now
@@ -69,17 +87,17 @@ pub record IsRegistryRefused (v : Vendoring) (reason : VendorFault) : Type 0 whe
       → v.now ≡ v.stock.host
   pub taken : v.files_tell → v.disk_tells → (n : ℕ) → reason ≡ fault.NotEmpty n
       → free_fault (v.stock.host.stands v.folder) ≡ None
-      → IsTakenFor v.stock v.packages v.folder v.stock.host
+      → IsTakenFor v.stock v.packages v.folder v.stock.host v.now
   pub not_empty : v.files_tell → v.disk_tells → IsBare v.stock.host v.folder → (n : ℕ)
       → reason ≡ fault.NotEmpty n
       → free_fault (v.stock.host.stands v.folder) ≡ Some (fault.NotEmpty n)
   -- nothing was written, or changes that make the registry were begun in their order
   pub begun : v.files_tell → v.disk_tells
       → IsUnfinished v.stock v.packages v.folder v.stock.host v.now
-  -- what was built doesn't agree with its index, for this reason; that never comes where each
+  -- all was built, and doesn't agree with its index, for this reason; that never comes where each
   -- version is one of SemVer
   pub read_back : v.files_tell → (why : Error) → reason ≡ fault.ReadBack why
-      → registry_at v.now v.folder true ≡ Err (refused_by why)
+      → IsReadBackFor v.disk_tells v.stock v.packages v.folder v.stock.host v.now why
   pub agrees : v.files_tell → v.disk_tells → StandsPlain v.stock.host.stands
       → IsFolderPath v.folder → AreVersioned v.packages
       → (why : Error) → reason ≢ fault.ReadBack why

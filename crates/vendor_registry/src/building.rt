@@ -1,6 +1,6 @@
 //! A registry that is built of what was checked.
 ghost use Rattle.std.specs.Prelude.{◌≡◌, ◌≤◌, ◌-◌, ◌^◌, min, ℕ, List, [], ◌∷◌, ◌++◌, map, Ok, Err, Some, None, IfOk, IfErr, IsTrue, OnErr, OnOk, true, false};
-ghost use Rattle.tame_names.specs.Changes.{AreFolders, is_nothing};
+ghost use Rattle.tame_names.specs.Changes.{AreFolders};
 ghost use Rattle.tame_names.specs.Counts.{CountRose};
 ghost use Rattle.tame_names.specs.Paths as paths_spec;
 ghost use Rattle.tame_records.specs.Record.{record_of};
@@ -8,7 +8,7 @@ ghost use Rattle.tame_records.specs.Written.{line};
 ghost use Rattle.tame_local.specs.Builders.{AreBegun, IsBegun, after, after_change, crates_made, created, size_of};
 ghost use Rattle.tame_local.specs.Inserts.{AreWritten};
 ghost use Rattle.tame_local.specs.Registries.{index_of, registry_at};
-ghost use Rattle.vendor_registry.specs.Built.{AreFilled, IsBeginFault, IsBuildFault, IsFilled, IsInsertFault, IsOccupied, IsReadBack, IsTaken, all_made, crate_made, free_fault, is_behind, path_made, paths_made};
+ghost use Rattle.vendor_registry.specs.Built.{AreFilled, IsBeginFault, IsBuildFault, IsFilled, IsInsertFault, IsOccupied, IsReadBack, IsTaken, IsTakenAt, all_made, crate_made, free_fault, is_behind, path_made, paths_made};
 ghost use Rattle.vendor_registry.specs.Failed.{AddsFailed, IsToldIn};
 ghost use Rattle.vendor_registry.specs.Named.{ArePathed};
 ghost use Rattle.vendor_registry.specs.Vendored.{on, paths_of};
@@ -124,8 +124,10 @@ fn insert_path<F: Files>(
     ensures only { IfErr result IsInsertFault }
     ensures occupied { F.tells → (n : ℕ) → result ≡ Err (VendorFault.NotEmpty n) → n ≡ 1 }
     ensures taken { F.tells → ArePathed checked.now → (n : ℕ)
-        → result ≡ Err (VendorFault.NotEmpty n) → is_nothing ((F.host files.old).stands
-        (paths_spec.join (index_of builder.now.path) path.now)) ≡ false }
+        → result ≡ Err (VendorFault.NotEmpty n)
+        → IsTakenAt builder.now.path path.now (on path.now checked.now) (F.host files.old) }
+    ensures unmade { F.tells → (n : ℕ) → result ≡ Err (VendorFault.NotEmpty n)
+        → F.host files.new ≡ F.host files.old }
     ensures file { (at : List ℕ) → result ≡ Err (VendorFault.File at)
         → CountRose (F.faults files.old) (F.faults files.new) }
     ensures later { F.faults files.old ≤ F.faults files.new }
@@ -169,8 +171,9 @@ fn insert_group<F: Files>(
     ensures occupied { F.tells → (n : ℕ) → result ≡ Err (VendorFault.NotEmpty n) → n ≡ 1 }
     ensures taken { F.tells → (cs : List Checked) → AreGroups cs groups.now → ArePathed cs
         → (n : ℕ) → result ≡ Err (VendorFault.NotEmpty n)
-        → is_nothing ((F.host files.old).stands
-        (paths_spec.join (index_of builder.now.path) path.now)) ≡ false }
+        → IsTakenAt builder.now.path path.now (on path.now cs) (F.host files.old) }
+    ensures unmade { F.tells → (n : ℕ) → result ≡ Err (VendorFault.NotEmpty n)
+        → F.host files.new ≡ F.host files.old }
     ensures file { (at : List ℕ) → result ≡ Err (VendorFault.File at)
         → CountRose (F.faults files.old) (F.faults files.new) }
     ensures later { F.faults files.old ≤ F.faults files.new }
@@ -204,7 +207,7 @@ fn insert_paths<F: Files>(
     ensures occupied { F.tells → (n : ℕ) → result ≡ Err (VendorFault.NotEmpty n) → n ≡ 1 }
     ensures taken { F.tells → (cs : List Checked) → AreGroups cs groups.now → ArePathed cs
         → (n : ℕ) → result ≡ Err (VendorFault.NotEmpty n)
-        → IsTaken builder.now.path cs paths.now (F.host files.old) }
+        → IsTaken builder.now.path cs paths.now (F.host files.old) (F.host files.new) }
     ensures file { (at : List ℕ) → result ≡ Err (VendorFault.File at)
         → CountRose (F.faults files.old) (F.faults files.new) }
     ensures later { F.faults files.old ≤ F.faults files.new }
@@ -287,6 +290,8 @@ pub fn build<F: Files>(
         registry_at (F.host files.new) to true ≡ Ok built.registry.index.path) }
     ensures free { F.tells → OnOk result
         (free_fault ((F.host files.old).stands to) ≡ None) }
+    ensures filled { F.tells → ArePathed checked → OnOk result (AreFilled to checked
+        (paths_of checked) (after_change (created to) (F.host files.old))) }
     ensures begun { F.tells → ArePathed checked → OnErr result (AreBegun
         (all_made to checked) (F.host files.old) (F.host files.new)) }
     ensures occupied { F.tells → IfErr result
@@ -294,7 +299,7 @@ pub fn build<F: Files>(
     ensures taken { F.tells → ArePathed checked → (n : ℕ)
         → result ≡ Err (VendorFault.NotEmpty n)
         → free_fault ((F.host files.old).stands to) ≡ None → IsTaken to checked
-        (paths_of checked) (after_change (created to) (F.host files.old)) }
+        (paths_of checked) (after_change (created to) (F.host files.old)) (F.host files.new) }
     ensures unmade { F.tells → IfErr result (λ e.
         free_fault ((F.host files.old).stands to) ≡ Some e
         → F.host files.new ≡ F.host files.old) }

@@ -6,10 +6,11 @@ ghost use Rattle.tame_names.specs.KrateNames.{text_of};
 ghost use Rattle.tame_records.specs.Krates.{records_of};
 ghost use Rattle.tame_entry.specs.Krates.{iterated};
 ghost use Rattle.tame_cache.specs.Disk.{reads};
+ghost use Rattle.tame_cache.specs.FailedCalls.{FailedReading};
 ghost use Rattle.tame_cache.specs.Kept.{cache_file_of};
 ghost use Rattle.vendor_registry.specs.Checks.{IsCheckFault, checked, crate_checked, file_records, is_of_package, items_records, stock_of};
 ghost use Rattle.vendor_registry.specs.Checks as spec;
-ghost use Rattle.vendor_registry.specs.Failed.{AddsFailed, IsQuiet};
+ghost use Rattle.vendor_registry.specs.Failed.{AddsFailed, AddsFailedRead, FailsReadingOf, IsQuiet, IsUnread};
 
 use crate::faults::VendorFault;
 use audit_lock::Package;
@@ -53,6 +54,7 @@ fn read_records(
         ⊎ ((e ≡ VendorFault.Record place)
         × (records_of (map (λ i. i.1) items.entry) ≡ None))) }
     ensures quiet { IsQuiet result }
+    ensures unread { IsUnread result }
 {
     let mut records = Items::new(alloc);
     for item in items {
@@ -76,6 +78,7 @@ fn entry_records(
     ensures refused { IfErr result (λ e. (e ≡ VendorFault.NoMemory)
         ⊎ (IsTrue (is_of_package e) × (items_records place (iterated entry.now) ≡ Err e))) }
     ensures quiet { IsQuiet result }
+    ensures unread { IsUnread result }
 {
     match entry.iter() {
         Ok(items) => read_records(alloc, place, items),
@@ -104,6 +107,10 @@ fn kept_records<D: CacheDisk>(
         ⊎ ((e ≡ VendorFault.Store place)
         × CountRose (D.faults disk.old) (D.faults disk.new))) }
     ensures quiet { IsQuiet result }
+    ensures failed { (q : List ℕ)
+        → cache_file_of index.now.cache.path (text_of name.entry) ≡ Some q
+        → AddsFailedRead (λ place. FailedReading q) (D.failed disk.old) (D.failed disk.new)
+        result }
     ensures later { D.faults disk.old ≤ D.faults disk.new }
     ensures same { D.tells → (q : List ℕ) → D.past disk.new q ≡ D.past disk.old q }
     ensures folders { D.tells → D.folders disk.new ≡ D.folders disk.old }
@@ -138,6 +145,7 @@ fn decided(
 ) -> Result<IndexVersion, VendorFault>
     ensures decided { result ≡ spec.decided place locked.now records }
     ensures quiet { IsQuiet result }
+    ensures unread { IsUnread result }
 {
     match deciding(records, locked.version.as_str()) {
         Some(record) => {
@@ -178,6 +186,7 @@ fn crate_bytes<F: Files>(
     ensures settled { IfErr result (λ e. (e ≡ VendorFault.NoMemory) ⊎ (IsTrue (is_of_package e))
         ⊎ ((e ≡ VendorFault.File path)
         × CountRose (F.faults files.old) (F.faults files.new))) }
+    ensures unread { IsUnread result }
     ensures later { F.faults files.old ≤ F.faults files.new }
     ensures failed { F.tells → AddsFailed (F.failed files.old) (F.failed files.new) result }
     ensures same { F.tells → F.host files.new ≡ F.host files.old }
@@ -207,6 +216,7 @@ fn valid_bytes(
         × (spec.valid_bytes place path version bytes.items ≡ Err e))) }
     ensures version { IfOk result (λ c. c.version ≡ version) }
     ensures quiet { IsQuiet result }
+    ensures unread { IsUnread result }
 {
     let found = Sha256::digest(bytes.as_slice());
     if found == version.checksum.0 {
@@ -246,6 +256,7 @@ fn check_crate<F: Files>(
         ⊎ ((e ≡ VendorFault.File (spec.crate_path crates.now version.name version.version))
         × CountRose (F.faults files.old) (F.faults files.new))) }
     ensures version { IfOk result (λ c. c.version ≡ version) }
+    ensures unread { IsUnread result }
     ensures later { F.faults files.old ≤ F.faults files.new }
     ensures failed { F.tells → AddsFailed (F.failed files.old) (F.failed files.new) result }
     ensures same { F.tells → F.host files.new ≡ F.host files.old }
@@ -295,6 +306,8 @@ pub fn check_package<F: Files, D: CacheDisk>(
     ensures disk_later { D.faults disk.old ≤ D.faults disk.new }
     ensures files_later { F.faults files.old ≤ F.faults files.new }
     ensures failed { F.tells → AddsFailed (F.failed files.old) (F.failed files.new) result }
+    ensures failed_disk { AddsFailedRead (FailsReadingOf index.now.cache.path locked.now)
+        (D.failed disk.old) (D.failed disk.new) result }
     ensures disk_same { D.tells → (q : List ℕ) → D.past disk.new q ≡ D.past disk.old q }
     ensures folders_same { D.tells → D.folders disk.new ≡ D.folders disk.old }
     ensures files_same { F.tells → F.host files.new ≡ F.host files.old }

@@ -4,7 +4,7 @@ ghost use Rattle.std.specs.List.{list_any};
 ghost use Rattle.tame_names.specs.Counts.{CountRose};
 ghost use Rattle.vendor_registry.specs.Checks.{IsCheckFault, IsStopped, all_checked, is_of_package, stock_of};
 ghost use Rattle.audit_core.specs.Paths as paths_spec;
-ghost use Rattle.vendor_registry.specs.Failed.{AddsFailed};
+ghost use Rattle.vendor_registry.specs.Failed.{AddsFailed, AddsFailedRead, FailsReadingAt};
 ghost use Rattle.audit_lock.specs.declared.resolving.Package.{Package};
 ghost use Rattle.vendor_registry.specs.Looked.{HasPairs, looked, stands_for};
 ghost use Rattle.vendor_registry.specs.Looked as spec;
@@ -85,6 +85,8 @@ pub fn check_packages<F: Files, D: CacheDisk>(
     ensures disk_later { D.faults disk.old ≤ D.faults disk.new }
     ensures files_later { F.faults files.old ≤ F.faults files.new }
     ensures failed { F.tells → AddsFailed (F.failed files.old) (F.failed files.new) result }
+    ensures failed_disk { AddsFailedRead (FailsReadingAt index.now.cache.path packages.now)
+        (D.failed disk.old) (D.failed disk.new) result }
     ensures disk_same { D.tells → (q : List ℕ) → D.past disk.new q ≡ D.past disk.old q }
     ensures folders_same { D.tells → D.folders disk.new ≡ D.folders disk.old }
     ensures files_same { F.tells → F.host files.new ≡ F.host files.old }

@@ -2,7 +2,7 @@
 ghost use Rattle.std.specs.Prelude.{◌≡◌, ◌≤◌, ℕ, List, Err};
 ghost use Rattle.tame_names.specs.Counts.{CountRose};
 ghost use Rattle.vendor_registry.specs.Checks.{stock_of};
-ghost use Rattle.vendor_registry.specs.Failed.{AddsFailed};
+ghost use Rattle.vendor_registry.specs.Failed.{AddsFailed, AddsFailedRead, FailsReadingAt};
 ghost use Rattle.vendor_registry.specs.Vendoring.{IsVendorAnswer, vendoring};
 
 use crate::building::build;
@@ -52,6 +52,9 @@ pub fn vendor<F: Files, D: CacheDisk>(
     ensures file { (path : List ℕ) → result ≡ Err (VendorFault.File path)
         → CountRose (F.faults files.old) (F.faults files.new) }
     ensures failed { F.tells → AddsFailed (F.failed files.old) (F.failed files.new) result }
+    ensures failed_disk { AddsFailedRead
+        (FailsReadingAt index.now.cache.path audited.now.lockfile)
+        (D.failed disk.old) (D.failed disk.new) result }
     ensures disk_later { D.faults disk.old ≤ D.faults disk.new }
     ensures files_later { F.faults files.old ≤ F.faults files.new }
     ensures disk_same { D.tells → (q : List ℕ) → D.past disk.new q ≡ D.past disk.old q }

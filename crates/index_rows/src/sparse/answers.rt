@@ -81,7 +81,7 @@ pub fn give(
     let body = body_of(alloc, words.word())?;
     let write = words.is("store", "leave")?;
     let response = Response {
-        status,
+        status_code: status,
         revision: revision.http(),
         body: body.as_slice(),
     };

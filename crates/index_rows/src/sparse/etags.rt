@@ -53,7 +53,7 @@ pub fn see(
     let status = words.status()?;
     let revision = RevisionWord::of(alloc, words.word())?;
     let response = Response {
-        status,
+        status_code: status,
         revision: revision.http(),
         body: b"",
     };

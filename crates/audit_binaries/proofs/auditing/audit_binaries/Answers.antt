@@ -10,7 +10,7 @@ pub returns-in_err-own-clause-cut : goal.returns-in_err-own-clause-cut
 returns-in_err-own-clause-cut g c =
     let tells : Tells = record { files = g.F.Files.tells; decoder = g.P.Decoder.tells; wire = g.W.Wire.tells; disk = g.D.CacheDisk.tells } in
     let scan : Scan = With c.args.auditor.now c.args.limits.now (g.F.Files.host c.args.files.now) (g.P.Decoder.answers c.args.decoder.now) in
-    let began : Outside = outside (g.W.Wire.exchanges c.args.wire.now) (g.D.CacheDisk.past c.args.disk.now) (g.W.Wire.faults c.args.wire.now) (g.D.CacheDisk.faults c.args.disk.now) (g.D.CacheDisk.folders c.args.disk.now) (g.F.Files.failed c.args.files.now) (g.F.Files.faults c.args.files.now) (g.P.Decoder.faults c.args.decoder.now) in
+    let began : Outside = outside (g.W.Wire.exchanges c.args.wire.now) (g.D.CacheDisk.past c.args.disk.now) (g.W.Wire.faults c.args.wire.now) (g.D.CacheDisk.faults c.args.disk.now) (g.D.CacheDisk.failed c.args.disk.now) (g.D.CacheDisk.folders c.args.disk.now) (g.F.Files.failed c.args.files.now) (g.F.Files.faults c.args.files.now) (g.P.Decoder.faults c.args.decoder.now) in
     if_err _ (partly_done tells scan began began c.args.paths.now 0 [] refl)
 
 pub returns-in_err-own-clause-kept : goal.returns-in_err-own-clause-kept
@@ -20,8 +20,8 @@ pub returns-clause-together : goal.returns-clause-together
 returns-clause-together g c =
     let tells : Tells = record { files = g.F.Files.tells; decoder = g.P.Decoder.tells; wire = g.W.Wire.tells; disk = g.D.CacheDisk.tells } in
     let scan : Scan = With c.args.auditor.now c.args.limits.now (g.F.Files.host c.args.files.now) (g.P.Decoder.answers c.args.decoder.now) in
-    let began : Outside = outside (g.W.Wire.exchanges c.args.wire.now) (g.D.CacheDisk.past c.args.disk.now) (g.W.Wire.faults c.args.wire.now) (g.D.CacheDisk.faults c.args.disk.now) (g.D.CacheDisk.folders c.args.disk.now) (g.F.Files.failed c.args.files.now) (g.F.Files.faults c.args.files.now) (g.P.Decoder.faults c.args.decoder.now) in
-    let ended : Outside = outside (g.W.Wire.exchanges c.audit_each.new.wire) (g.D.CacheDisk.past c.audit_each.new.disk) (g.W.Wire.faults c.audit_each.new.wire) (g.D.CacheDisk.faults c.audit_each.new.disk) (g.D.CacheDisk.folders c.audit_each.new.disk) (g.F.Files.failed c.audit_each.new.files) (g.F.Files.faults c.audit_each.new.files) (g.P.Decoder.faults c.audit_each.new.decoder) in
+    let began : Outside = outside (g.W.Wire.exchanges c.args.wire.now) (g.D.CacheDisk.past c.args.disk.now) (g.W.Wire.faults c.args.wire.now) (g.D.CacheDisk.faults c.args.disk.now) (g.D.CacheDisk.failed c.args.disk.now) (g.D.CacheDisk.folders c.args.disk.now) (g.F.Files.failed c.args.files.now) (g.F.Files.faults c.args.files.now) (g.P.Decoder.faults c.args.decoder.now) in
+    let ended : Outside = outside (g.W.Wire.exchanges c.audit_each.new.wire) (g.D.CacheDisk.past c.audit_each.new.disk) (g.W.Wire.faults c.audit_each.new.wire) (g.D.CacheDisk.faults c.audit_each.new.disk) (g.D.CacheDisk.failed c.audit_each.new.disk) (g.D.CacheDisk.folders c.audit_each.new.disk) (g.F.Files.failed c.audit_each.new.files) (g.F.Files.faults c.audit_each.new.files) (g.P.Decoder.faults c.audit_each.new.decoder) in
     let paths = c.as_slice.result.now in
     let answers = c.in_ok-answers.answers in
     let answered = c.in_ok-answers.ensures.answered in

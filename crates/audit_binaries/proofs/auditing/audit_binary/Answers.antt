@@ -15,6 +15,7 @@ returns-in-Ok-audit_text-clause-answered g c =
         said = opened.said;
         audit = done.audited;
         unasked = λ other. ap (g.W.Wire.exchanges) (done.calls.unasked other);
+        unchanged = λ other told. done.calls.unchanged other told;
         others = λ told. (done.asks _ lockfile).others told;
         folders = λ told. (done.asks _ lockfile).folders told;
         kept = done.kept;
@@ -36,14 +37,14 @@ returns-clause-cut g c =
     let tells : Tells = record { files = g.F.Files.tells; decoder = g.P.Decoder.tells; wire = g.W.Wire.tells; disk = g.D.CacheDisk.tells } in
     let scan : Scan = record { auditor = c.args.auditor.now; limits = c.args.limits.now; host = g.F.Files.host c.args.files.now; answers = g.P.Decoder.answers c.args.decoder.now } in
     let began : Outside = record {
-      moment = record { exchanges = g.W.Wire.exchanges c.args.wire.now; files = g.D.CacheDisk.past c.args.disk.now; wire_faults = g.W.Wire.faults c.args.wire.now; disk_faults = g.D.CacheDisk.faults c.args.disk.now };
+      moment = record { exchanges = g.W.Wire.exchanges c.args.wire.now; files = g.D.CacheDisk.past c.args.disk.now; wire_faults = g.W.Wire.faults c.args.wire.now; disk_faults = g.D.CacheDisk.faults c.args.disk.now; disk_failed = g.D.CacheDisk.failed c.args.disk.now };
       folders = g.D.CacheDisk.folders c.args.disk.now;
       failed = g.F.Files.failed c.args.files.now;
       file_faults = g.F.Files.faults c.args.files.now;
       decode_faults = g.P.Decoder.faults c.args.decoder.now;
     } in
     let ended : Outside = record {
-      moment = record { exchanges = g.W.Wire.exchanges c.audit_text.new.wire; files = g.D.CacheDisk.past c.audit_text.new.disk; wire_faults = g.W.Wire.faults c.audit_text.new.wire; disk_faults = g.D.CacheDisk.faults c.audit_text.new.disk };
+      moment = record { exchanges = g.W.Wire.exchanges c.audit_text.new.wire; files = g.D.CacheDisk.past c.audit_text.new.disk; wire_faults = g.W.Wire.faults c.audit_text.new.wire; disk_faults = g.D.CacheDisk.faults c.audit_text.new.disk; disk_failed = g.D.CacheDisk.failed c.audit_text.new.disk };
       folders = g.D.CacheDisk.folders c.audit_text.new.disk;
       failed = g.F.Files.failed c.open_binary.new.files;
       file_faults = g.F.Files.faults c.open_binary.new.files;

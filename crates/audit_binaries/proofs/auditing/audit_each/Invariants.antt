@@ -11,14 +11,14 @@ invariant-loop-path g l = record {
   answered : AreBinaries (record { files = g.F.Files.tells; decoder = g.P.Decoder.tells; wire = g.W.Wire.tells; disk = g.D.CacheDisk.tells })
       (record { auditor = l.auditor; limits = l.limits; host = g.F.Files.host l.initial.files; answers = g.P.Decoder.answers l.initial.decoder })
       (record {
-        moment = record { exchanges = g.W.Wire.exchanges l.initial.wire; files = g.D.CacheDisk.past l.initial.disk; wire_faults = g.W.Wire.faults l.initial.wire; disk_faults = g.D.CacheDisk.faults l.initial.disk };
+        moment = record { exchanges = g.W.Wire.exchanges l.initial.wire; files = g.D.CacheDisk.past l.initial.disk; wire_faults = g.W.Wire.faults l.initial.wire; disk_faults = g.D.CacheDisk.faults l.initial.disk; disk_failed = g.D.CacheDisk.failed l.initial.disk };
         folders = g.D.CacheDisk.folders l.initial.disk;
         failed = g.F.Files.failed l.initial.files;
         file_faults = g.F.Files.faults l.initial.files;
         decode_faults = g.P.Decoder.faults l.initial.decoder;
       })
       (record {
-        moment = record { exchanges = g.W.Wire.exchanges l.wire; files = g.D.CacheDisk.past l.disk; wire_faults = g.W.Wire.faults l.wire; disk_faults = g.D.CacheDisk.faults l.disk };
+        moment = record { exchanges = g.W.Wire.exchanges l.wire; files = g.D.CacheDisk.past l.disk; wire_faults = g.W.Wire.faults l.wire; disk_faults = g.D.CacheDisk.faults l.disk; disk_failed = g.D.CacheDisk.failed l.disk };
         folders = g.D.CacheDisk.folders l.disk;
         failed = g.F.Files.failed l.files;
         file_faults = g.F.Files.faults l.files;

@@ -3,6 +3,7 @@ use Rattle.audit_core.specs.Paths.{asked_paths, default_paths, defaults}
 use Rattle.audit_core.specs.declared.asking.AnsweredTurn.{AnsweredTurn}
 use Rattle.tame_names.specs.Names.{path}
 use Rattle.audit_core.proofs.Apart.{asked_distinct}
+use Rattle.audit_core.proofs.FailedLemmas.{read_done}
 use Rattle.audit_core.proofs.Names.{names_valid}
 use Rattle.audit_core.proofs.Recalls.{recalled_done}
 use Rattle.audit_core.proofs.Whole.{IsDone, caused_done, answered_paths, turns_done}
@@ -39,4 +40,10 @@ returns-clause-says g c =
       };
       counted = turns_done (asked_paths packages) (defaults packages) hs verdicts _ _ _ _ done c.in_ok-answered_turns.ensures.counts;
       caused = caused_done (asked_paths packages) (defaults packages) hs verdicts done c.in_ok-answered_turns.ensures.caused;
+      failed = record {
+        exchanged = λ online. absurd (cc);
+        asked = λ online. absurd (cc);
+        read = λ offline. read_done (asked_paths packages) (defaults packages) hs verdicts _ _ done c.in_ok-answered_turns.ensures.blames;
+        off = λ off. absurd (cc);
+      };
     }

@@ -2,7 +2,9 @@ use Rattle.std.proofs.Common.{◌≡◌, Some, map, ap, ◌∙◌, refl}
 use Rattle.audit_core.specs.declared.asking.AnsweredTurn.{AnsweredTurn}
 use Rattle.tame_names.specs.Names.{path}
 use Rattle.audit_core.proofs.Apart.{asked_distinct}
+use Rattle.audit_core.specs.Turns.{disk_at}
 use Rattle.audit_core.proofs.Exchanged.{keeps_nothing}
+use Rattle.audit_core.proofs.FailedLemmas.{asked_done, exchanged_done}
 use Rattle.audit_core.proofs.Left.{asks_nothing}
 use Rattle.tame_cache.proofs.FolderLemmas.{made_weaker}
 use Rattle.audit_core.proofs.Names.{asked_file, named_part, names_valid, no_file_of}
@@ -31,6 +33,7 @@ pub returns-clause-says : goal.returns-clause-says
 returns-clause-says g c =
     let exchanges = g.W.Wire.exchanges in
     let past = g.D.CacheDisk.past in
+    let failed = g.D.CacheDisk.failed in
     let packages = c.args.packages.now in
     let plan = c.in_ok-plan in
     let hs = c.in_ok-answered_turns.answered_turns in
@@ -41,11 +44,18 @@ returns-clause-says g c =
       judged = rw c.as_slice-2.ensures at c.in_ok-verdicts.ensures;
     } in
     rw c.in_ok-turns.ensures record {
-      headline = λ online told_wire told. held_done g.D.CacheDisk.tells told (asked_paths packages) (defaults packages) hs verdicts (exchanges c.args.wire.now) (exchanges c.ask.new.wire) (past c.args.disk.now) (past c.ask.new.disk) done c.in_ok-answered_turns.ensures.caused (c.in_ok-answered_turns.ensures.said told_wire);
-      audited = λ online told. audit_done g.D.CacheDisk.tells (asked_paths packages) (defaults packages) hs verdicts (exchanges c.args.wire.now) (exchanges c.ask.new.wire) (past c.args.disk.now) (past c.ask.new.disk) done (c.in_ok-answered_turns.ensures.said told);
+      headline = λ online told_wire told. held_done g.D.CacheDisk.tells told (asked_paths packages) (defaults packages) hs verdicts (exchanges c.args.wire.now) (exchanges c.ask.new.wire) (disk_at (past c.args.disk.now) (failed c.args.disk.now)) (disk_at (past c.ask.new.disk) (failed c.ask.new.disk)) done c.in_ok-answered_turns.ensures.caused (c.in_ok-answered_turns.ensures.said told_wire);
+      audited = λ online told. audit_done g.D.CacheDisk.tells (asked_paths packages) (defaults packages) hs verdicts (exchanges c.args.wire.now) (exchanges c.ask.new.wire) (disk_at (past c.args.disk.now) (failed c.args.disk.now)) (disk_at (past c.ask.new.disk) (failed c.ask.new.disk)) done (c.in_ok-answered_turns.ensures.said told);
       recalled = λ offline. absurd (cc);
       counted = turns_done (asked_paths packages) (defaults packages) hs verdicts _ _ _ _ done c.in_ok-answered_turns.ensures.counts;
       caused = caused_done (asked_paths packages) (defaults packages) hs verdicts done c.in_ok-answered_turns.ensures.caused;
+      failed = record {
+        exchanged = λ online told_wire told. exchanged_done g.D.CacheDisk.tells told (asked_paths packages) (defaults packages) hs verdicts (exchanges c.args.wire.now) (exchanges c.ask.new.wire)
+            (disk_at (past c.args.disk.now) (failed c.args.disk.now)) (disk_at (past c.ask.new.disk) (failed c.ask.new.disk)) done (c.in_ok-answered_turns.ensures.said told_wire);
+        asked = λ online told. asked_done (asked_paths packages) (defaults packages) hs verdicts _ _ done (c.in_ok-answered_turns.ensures.fails told);
+        read = λ offline. absurd (cc);
+        off = λ off. absurd (cc);
+      };
     }
 
 pub returns-in_err-index-clause-asks : goal.returns-in_err-index-clause-asks
@@ -69,7 +79,7 @@ returns-in_err-verdicts-clause-asks g c =
     let plan = c.in_ok-plan in
     record {
       part = λ told. AddsTurns-part g.D.CacheDisk.tells (asked_paths c.args.packages.now) c.in_ok-answered_turns.answered_turns (g.W.Wire.exchanges c.args.wire.now) (g.W.Wire.exchanges c.ask.new.wire)
-          (g.D.CacheDisk.past c.args.disk.now) (g.D.CacheDisk.past c.ask.new.disk) (c.in_ok-answered_turns.ensures.paths ∙ ap (map path) c.as_slice.ensures ∙ plan.ensures.named)
+          (disk_at (g.D.CacheDisk.past c.args.disk.now) (g.D.CacheDisk.failed c.args.disk.now)) (disk_at (g.D.CacheDisk.past c.ask.new.disk) (g.D.CacheDisk.failed c.ask.new.disk)) (c.in_ok-answered_turns.ensures.paths ∙ ap (map path) c.as_slice.ensures ∙ plan.ensures.named)
           (c.in_ok-answered_turns.ensures.said told);
       others = λ told q other. c.ask.ensures.others told q (rw c.as_slice.ensures (no_file_of plan.plan.names (asked_paths c.args.packages.now) q plan.ensures.named other));
       folders = λ told. made_weaker _ _ (λ q is. asked_file plan.plan.names (asked_paths c.args.packages.now) q plan.ensures.named is) _ _ (rw c.as_slice.ensures at (c.ask.ensures.folders told));
@@ -80,7 +90,7 @@ returns-in_err-turns-clause-asks g c =
     let plan = c.in_ok-plan in
     record {
       part = λ told. AddsTurns-part g.D.CacheDisk.tells (asked_paths c.args.packages.now) c.in_ok-answered_turns.answered_turns (g.W.Wire.exchanges c.args.wire.now) (g.W.Wire.exchanges c.ask.new.wire)
-          (g.D.CacheDisk.past c.args.disk.now) (g.D.CacheDisk.past c.ask.new.disk) (c.in_ok-answered_turns.ensures.paths ∙ ap (map path) c.as_slice.ensures ∙ plan.ensures.named)
+          (disk_at (g.D.CacheDisk.past c.args.disk.now) (g.D.CacheDisk.failed c.args.disk.now)) (disk_at (g.D.CacheDisk.past c.ask.new.disk) (g.D.CacheDisk.failed c.ask.new.disk)) (c.in_ok-answered_turns.ensures.paths ∙ ap (map path) c.as_slice.ensures ∙ plan.ensures.named)
           (c.in_ok-answered_turns.ensures.said told);
       others = λ told q other. c.ask.ensures.others told q (rw c.as_slice.ensures (no_file_of plan.plan.names (asked_paths c.args.packages.now) q plan.ensures.named other));
       folders = λ told. made_weaker _ _ (λ q is. asked_file plan.plan.names (asked_paths c.args.packages.now) q plan.ensures.named is) _ _ (rw c.as_slice.ensures at (c.ask.ensures.folders told));
@@ -91,7 +101,7 @@ returns-clause-asks g c =
     let plan = c.in_ok-plan in
     record {
       part = λ told. AddsTurns-part g.D.CacheDisk.tells (asked_paths c.args.packages.now) c.in_ok-answered_turns.answered_turns (g.W.Wire.exchanges c.args.wire.now) (g.W.Wire.exchanges c.ask.new.wire)
-          (g.D.CacheDisk.past c.args.disk.now) (g.D.CacheDisk.past c.ask.new.disk) (c.in_ok-answered_turns.ensures.paths ∙ ap (map path) c.as_slice.ensures ∙ plan.ensures.named)
+          (disk_at (g.D.CacheDisk.past c.args.disk.now) (g.D.CacheDisk.failed c.args.disk.now)) (disk_at (g.D.CacheDisk.past c.ask.new.disk) (g.D.CacheDisk.failed c.ask.new.disk)) (c.in_ok-answered_turns.ensures.paths ∙ ap (map path) c.as_slice.ensures ∙ plan.ensures.named)
           (c.in_ok-answered_turns.ensures.said told);
       others = λ told q other. c.ask.ensures.others told q (rw c.as_slice.ensures (no_file_of plan.plan.names (asked_paths c.args.packages.now) q plan.ensures.named other));
       folders = λ told. made_weaker _ _ (λ q is. asked_file plan.plan.names (asked_paths c.args.packages.now) q plan.ensures.named is) _ _ (rw c.as_slice.ensures at (c.ask.ensures.folders told));

@@ -1,7 +1,7 @@
 use Rattle.std.proofs.Common.{◌≡◌, ◌∷◌, [], ◌++◌, map, ◌∙◌, refl}
 use Rattle.std.proofs.lemmas.List.{map-append}
 use Rattle.audit_core.specs.declared.asking.AnsweredTurn.{AnsweredTurn}
-use Rattle.audit_core.proofs.Recalls.{recalled_from, recalled_more, unasked_more}
+use Rattle.audit_core.proofs.Recalls.{blames_more, recalled_from, recalled_more, unasked_more}
 use Rattle.audit_core.proofs.Steps.{AreCaused-more, Chains-more, name_at, paths_more}
 use Rattle.audit_core.proofs.recalling.recall_all.Goals as goal
 
@@ -13,6 +13,7 @@ loop-name-init g c =
       unasked = tt;
       caused = tt;
       recalled = tt;
+      blames = refl;
       same = λ told q. refl;
       folders = λ told. refl;
     }
@@ -33,6 +34,7 @@ loop-name-preserved g c =
       caused = AreCaused-more _ _ inv.caused turn.ensures.caused;
       recalled = recalled_more g.D.CacheDisk.tells (past c.args.disk.now) c.loop-name.answered_turns (turn.turn ∷ []) inv.recalled
           (recalled_from g.D.CacheDisk.tells (past c.args.disk.now) (past c.loop-name.disk) (turn.turn ∷ []) inv.same turn.ensures.recalled);
+      blames = blames_more _ c.loop-name.answered_turns (turn.turn ∷ []) _ _ inv.blames turn.ensures.blames;
       same = λ told q. c.recall_turn.ensures.same told q ∙ inv.same told q;
       folders = λ told. c.recall_turn.ensures.folders told ∙ inv.folders told;
     }

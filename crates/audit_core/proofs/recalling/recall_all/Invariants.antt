@@ -1,5 +1,6 @@
 use Rattle.std.proofs.Common.{◌≡◌, ℕ, List, Some, map, take}
 use Rattle.tame_names.specs.Names.{path}
+use Rattle.audit_core.specs.FailedReads.{BlameReads}
 use Rattle.audit_core.specs.Recalled.{AreRecalled, AreUnasked}
 use Rattle.audit_core.specs.Turns.{AreCaused, Chains}
 use Rattle.audit_core.specs.declared.asking.AnsweredTurn.{AnsweredTurn}
@@ -12,6 +13,7 @@ invariant-loop-name g l = record {
   unasked : AreUnasked (map (λ (h : AnsweredTurn). h.turn) l.answered_turns);
   caused : AreCaused l.answered_turns;
   recalled : AreRecalled g.D.CacheDisk.tells (g.D.CacheDisk.past l.initial.disk) l.answered_turns;
+  blames : BlameReads (g.D.CacheDisk.failed l.initial.disk) l.answered_turns (g.D.CacheDisk.failed l.disk);
   same : g.D.CacheDisk.tells → (q : List ℕ) → g.D.CacheDisk.past l.disk q ≡ g.D.CacheDisk.past l.initial.disk q;
   folders : g.D.CacheDisk.tells → g.D.CacheDisk.folders l.disk ≡ g.D.CacheDisk.folders l.initial.disk;
 }

@@ -15,3 +15,9 @@ returns-clause-recalled g c = (
       ],
   tt,
 )
+
+pub returns-clause-blames : goal.returns-clause-blames
+returns-clause-blames g c =
+    let at : path (text_of c.krate_name-krate.result) ≡ Some c.in_ok-path.path = c.in_ok-path.ensures.path refl in
+    let place : cache_file_of [] (text_of c.krate_name-krate.result) ≡ Some (cache_file [] c.in_ok-path.path) = ap (λ o. option_map (cache_file []) o) at in
+    (_, c.in_ok-answer.ensures.blames _ place, refl)

@@ -23,7 +23,7 @@ returns-in-Ok g c starts start_faults =
     let paths = c.args.more.now.binary_paths in
     let host = g.F.Files.host c.args.files.now in
     let entry : World = world (g.W.Wire.exchanges c.args.wire.now) (g.W.Wire.faults c.args.wire.now)
-    (g.D.CacheDisk.past c.args.disk.now) (g.D.CacheDisk.folders c.args.disk.now) (g.D.CacheDisk.faults c.args.disk.now)
+    (g.D.CacheDisk.past c.args.disk.now) (g.D.CacheDisk.folders c.args.disk.now) (g.D.CacheDisk.faults c.args.disk.now) (g.D.CacheDisk.failed c.args.disk.now)
     (g.F.Files.host c.ask_for_binaries.new.files) (g.F.Files.failed c.ask_for_binaries.new.files) (g.F.Files.faults c.ask_for_binaries.new.files)
     (g.P.Decoder.answers c.args.decoder.now) (g.P.Decoder.faults c.args.decoder.now) starts start_faults
     (g.O.Sink.holds c.args.out.now) (g.O.Sink.faults c.args.out.now) (g.E.Sink.holds c.args.err.now) (g.E.Sink.faults c.args.err.now) in

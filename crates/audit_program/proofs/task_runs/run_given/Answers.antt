@@ -97,7 +97,7 @@ returns-in-Err-made g c decodes decode_faults =
     let Q : RunFault → Type 0 = λ e. IsEarly c.args.task.now.remedy e → (Some c.in-Ok-audit.audited ≡ None) × (c.failed-in-Err-made.result.binaries ≡ None) in
     rw c.with_audit.ensures record {
       audited = record {
-        left = moment (g.W.Wire.exchanges c.audit.new.wire) (g.D.CacheDisk.past c.audit.new.disk) (g.W.Wire.faults c.audit.new.wire) (g.D.CacheDisk.faults c.audit.new.disk);
+        left = moment (g.W.Wire.exchanges c.audit.new.wire) (g.D.CacheDisk.past c.audit.new.disk) (g.W.Wire.faults c.audit.new.wire) (g.D.CacheDisk.faults c.audit.new.disk) (g.D.CacheDisk.failed c.audit.new.disk);
         audit = rw (c.in-Ok.ensures, c.as_str.ensures) at c.in-Ok-audit.ensures.audited;
         it = Err f;
         is_made = rw c.in-Ok.ensures at (c.in-Err-made.ensures.made (g.W.Wire.exchanges c.audit.new.wire) (g.W.Wire.faults c.audit.new.wire));
@@ -144,7 +144,7 @@ returns-in-Ok-finish g c decodes decode_faults =
     let f = rw (c.in-Ok.ensures, c.as_str-2.ensures, c.as_str-3.ensures) at c.in-Ok-finish.ensures.finished in
     rw (c.with_audit-in-Ok-finish.ensures, c.of_status.ensures) record {
       audited = record {
-        left = moment (g.W.Wire.exchanges c.audit.new.wire) (g.D.CacheDisk.past c.audit.new.disk) (g.W.Wire.faults c.audit.new.wire) (g.D.CacheDisk.faults c.audit.new.disk);
+        left = moment (g.W.Wire.exchanges c.audit.new.wire) (g.D.CacheDisk.past c.audit.new.disk) (g.W.Wire.faults c.audit.new.wire) (g.D.CacheDisk.faults c.audit.new.disk) (g.D.CacheDisk.failed c.audit.new.disk);
         audit = rw (c.in-Ok.ensures, c.as_str.ensures) at c.in-Ok-audit.ensures.audited;
         it = Ok c.in-Ok-made.made;
         is_made = rw c.in-Ok.ensures at (c.in-Ok-made.ensures.made (g.W.Wire.exchanges c.audit.new.wire) (g.W.Wire.faults c.audit.new.wire));
@@ -193,7 +193,7 @@ returns g c decodes decode_faults =
     let Q : RunFault → Type 0 = λ e. IsEarly remedy e → (Some c.in-Ok-audit.audited ≡ None) × (c.failed-in-Err-finish.result.binaries ≡ None) in
     rw c.with_audit-in-Err-finish.ensures record {
       audited = record {
-        left = moment (g.W.Wire.exchanges c.audit.new.wire) (g.D.CacheDisk.past c.audit.new.disk) (g.W.Wire.faults c.audit.new.wire) (g.D.CacheDisk.faults c.audit.new.disk);
+        left = moment (g.W.Wire.exchanges c.audit.new.wire) (g.D.CacheDisk.past c.audit.new.disk) (g.W.Wire.faults c.audit.new.wire) (g.D.CacheDisk.faults c.audit.new.disk) (g.D.CacheDisk.failed c.audit.new.disk);
         audit = rw (c.in-Ok.ensures, c.as_str.ensures) at c.in-Ok-audit.ensures.audited;
         it = Ok c.in-Ok-made.made;
         is_made = rw c.in-Ok.ensures at (c.in-Ok-made.ensures.made (g.W.Wire.exchanges c.audit.new.wire) (g.W.Wire.faults c.audit.new.wire));

@@ -10,6 +10,6 @@ invariant-loop-number g l = record {
   stays : g.F.Files.tells → IsLeft (g.F.Files.locks l.fn.files) (g.F.Files.locks l.files);
   same : g.F.Files.tells → g.F.Files.host l.files ≡ g.F.Files.host l.fn.files;
   left : g.F.Files.tells → (now : LockMoment) (r : Result Unit LockError)
-      → AreTries (l.times - l._number) l.path l.exclusive (lock_moment (g.F.Files.locks l.files) (g.F.Files.host l.files) (g.F.Files.faults l.files)) now r
-      → AreTries l.times l.path l.exclusive (lock_moment (g.F.Files.locks l.fn.files) (g.F.Files.host l.fn.files) (g.F.Files.faults l.fn.files)) now r;
+      → AreTries (l.times - l._number) l.path l.exclusive (lock_moment (g.F.Files.locks l.files) (g.F.Files.host l.files) (g.F.Files.faults l.files) (g.F.Files.failed l.files)) now r
+      → AreTries l.times l.path l.exclusive (lock_moment (g.F.Files.locks l.fn.files) (g.F.Files.host l.fn.files) (g.F.Files.faults l.fn.files) (g.F.Files.failed l.fn.files)) now r;
 }

@@ -4,13 +4,14 @@ use Rattle.std.proofs.lemmas.Grind.{common_steps}
 use Rattle.std.proofs.lemmas.List.{map-append}
 use Rattle.std.proofs.lemmas.Option.{slice_get_read}
 use Rattle.tame_cache.specs.Disk.{reads}
+use Rattle.audit_core.proofs.FailedLemmas.{steps_more}
 use Rattle.audit_core.proofs.Lists.{drop_at}
-use Rattle.upgrade_plan.specs.Plans.{IsPlannedAt, IsPlanOf, has_vulnerability, vulnerable_places}
+use Rattle.upgrade_plan.specs.Plans.{IsPlannedAt, IsPlanOf, ReadsOwn, has_vulnerability, vulnerable_places}
 use Rattle.audit_advisory.specs.declared.reports.Report.{Report}
 use Rattle.upgrade_plan.specs.declared.plans.PlanItem.{PlanItem}
 use Rattle.upgrade_plan.proofs.Lowering.{both}
 use Rattle.upgrade_plan.proofs.Hitting.{vulnerable_are_hit}
-use Rattle.upgrade_plan.proofs.Planning.{all_places, place_kept, place_passed, rose_more, same_plan}
+use Rattle.upgrade_plan.proofs.Planning.{all_places, place_kept, place_passed, read_own, rose_more, same_plan}
 use Rattle.upgrade_plan.proofs.plans.plan.Goals as goal
 use Rattle.upgrade_plan.proofs.plans.plan.Goals.{then-index+in_ok-outcome+in_ok-add, else-index}
 
@@ -38,6 +39,7 @@ loop-i-preserved g c =
             packages = rw (map-append, add-one) (place_kept test _ (map (λ (x : PlanItem). x.«package») c.loop-i.items) i p _ _ left tested inv.packages);
             planned = both Planned c.loop-i.items (item ∷ []) inv.planned (subst (λ o. IfSome o (λ x. IsPlanOf g.D.CacheDisk.tells settings database cache files x w.in_ok-outcome.outcome)) (sym there) one, tt);
             stores = rose_more c.loop-i.items item _ _ _ inv.stores w.outcome_of.ensures.later w.in_ok-outcome.ensures.store;
+            reads = steps_more (ReadsOwn cache packages) _ c.loop-i.items (item ∷ []) _ _ inv.reads (_, read_own cache packages item p _ _ there w.in_ok-outcome.ensures.reads, refl);
             later = omega (arith, inv.later, w.outcome_of.ensures.later);
             same = λ t q. w.outcome_of.ensures.same t q ∙ inv.same t q;
             folders = λ t. w.outcome_of.ensures.folders t ∙ inv.folders t;
@@ -48,6 +50,7 @@ loop-i-preserved g c =
             packages = rw add-one (place_passed test _ (map (λ (x : PlanItem). x.«package») c.loop-i.items) i p _ _ left tested inv.packages);
             planned = inv.planned;
             stores = inv.stores;
+            reads = inv.reads;
             later = inv.later;
             same = inv.same;
             folders = inv.folders;

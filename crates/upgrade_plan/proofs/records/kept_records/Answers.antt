@@ -1,6 +1,6 @@
 use Rattle.tame_cache.specs.Disk.{reads}
 use Rattle.audit_core.proofs.Lists.{if_ok}
-use Rattle.upgrade_plan.proofs.Recording.{handed_records, store_failed, taken_of_cache}
+use Rattle.upgrade_plan.proofs.Recording.{handed_records, read_quiet, store_failed, store_read, taken_of_cache}
 use Rattle.upgrade_plan.proofs.records.kept_records.Goals as goal
 
 pub returns-clause-read : goal.returns-clause-read
@@ -19,3 +19,13 @@ returns-clause-store g c =
 
 pub returns-clause-own : goal.returns-clause-own
 returns-clause-own g c = if_ok c.taken_records.result (taken_of_cache c.cached_krate-taken.result) c.taken_records.ensures
+
+pub returns-clause-store_failed : goal.returns-clause-store_failed
+returns-clause-store_failed g c q place =
+    let t = c.cached_krate-taken in
+    if_ok c.taken_records.result (λ r h store. store_read q _ _ t.result r (t.ensures.failed q place) h store) c.taken_records.ensures
+
+pub returns-clause-unfailed : goal.returns-clause-unfailed
+returns-clause-unfailed g c q place =
+    let t = c.cached_krate-taken in
+    if_ok c.taken_records.result (λ r h other. read_quiet q _ _ t.result r (t.ensures.failed q place) h other) c.taken_records.ensures

@@ -1,6 +1,6 @@
 use Rattle.std.proofs.Common.{◌≡◌, ◌-◌, ◌^◌, min, List, sym, ap, ◌∙◌, subst}
 use Rattle.tame_local.specs.Builders.{AreBegun, after, size_of}
-use Rattle.vendor_registry.specs.Built.{IsFilled, path_made}
+use Rattle.vendor_registry.specs.Built.{IsFilled, IsTakenAt, path_made}
 use Rattle.vendor_registry.specs.Named.{ArePathed}
 use Rattle.vendor_registry.specs.Vendored.{on}
 use Rattle.vendor_registry.specs.declared.checks.Checked.{Checked}
@@ -45,7 +45,10 @@ returns-clause-count g c = λ cs groups pathed.
     (c.insert_path.ensures.count (subst ArePathed (sym is) (pathed_on q cs pathed)))
 
 pub returns-clause-taken : goal.returns-clause-taken
-returns-clause-taken g c = λ told cs groups pathed.
+returns-clause-taken g c = λ told cs groups pathed n is.
     let q = c.args.path.now in
-    let is : c.group_on.result.now ≡ on q cs = c.group_on.ensures ∙ groups q in
-    c.insert_path.ensures.taken told (subst ArePathed (sym is) (pathed_on q cs pathed))
+    let group : List Checked = c.group_on.result.now in
+    let are : group ≡ on q cs = c.group_on.ensures ∙ groups q in
+    let same : on q group ≡ on q cs = ap (on q) are ∙ on_twice q cs in
+    subst (λ (xs : List Checked). IsTakenAt c.args.builder.now.path q xs (g.F.Files.host c.args.files.now)) same
+    (c.insert_path.ensures.taken told (subst ArePathed (sym are) (pathed_on q cs pathed)) n is)

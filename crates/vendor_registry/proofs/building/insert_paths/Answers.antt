@@ -30,9 +30,9 @@ loop-path-preserved g c =
       filled = λ told cs groups pathed is.
           inv.filled told cs groups pathed
           (filled_more folder cs q c.as_str.result.now (drop (i + 1) ps) (drop i ps) (g.F.Files.host c.loop-path.files) _ at same (c.in-Ok.ensures.made told cs groups pathed) (c.in-Ok.ensures.filled told cs groups pathed) is);
-      taken = λ told cs groups pathed is.
-          inv.taken told cs groups pathed
-          (taken_more folder cs q c.as_str.result.now (drop (i + 1) ps) (drop i ps) (g.F.Files.host c.loop-path.files) _ at same (c.in-Ok.ensures.made told cs groups pathed) is);
+      taken = λ told cs groups pathed now is.
+          inv.taken told cs groups pathed now
+          (taken_more folder cs q c.as_str.result.now (drop (i + 1) ps) (drop i ps) (g.F.Files.host c.loop-path.files) _ now at same (c.in-Ok.ensures.made told cs groups pathed) (c.in-Ok.ensures.filled told cs groups pathed) is);
       failed = λ told. c.in-Ok.ensures.failed told ∙ inv.failed told;
       fits = omega (arith, c.saturating_add-written.ensures);
       count = λ cs groups pathed.
@@ -67,9 +67,9 @@ returns-in-Err-clause-taken g c = λ told cs groups pathed n is.
     let i : ℕ = c.loop-path.path-index in
     let q : List ℕ = c.path-item.result in
     let at = next_left ps i q (drop_at ps i q c.loop-path-test.true c.path-item.is) in
-    c.loop-path.invariant.taken told cs groups pathed
-    (taken_here c.args.builder.now.path cs q c.as_str.result.now (drop (i + 1) ps) (drop i ps) (g.F.Files.host c.loop-path.files) at c.as_str.ensures
-    (c.in-Err.ensures.taken told cs groups pathed n is))
+    c.loop-path.invariant.taken told cs groups pathed _
+    (taken_here c.args.builder.now.path cs q c.as_str.result.now (drop (i + 1) ps) (drop i ps) (g.F.Files.host c.loop-path.files) _ at c.as_str.ensures
+    (c.in-Err.ensures.taken told cs groups pathed n is) (c.in-Err.ensures.unmade told n is))
 
 last_count : (all w l : ℕ) → min all (2 ^ 64 - 1) ≡ min (w + l) (2 ^ 64 - 1) → l ≡ 0 → w ≤ 2 ^ 64 - 1 → w ≡ min all (2 ^ 64 - 1)
 last_count all w l h k i = omega (arith, h, k, i)

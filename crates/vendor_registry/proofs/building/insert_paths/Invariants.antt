@@ -20,9 +20,9 @@ invariant-loop-path g l = record {
   filled : g.F.Files.tells → (cs : List Checked) → AreGroups cs l.groups → ArePathed cs
       → AreFilled l.builder.path cs (drop l.path-index l.paths) (g.F.Files.host l.files)
       → AreFilled l.builder.path cs l.paths (g.F.Files.host l.fn.files);
-  taken : g.F.Files.tells → (cs : List Checked) → AreGroups cs l.groups → ArePathed cs
-      → IsTaken l.builder.path cs (drop l.path-index l.paths) (g.F.Files.host l.files)
-      → IsTaken l.builder.path cs l.paths (g.F.Files.host l.fn.files);
+  taken : g.F.Files.tells → (cs : List Checked) → AreGroups cs l.groups → ArePathed cs → (now : Host)
+      → IsTaken l.builder.path cs (drop l.path-index l.paths) (g.F.Files.host l.files) now
+      → IsTaken l.builder.path cs l.paths (g.F.Files.host l.fn.files) now;
   failed : g.F.Files.tells → g.F.Files.failed l.files ≡ g.F.Files.failed l.fn.files;
   fits : l.written ≤ 2 ^ 64 - 1;
   count : (cs : List Checked) → AreGroups cs l.groups → ArePathed cs → min (size_of (paths_made l.builder.path cs l.paths)) (2 ^ 64 - 1)

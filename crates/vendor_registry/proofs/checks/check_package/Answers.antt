@@ -6,6 +6,8 @@ use Rattle.tame_cache.specs.Kept.{cache_file, cache_file_of}
 use Rattle.vendor_registry.specs.Checks.{Stock, checked, crate_checked, stock_of}
 use Rattle.vendor_registry.proofs.Decided.{crate_read, deciding_text}
 use Rattle.vendor_registry.proofs.Facts.{checked_is, decided_ok, package_ok, package_refused, text_ok}
+use Rattle.vendor_registry.specs.Failed.{FailsReadingOf}
+use Rattle.vendor_registry.proofs.Unread.{read_of, unread_adds}
 use Rattle.vendor_registry.proofs.checks.check_package.Goals as goal
 
 pub returns-clause-ok : goal.returns-clause-ok
@@ -42,3 +44,11 @@ returns-clause-file g c = λ at is.
     let same = decided_ok c.args.place c.args.locked.now c.in_ok-records.records c.in_ok-version.version (sym c.in_ok-version.ensures.decided) in
     let version = deciding_text c.args.locked.now.version c.in_ok-records.records c.in_ok-version.version same.0 in
     crate_read c.args.crates.now c.in_ok-version.version c.args.locked.now c.check_crate.result _ same.1 version at is c.check_crate.ensures.settled
+
+pub returns-clause-failed_disk : goal.returns-clause-failed_disk
+returns-clause-failed_disk g c =
+    let q : List ℕ = c.in_ok-path.path in
+    let text : path (text_of c.in-Ok.name) ≡ Some q = c.in_ok-path.ensures.path refl in
+    let there : cache_file_of c.args.index.now.cache.path (text_of c.in-Ok.name) ≡ Some (cache_file c.args.index.now.cache.path q) = ap (option_map (cache_file c.args.index.now.cache.path)) text in
+    unread_adds (FailsReadingOf c.args.index.now.cache.path c.args.locked.now) (g.D.CacheDisk.failed c.args.disk.now) (g.D.CacheDisk.failed c.kept_records.new.disk) c.check_crate.result
+    c.check_crate.ensures.unread (c.in_ok-records.ensures.failed (cache_file c.args.index.now.cache.path q) there)

@@ -1,5 +1,7 @@
-use Rattle.std.proofs.Common.{◌≡◌, ◌<◌, ℕ, suc, ◌+◌, List, [], ◌∷◌, ◌++◌, length, drop, take, get_or, sym, ap, ◌∙◌, subst, arith, Err}
+use Rattle.std.proofs.Common.{◌≡◌, ◌<◌, ℕ, suc, ◌+◌, List, [], ◌∷◌, ◌++◌, length, drop, take, get_or, sym, ap, ◌∙◌, subst, arith, Some, Err}
+use Rattle.std.specs.List.{slice_get}
 use Rattle.std.proofs.lemmas.List.{take_more}
+use Rattle.std.proofs.lemmas.Option.{slice_get-get_or}
 use Rattle.audit_core.proofs.Lists.{drop_at}
 use Rattle.audit_lock.specs.declared.resolving.Package.{Package}
 use Rattle.vendor_registry.specs.Checks.{Stock, stock_of}
@@ -7,6 +9,7 @@ use Rattle.vendor_registry.specs.Looked.{HasPairs, looked}
 use Rattle.vendor_registry.specs.declared.looking.Pair.{Pair}
 use Rattle.vendor_registry.proofs.Firsts.{looked_is}
 use Rattle.vendor_registry.proofs.Ahead.{passed_here, refused_here, same_check, taken_here, texts_more}
+use Rattle.vendor_registry.proofs.Unread.{read_at}
 use Rattle.vendor_registry.proofs.Reached.{front_passed, front_taken, reached_at, stopped_by}
 use Rattle.vendor_registry.proofs.looking.check_packages.Goals as goal
 use Rattle.vendor_registry.proofs.looking.check_packages.Goals.{then-first+in-Ok+in_ok-add-in-Ok, else-first}
@@ -17,6 +20,10 @@ next_left ps i p h = let next : suc i ≡ i + 1 = omega arith in h ∙ ap (λ n.
 -- the pairs behind the next package
 pairs_next : (all : List Package) (i : ℕ) (p : Package) (keys : List Pair) → i < length all → p ≡ get_or all i p → HasPairs keys (take i all ++ p ∷ []) → HasPairs keys (take (i + 1) all)
 pairs_next all i p keys low at h = subst (HasPairs keys) (ap (λ (q : Package). take i all ++ q ∷ []) at ∙ sym (take_more all i p low)) h
+
+-- the package at a place
+got_at : (all : List Package) (i : ℕ) (p : Package) → i < length all → p ≡ get_or all i p → slice_get all i ≡ Some p
+got_at all i p low at = slice_get-get_or all i p low ∙ ap Some (sym at)
 
 pub returns-in-Err-clause-refused : goal.returns-in-Err-clause-refused
 returns-in-Err-clause-refused g c told_f told_d told =
@@ -44,6 +51,14 @@ returns-in-Err-clause-stopped g c told_f told_d =
     (reached_at stock all i p c.loop-place.checked c.loop-place-test.true c.index-packages-place.is (first ∙ c.if-first.true) (inv.done told_f told_d))
     (λ n is. (c.in-Err.ensures.store n (ap Err is)).0) (λ path is. (c.in-Err.ensures.file path (ap Err is)).0)
 
+pub returns-in-Err-clause-failed_disk : goal.returns-in-Err-clause-failed_disk
+returns-in-Err-clause-failed_disk g c =
+    let all : List Package = c.args.packages.now in
+    let i : ℕ = c.loop-place.place in
+    let p : Package = c.index-packages-place.result in
+    read_at (Unit {0}) (Unit {0}) c.args.index.now.cache.path all i p (g.D.CacheDisk.failed c.args.disk.now) (g.D.CacheDisk.failed c.loop-place.disk) (g.D.CacheDisk.failed c.check_package.new.disk) c.in-Err.fault
+    (got_at all i p c.loop-place-test.true c.index-packages-place.is) (λ n is. (c.in-Err.ensures.store n (ap Err is)).0) c.loop-place.invariant.failed_disk c.in-Err.ensures.failed_disk
+
 pub loop-place-preserved : goal.loop-place-preserved
 loop-place-preserved g c =
     let all : List Package = c.args.packages.now in
@@ -70,6 +85,7 @@ loop-place-preserved g c =
             disk_later = omega (arith, inv.disk_later, w.in-Ok.ensures.disk_later);
             files_later = omega (arith, inv.files_later, w.in-Ok.ensures.files_later);
             failed = λ told. w.in-Ok.ensures.failed told ∙ inv.failed told;
+            failed_disk = w.in-Ok.ensures.failed_disk ∙ inv.failed_disk;
             disk_same = λ told q. w.in-Ok.ensures.disk_same told q ∙ inv.disk_same told q;
             folders_same = λ told. w.in-Ok.ensures.folders_same told ∙ inv.folders_same told;
             files_same = λ told. w.in-Ok.ensures.files_same told ∙ inv.files_same told;
@@ -87,6 +103,7 @@ loop-place-preserved g c =
             disk_later = inv.disk_later;
             files_later = inv.files_later;
             failed = inv.failed;
+            failed_disk = inv.failed_disk;
             disk_same = inv.disk_same;
             folders_same = inv.folders_same;
             files_same = inv.files_same;

@@ -19,6 +19,7 @@ invariant-loop-place g l = record {
   disk_later : g.D.CacheDisk.faults l.fn.disk ≤ g.D.CacheDisk.faults l.disk;
   files_later : g.F.Files.faults l.fn.files ≤ g.F.Files.faults l.files;
   failed : g.F.Files.tells → g.F.Files.failed l.files ≡ g.F.Files.failed l.fn.files;
+  failed_disk : g.D.CacheDisk.failed l.disk ≡ g.D.CacheDisk.failed l.fn.disk;
   disk_same : g.D.CacheDisk.tells → (q : List ℕ) → g.D.CacheDisk.past l.disk q ≡ g.D.CacheDisk.past l.fn.disk q;
   folders_same : g.D.CacheDisk.tells → g.D.CacheDisk.folders l.disk ≡ g.D.CacheDisk.folders l.fn.disk;
   files_same : g.F.Files.tells → g.F.Files.host l.files ≡ g.F.Files.host l.fn.files;

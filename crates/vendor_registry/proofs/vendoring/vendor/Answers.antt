@@ -6,12 +6,12 @@ use Rattle.tame_local.specs.Inserts.{StandsPlain}
 use Rattle.vendor_registry.specs.declared.faults.VendorFault.{VendorFault}
 use Rattle.vendor_registry.specs.declared.faults.VendorFault.TheVariants as fault
 use Rattle.audit_lock.specs.declared.resolving.Package.{Package}
-use Rattle.vendor_registry.specs.Built.{IsOccupied, IsTaken, all_made, free_fault}
+use Rattle.vendor_registry.specs.Built.{AreFilled, IsOccupied, IsReadBack, IsTaken, all_made, free_fault}
 use Rattle.vendor_registry.specs.Checks.{IsStopped, Stock, all_checked, stock_of}
 use Rattle.vendor_registry.specs.Looked.{looked}
 use Rattle.vendor_registry.specs.declared.checks.Checked.{Checked}
 use Rattle.vendor_registry.specs.Vendored.{paths_of}
-use Rattle.vendor_registry.proofs.Whole.{by_build, checked_pathed, is_vendored, no_read_back, occupied_before}
+use Rattle.vendor_registry.proofs.Whole.{by_build, checked_pathed, is_vendored, no_read_back, numbers_of, occupied_before, one_checked, outside_unwritten}
 use Rattle.vendor_registry.proofs.vendoring.vendor.Goals as goal
 
 pub returns-clause-answered : goal.returns-clause-answered
@@ -33,6 +33,19 @@ returns-clause-answered g c =
           ap (λ ps. all_checked stock (looked ps)) (sym c.packages-packages.ensures) ∙ c.in_ok-checked.ensures.ok told_f told_d in
           let pathed = checked_pathed stock c.args.audited.now.lockfile cs checks in
           (cs, checks, c.in_ok-built.ensures.made told_f pathed ∙ ap (after (all_made c.args.to cs)) (c.in_ok-checked.ensures.files_same told_f));
+      filled = λ told_f told_d others are.
+          let checks : all_checked stock (looked c.args.audited.now.lockfile) ≡ Ok cs =
+          ap (λ ps. all_checked stock (looked ps)) (sym c.packages-packages.ensures) ∙ c.in_ok-checked.ensures.ok told_f told_d in
+          let pathed = checked_pathed stock c.args.audited.now.lockfile cs checks in
+          subst (λ (ds : List Checked). AreFilled c.args.to ds (paths_of ds) (after_change (created c.args.to) (g.F.Files.host c.args.files.now))) (one_checked _ cs others checks are)
+          (subst (λ (h : Host). AreFilled c.args.to cs (paths_of cs) (after_change (created c.args.to) h)) (c.in_ok-checked.ensures.files_same told_f)
+          (c.in_ok-built.ensures.filled told_f pathed));
+      opened = λ told_f. c.in_ok-built.ensures.opened told_f;
+      counted = λ told_f told_d others are.
+          let checks : all_checked stock (looked c.args.audited.now.lockfile) ≡ Ok cs =
+          ap (λ ps. all_checked stock (looked ps)) (sym c.packages-packages.ensures) ∙ c.in_ok-checked.ensures.ok told_f told_d in
+          let pathed = checked_pathed stock c.args.audited.now.lockfile cs checks in
+          numbers_of c.args.to _ _ cs others (one_checked _ cs others checks are) c.len-count.ensures (c.in_ok-built.ensures.count pathed);
     }
 
 pub returns-in_err-checked-clause-answered : goal.returns-in_err-checked-clause-answered
@@ -43,6 +56,7 @@ returns-in_err-checked-clause-answered g c =
     rw failed record {
       refused = search rules;
       unwritten = search rules;
+      unread = λ told_f at is outside. c.in_err-checked.ensures.files_same told_f;
       store = search rules;
       stopped = λ told_f told_d. inl (subst (λ (ps : List Package). IsStopped stock (looked ps) e) c.packages-packages.ensures (c.in_err-checked.ensures.stopped told_f told_d));
       behind = search rules;
@@ -66,6 +80,7 @@ returns-in_err-built-clause-answered g c =
     rw failed record {
       refused = search rules;
       unwritten = search rules;
+      unread = λ told_f at is outside. outside_unwritten c.args.to at e _ (c.in_err-built.ensures.within told_f) is outside;
       store = search rules;
       stopped = λ told_f told_d.
           let checks : all_checked stock (looked c.args.audited.now.lockfile) ≡ Ok cs =
@@ -82,7 +97,7 @@ returns-in_err-built-clause-answered g c =
           let stays : mid ≡ before = c.in_ok-checked.ensures.files_same told_f in (
             cs,
             checks,
-            subst (λ (h : Host). IsTaken c.args.to cs (paths_of cs) (after_change (created c.args.to) h)) stays
+            subst (λ (h : Host). IsTaken c.args.to cs (paths_of cs) (after_change (created c.args.to) h) (g.F.Files.host c.build.new.files)) stays
                 (c.in_err-built.ensures.taken told_f pathed n (ap Err is) (ap (λ (h : Host). free_fault (h.stands c.args.to)) stays ∙ free)),
           );
       not_empty = λ told_f told_d bare n is.
@@ -92,9 +107,9 @@ returns-in_err-built-clause-answered g c =
           let texts = c.in_ok-checked.ensures.texts in
           let stays : mid ≡ before = c.in_ok-checked.ensures.files_same told_f in
           let occupied : IsOccupied (mid.stands c.args.to) (fault.NotEmpty n) = subst (IsOccupied (mid.stands c.args.to)) is (c.in_err-built.ensures.occupied told_f) in
-          occupied_before stock c.args.audited.now.lockfile c.args.to cs before n checks texts bare
+          occupied_before stock c.args.audited.now.lockfile c.args.to cs before (g.F.Files.host c.build.new.files) n checks texts bare
           (subst (λ (h : Host). IsOccupied (h.stands c.args.to) (fault.NotEmpty n)) stays occupied)
-          (λ free. subst (λ (h : Host). IsTaken c.args.to cs (paths_of cs) (after_change (created c.args.to) h)) stays
+          (λ free. subst (λ (h : Host). IsTaken c.args.to cs (paths_of cs) (after_change (created c.args.to) h) (g.F.Files.host c.build.new.files)) stays
           (c.in_err-built.ensures.taken told_f pathed n (ap Err is) (ap (λ (h : Host). free_fault (h.stands c.args.to)) stays ∙ free)));
       begun = λ told_f told_d.
           let checks : all_checked stock (looked c.args.audited.now.lockfile) ≡ Ok cs =
@@ -102,7 +117,12 @@ returns-in_err-built-clause-answered g c =
           let pathed = checked_pathed stock c.args.audited.now.lockfile cs checks in
           let stays : mid ≡ before = c.in_ok-checked.ensures.files_same told_f in
           inr (cs, checks, subst (λ (h : Host). AreBegun (all_made c.args.to cs) h (g.F.Files.host c.build.new.files)) stays (c.in_err-built.ensures.begun told_f pathed));
-      read_back = search rules;
+      read_back = λ told_f why is. (
+        cs,
+        (λ told_d. ap (λ ps. all_checked stock (looked ps)) (sym c.packages-packages.ensures) ∙ c.in_ok-checked.ensures.ok told_f told_d),
+        subst (λ (h : Host). IsReadBack c.args.to cs h (g.F.Files.host c.build.new.files) why) (c.in_ok-checked.ensures.files_same told_f)
+            (c.in_err-built.ensures.read_back told_f why (ap Err is)),
+      );
       agrees = λ told_f told_d plain place versioned why is.
           let checks : all_checked stock (looked c.args.audited.now.lockfile) ≡ Ok cs =
           ap (λ ps. all_checked stock (looked ps)) (sym c.packages-packages.ensures) ∙ c.in_ok-checked.ensures.ok told_f told_d in

@@ -6,8 +6,8 @@ use Rattle.tame_cache.specs.Calls.{past_of}
 use Rattle.tame_cache.proofs.Record.{after_same, noted_write, part_torn_file}
 use Rattle.tame_cache.proofs.memory_disk.MemCacheDisk.write_half.Goals as goal
 
-pub returns-in-Ok-clause-step : goal.returns-in-Ok-clause-step
-returns-in-Ok-clause-step c =
+pub returns-else-is_err-clause-step : goal.returns-else-is_err-clause-step
+returns-else-is_err-clause-step c =
     let path = c.args.path.now in
     let n = length c.args.piece.now in
     let front = take (n / 2) c.args.piece.now in

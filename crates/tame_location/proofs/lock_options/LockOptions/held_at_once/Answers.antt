@@ -5,7 +5,7 @@ use Rattle.tame_location.proofs.lock_options.LockOptions.held_at_once.Goals as g
 
 pub returns-in-Ok-take-clause-steps : goal.returns-in-Ok-take-clause-steps
 returns-in-Ok-take-clause-steps g c = λ told. (
-  lock_moment (g.F.Files.locks c.open.new.files) (g.F.Files.host c.open.new.files) (g.F.Files.faults c.open.new.files),
+  lock_moment (g.F.Files.locks c.open.new.files) (g.F.Files.host c.open.new.files) (g.F.Files.faults c.open.new.files) (g.F.Files.failed c.open.new.files),
   Ok c.in-Ok.state,
   c.in-Ok.ensures.steps told,
   (Ok tt, taken-as _ _ _ _ false _ _ (Ok tt) c.as_str.ensures.value c.is_exclusive-exclusive.ensures (c.in-Ok-take.ensures.steps told), ap Ok c.holding.ensures.state),

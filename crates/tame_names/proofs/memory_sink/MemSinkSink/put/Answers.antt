@@ -9,7 +9,7 @@ returns-then-contains-clause-unlisted c =
     λ unlisted. absurd (unlisted (subst (λ n. IsListed n c.args.self.now.fails) (sym c.fail.ensures.calls) listed))
 
 pub returns-then-contains-clause-cause : goal.returns-then-contains-clause-cause
-returns-then-contains-clause-cause c = record { later = omega (arith, c.fail.ensures.later); failed = λ _. omega (arith, c.fail.ensures.counted) }
+returns-then-contains-clause-cause c = record { later = omega (arith, c.fail.ensures.later); failed = λ _. omega (arith, c.fail.ensures.counted); stayed = search rules }
 
 pub returns-in-Err-clause-cause : goal.returns-in-Err-clause-cause
-returns-in-Err-clause-cause c = record { later = omega (arith, c.fail-in-Err.ensures.later); failed = λ _. omega (arith, c.fail-in-Err.ensures.counted) }
+returns-in-Err-clause-cause c = record { later = omega (arith, c.fail-in-Err.ensures.later); failed = λ _. omega (arith, c.fail-in-Err.ensures.counted); stayed = search rules }
