@@ -1,1 +1,1 @@
--- Rows alone: no definition of its own.
+pub mod Readings

@@ -1,6 +1,11 @@
 //! Texts of advisories and of a lockfile, laid line by line:
 //!
 //! - `advisory`: an advisory begins, `lock`: the lockfile begins, `| LINE`: the next line of it.
+ghost use Rattle.std.specs.Prelude.{◌≡◌, ◌++◌, ◌∷◌, [], map, slice_get, Some, Ok, IfOk, IfErr, IsErr, OnOk, string_bytes};
+ghost use Rattle.audit_advisory.specs.Advisories.{advisory_of};
+ghost use Rattle.audit_lock.specs.Locked.{locked};
+ghost use Rattle.advice_fixtures.specs.Readings.{IsUnread};
+
 use crate::readings::{add_read, read_lockfile};
 use audit_advisory::Database;
 use audit_lock::Lockfile;
@@ -76,12 +81,19 @@ impl LaidTexts {
     }
 
     /// The text of one more advisory.
-    pub fn add_advisory(&mut self, text: String) -> Result<(), RowFault> {
+    pub fn add_advisory(&mut self, text: String) -> Result<(), RowFault>
+        ensures added { OnOk result
+            (self.new.advisories ≡ self.old.advisories ++ string_bytes text ∷ []) }
+        ensures lock { self.new.lock ≡ self.old.lock }
+    {
         Ok(self.advisories.add(Text::from_string(text))?)
     }
 
     /// The text of the first advisory, if there is one.
-    pub fn first(&self) -> Result<&str, RowFault> {
+    pub fn first(&self) -> Result<&str, RowFault>
+        ensures first { IfOk result (λ text. slice_get self.now.advisories 0 ≡ Some text.now) }
+        ensures none { IsErr result → self.now.advisories ≡ [] }
+    {
         match self.advisories.as_slice().first() {
             Some(text) => Ok(text.as_str()),
             None => Err(RowFault::Unread),
@@ -89,12 +101,17 @@ impl LaidTexts {
     }
 
     /// The text of the lockfile.
-    pub fn lock(&self) -> &str {
+    pub fn lock(&self) -> &str
+        ensures { result.now ≡ string_bytes self.now.lock }
+    {
         self.lock.as_str()
     }
 
     /// The advisories of the texts, in their order.
-    pub fn database(&self, alloc: Global) -> Result<Database, RowFault> {
+    pub fn database(&self, alloc: Global) -> Result<Database, RowFault>
+        ensures read { IfOk result (λ database. map (λ a. Ok a) database
+            ≡ map advisory_of self.now.advisories) }
+    {
         let mut advisories = Items::new(alloc);
         for text in self.advisories.as_slice() {
             add_read(alloc, &mut advisories, text.as_str())?;
@@ -103,7 +120,10 @@ impl LaidTexts {
     }
 
     /// The lockfile of its text.
-    pub fn lockfile(&self, alloc: Global) -> Result<Lockfile, RowFault> {
+    pub fn lockfile(&self, alloc: Global) -> Result<Lockfile, RowFault>
+        ensures read { IfOk result (λ lockfile. locked (string_bytes self.now.lock) ≡ Ok lockfile) }
+        ensures unread { IfErr result (IsUnread (locked (string_bytes self.now.lock))) }
+    {
         read_lockfile(alloc, self.lock.as_str())
     }
 }

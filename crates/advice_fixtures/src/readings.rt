@@ -1,4 +1,9 @@
 //! Advisories and lockfiles of texts that are some.
+ghost use Rattle.std.specs.Prelude.{◌≡◌, ◌++◌, ◌∷◌, [], map, Ok, IfOk, IfErr, OnOk, OnErr};
+ghost use Rattle.audit_advisory.specs.Advisories.{advisory_of};
+ghost use Rattle.audit_lock.specs.Locked.{locked};
+ghost use Rattle.advice_fixtures.specs.Readings.{IsUnread};
+
 use audit_advisory::{Advisory, AdvisoryFault};
 use audit_lock::{Lockfile, LockfileFault, Package};
 use row_fixtures::RowFault;
@@ -6,7 +11,10 @@ use std::alloc::Global;
 use tame_names::{Items, Text};
 
 /// The advisory of a text that is one.
-pub fn read_advisory(alloc: Global, text: &str) -> Result<Advisory, RowFault> {
+pub fn read_advisory(alloc: Global, text: &str) -> Result<Advisory, RowFault>
+    ensures read { IfOk result (λ advisory. advisory_of text.now ≡ Ok advisory) }
+    ensures unread { IfErr result (IsUnread (advisory_of text.now)) }
+{
     match Advisory::read(alloc, text) {
         Ok(advisory) => Ok(advisory),
         Err(AdvisoryFault::NoMemory) => Err(RowFault::NoMemory),
@@ -19,12 +27,20 @@ pub fn add_read(
     alloc: Global,
     advisories: &mut Items<Advisory>,
     text: &str,
-) -> Result<(), RowFault> {
+) -> Result<(), RowFault>
+    ensures added { OnOk result (map (λ a. Ok a) advisories.new
+        ≡ map (λ a. Ok a) advisories.old ++ advisory_of text.now ∷ []) }
+    ensures unread { IfErr result (IsUnread (advisory_of text.now)) }
+    ensures same { OnErr result (advisories.new ≡ advisories.old) }
+{
     Ok(advisories.add(read_advisory(alloc, text)?)?)
 }
 
 /// The lockfile of a text that is one.
-pub fn read_lockfile(alloc: Global, text: &str) -> Result<Lockfile, RowFault> {
+pub fn read_lockfile(alloc: Global, text: &str) -> Result<Lockfile, RowFault>
+    ensures read { IfOk result (λ lockfile. locked text.now ≡ Ok lockfile) }
+    ensures unread { IfErr result (IsUnread (locked text.now)) }
+{
     match Lockfile::read(alloc, text) {
         Ok(lockfile) => Ok(lockfile),
         Err(LockfileFault::NoMemory) => Err(RowFault::NoMemory),

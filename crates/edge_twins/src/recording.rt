@@ -1,9 +1,10 @@
 //! A disk whose calls are recorded, and made to fail from one on.
-ghost use Rattle.std.specs.Prelude.{◌≡◌, ◌↔◌, ◌<◌, ◌≤◌, ◌-◌, ◌^◌, ◌++◌, [], None, codes, IsOk, IfOk, OnOk, OnErr};
+ghost use Rattle.std.specs.Prelude.{◌≡◌, ◌↔◌, ◌<◌, ◌≤◌, ◌-◌, ◌^◌, ◌++◌, [], ℕ, List, IsTrue, None, codes, decimal, true, false, IsOk, IsErr, IfOk, OnOk, OnErr};
 ghost use Rattle.std.specs.String.{string_bytes};
-ghost use Rattle.tame_names.specs.Counts.{CountRose};
+ghost use Rattle.tame_names.specs.Counts.{CountRose, HasCause};
 ghost use Rattle.tame_names.specs.Output.{AddsPrefix};
 ghost use Rattle.tame_cache.specs.Faults.{HasDiskCause};
+ghost use Rattle.edge_twins.specs.Recordings.{AddsNotes, AddsRead, IsPassed, done_text, first_text, note, peek_text, stopped, write_text};
 
 use crate::standing::push_bytes;
 use std::alloc::{AllocError, Global};
@@ -20,19 +21,29 @@ pub struct Recorder<'a, D: CacheDisk + Drop> {
     teller: Option<&'a HostRuntime>,
     /// What was noted.
     notes: String,
+    /// Whether memory sufficed for each note.
+    whole: bool,
     /// How many calls are let through; those behind them fail.
     left: u64,
     faults: u64,
 }
 
 /// A file that was read, as a text.
-fn file_text(alloc: Global, file: &Option<Vec<u8>>) -> Result<String, AllocError> {
+fn file_text(alloc: Global, bytes: &[u8]) -> Result<String, AllocError> {
     let mut text = String::new(alloc);
-    match file {
-        None => text.push_str("absent")?,
-        Some(bytes) => push_bytes(alloc, &mut text, bytes.as_slice())?,
-    }
+    push_bytes(alloc, &mut text, bytes)?;
     Ok(text)
+}
+
+/// What a file begins with, as a text.
+fn text_of_first(alloc: Global, first: Peek) -> Result<String, AllocError>
+    ensures { IfOk result (λ text. string_bytes text ≡ first_text first) }
+{
+    match first {
+        Peek::Absent => String::from_str(alloc, "absent"),
+        Peek::Empty => String::from_str(alloc, "empty"),
+        Peek::Byte(byte) => format!(in alloc; "byte {byte}"),
+    }
 }
 
 /// Bytes as digits.
@@ -49,6 +60,7 @@ impl<'a, D: CacheDisk + Drop> Recorder<'a, D> {
     pub fn new(alloc: Global, disk: D, teller: Option<&'a HostRuntime>) -> Recorder<'a, D>
         ensures disk { result.disk ≡ disk }
         ensures notes { string_bytes result.notes ≡ [] }
+        ensures whole { result.whole ≡ true }
         ensures left { result.left ≡ 2 ^ 64 - 1 }
         ensures faults { result.faults ≡ 0 }
     {
@@ -57,6 +69,7 @@ impl<'a, D: CacheDisk + Drop> Recorder<'a, D> {
             alloc,
             teller,
             notes: String::new(alloc),
+            whole: true,
             left: u64::MAX,
             faults: 0,
         }
@@ -66,19 +79,26 @@ impl<'a, D: CacheDisk + Drop> Recorder<'a, D> {
     pub fn begin(&mut self, left: u64)
         ensures disk { self.new.disk ≡ self.old.disk }
         ensures notes { string_bytes self.new.notes ≡ [] }
+        ensures whole { self.new.whole ≡ true }
         ensures left { self.new.left ≡ left }
         ensures faults { self.new.faults ≡ 0 }
     {
         self.notes = String::new(self.alloc);
+        self.whole = true;
         self.left = left;
         self.faults = 0;
     }
 
-    /// The record.
-    pub fn record(&self) -> &str
-        ensures { result.now ≡ string_bytes self.now.notes }
+    /// The record; none if memory ran out for a note of it.
+    pub fn record(&self) -> Result<&str, AllocError>
+        ensures whole { IsOk result ↔ IsTrue self.now.whole }
+        ensures record { IfOk result (λ record. record.now ≡ string_bytes self.now.notes) }
     {
-        self.notes.as_str()
+        if self.whole {
+            Ok(self.notes.as_str())
+        } else {
+            Err(AllocError)
+        }
     }
 
     fn note(&mut self, text: Result<String, AllocError>)
@@ -86,17 +106,22 @@ impl<'a, D: CacheDisk + Drop> Recorder<'a, D> {
         ensures left { self.new.left ≡ self.old.left }
         ensures faults { self.new.faults ≡ self.old.faults }
         ensures noted { IfOk text (λ t. AddsPrefix (string_bytes self.old.notes)
-            (string_bytes t ++ codes "; ") (string_bytes self.new.notes)) }
+            (note (string_bytes t)) (string_bytes self.new.notes)) }
+        ensures added { IfOk text (λ t. AddsNotes (note (string_bytes t))
+            (string_bytes self.old.notes) (string_bytes self.new.notes)
+            self.old.whole self.new.whole) }
+        ensures lost { OnErr text (self.new.whole ≡ false) }
         ensures same { OnErr text (self.new.notes ≡ self.old.notes) }
     {
         let Ok(text) = text else {
+            self.whole = false;
             return;
         };
         if let Some(rt) = self.teller {
             let _ = println!(rt; "{text}");
         }
-        if self.notes.push_str(text.as_str()).is_ok() {
-            let _ = self.notes.push_str("; ");
+        if self.notes.push_str(text.as_str()).is_err() || self.notes.push_str("; ").is_err() {
+            self.whole = false;
         }
     }
 
@@ -105,6 +130,9 @@ impl<'a, D: CacheDisk + Drop> Recorder<'a, D> {
         ensures later { self.old.faults ≤ self.new.faults }
         ensures disk { self.new.disk ≡ self.old.disk }
         ensures left { self.new.left ≡ self.old.left }
+        ensures added { AddsNotes (note (codes "fault"))
+            (string_bytes self.old.notes) (string_bytes self.new.notes)
+            self.old.whole self.new.whole }
     {
         self.note(String::from_str(self.alloc, "fault"));
         self.faults = self.faults.saturating_add(1);
@@ -118,6 +146,10 @@ impl<'a, D: CacheDisk + Drop> Recorder<'a, D> {
         ensures left { self.new.left ≡ self.old.left - 1 }
         ensures quiet { OnOk result (self.new.faults ≡ self.old.faults) }
         ensures disk { self.new.disk ≡ self.old.disk }
+        ensures added { IfOk text (λ t. AddsNotes (note (string_bytes t) ++ stopped result)
+            (string_bytes self.old.notes) (string_bytes self.new.notes)
+            self.old.whole self.new.whole) }
+        ensures lost { OnErr text (self.new.whole ≡ false) }
     {
         self.note(text);
         if self.left == 0 {
@@ -134,6 +166,9 @@ impl<'a, D: CacheDisk + Drop> Recorder<'a, D> {
         ensures quiet { OnOk result (self.new.faults ≡ self.old.faults) }
         ensures disk { self.new.disk ≡ self.old.disk }
         ensures left { self.new.left ≡ self.old.left }
+        ensures added { AddsNotes (note (done_text result))
+            (string_bytes self.old.notes) (string_bytes self.new.notes)
+            self.old.whole self.new.whole }
     {
         match done {
             Ok(()) => {
@@ -154,7 +189,10 @@ impl<'a, D: CacheDisk + Drop> Recorder<'a, D> {
         Ok(text)
     }
 
-    fn write_text(&self, path: &str, at: u64, piece: &[u8]) -> Result<String, AllocError> {
+    fn write_text(&self, path: &str, at: u64, piece: &[u8]) -> Result<String, AllocError>
+        ensures { IfOk result (λ text. (told : List ℕ)
+            × (string_bytes text ≡ write_text path.now at told)) }
+    {
         let piece = self.piece(piece)?;
         format!(in self.alloc; "write {path} {at} {piece}")
     }
@@ -177,28 +215,48 @@ impl<'a, D: CacheDisk + Drop> CacheDisk for Recorder<'a, D> {
         self.faults
     }
 
-    fn peek(&mut self, path: &str) -> Result<Peek, DiskFault> {
+    fn peek(&mut self, path: &str) -> Result<Peek, DiskFault>
+        ensures recorded { AddsNotes (note (codes "peek " ++ path.now) ++ note (peek_text result))
+            (string_bytes self.old.notes) (string_bytes self.new.notes)
+            self.old.whole self.new.whole }
+        ensures passed { IsPassed self.old.left self.new.left self.old.disk self.new.disk
+            (HasDiskCause (D.faults self.old.disk) (D.faults self.new.disk) result) }
+    {
         let alloc = self.alloc;
         self.call(format!(in alloc; "peek {path}"))?;
         match self.disk.peek(path) {
             Ok(first) => {
-                self.note(format!(in alloc; "{first:?}"));
+                self.note(text_of_first(alloc, first));
                 Ok(first)
             }
             Err(_) => Err(self.fail()),
         }
     }
 
-    fn read(&mut self, alloc: Global, path: &str) -> Result<Option<Vec<u8>>, DiskReadFault> {
+    fn read(&mut self, alloc: Global, path: &str) -> Result<Option<Vec<u8>>, DiskReadFault>
+        ensures recorded { AddsRead (note (codes "read " ++ path.now))
+            (string_bytes self.old.notes) (string_bytes self.new.notes)
+            self.old.whole self.new.whole result }
+        ensures passed { IsPassed self.old.left self.new.left self.old.disk self.new.disk
+            (HasCause DiskReadFault.NoMemory (D.faults self.old.disk) (D.faults self.new.disk)
+            result) }
+    {
         if self.call(format!(in alloc; "read {path}")).is_err() {
             return Err(DiskReadFault::Failed);
         }
         match self.disk.read(alloc, path) {
-            Ok(file) => {
-                self.note(file_text(alloc, &file));
-                Ok(file)
+            Ok(None) => {
+                self.note(String::from_str(alloc, "absent"));
+                Ok(None)
             }
-            Err(DiskReadFault::NoMemory) => Err(DiskReadFault::NoMemory),
+            Ok(Some(bytes)) => {
+                self.note(file_text(alloc, bytes.as_slice()));
+                Ok(Some(bytes))
+            }
+            Err(DiskReadFault::NoMemory) => {
+                self.note(String::from_str(alloc, "no memory"));
+                Err(DiskReadFault::NoMemory)
+            }
             Err(DiskReadFault::Failed) => {
                 let _fault = self.fail();
                 Err(DiskReadFault::Failed)
@@ -206,25 +264,49 @@ impl<'a, D: CacheDisk + Drop> CacheDisk for Recorder<'a, D> {
         }
     }
 
-    fn make_dirs(&mut self, path: &str) -> Result<(), DiskFault> {
+    fn make_dirs(&mut self, path: &str) -> Result<(), DiskFault>
+        ensures recorded { AddsNotes (note (codes "folders " ++ path.now)
+            ++ note (done_text result)) (string_bytes self.old.notes)
+            (string_bytes self.new.notes) self.old.whole self.new.whole }
+        ensures passed { IsPassed self.old.left self.new.left self.old.disk self.new.disk
+            (HasDiskCause (D.faults self.old.disk) (D.faults self.new.disk) result) }
+    {
         self.call(format!(in self.alloc; "folders {path}"))?;
         let done = self.disk.make_dirs(path);
         self.end(done)
     }
 
-    fn write_at(&mut self, path: &str, at: u64, piece: &[u8]) -> Result<(), DiskFault> {
+    fn write_at(&mut self, path: &str, at: u64, piece: &[u8]) -> Result<(), DiskFault>
+        ensures recorded { (told : List ℕ) × AddsNotes (note (write_text path.now at told)
+            ++ note (done_text result)) (string_bytes self.old.notes)
+            (string_bytes self.new.notes) self.old.whole self.new.whole }
+        ensures passed { IsPassed self.old.left self.new.left self.old.disk self.new.disk
+            (HasDiskCause (D.faults self.old.disk) (D.faults self.new.disk) result) }
+    {
         self.call(self.write_text(path, at, piece))?;
         let done = self.disk.write_at(path, at, piece);
         self.end(done)
     }
 
-    fn cut(&mut self, path: &str, len: u64) -> Result<(), DiskFault> {
+    fn cut(&mut self, path: &str, len: u64) -> Result<(), DiskFault>
+        ensures recorded { AddsNotes (note (codes "cut " ++ path.now ++ codes " " ++ decimal len)
+            ++ note (done_text result)) (string_bytes self.old.notes)
+            (string_bytes self.new.notes) self.old.whole self.new.whole }
+        ensures passed { IsPassed self.old.left self.new.left self.old.disk self.new.disk
+            (HasDiskCause (D.faults self.old.disk) (D.faults self.new.disk) result) }
+    {
         self.call(format!(in self.alloc; "cut {path} {len}"))?;
         let done = self.disk.cut(path, len);
         self.end(done)
     }
 
-    fn sync(&mut self, path: &str) -> Result<(), DiskFault> {
+    fn sync(&mut self, path: &str) -> Result<(), DiskFault>
+        ensures recorded { AddsNotes (note (codes "sync " ++ path.now) ++ note (done_text result))
+            (string_bytes self.old.notes) (string_bytes self.new.notes)
+            self.old.whole self.new.whole }
+        ensures passed { IsPassed self.old.left self.new.left self.old.disk self.new.disk
+            (HasDiskCause (D.faults self.old.disk) (D.faults self.new.disk) result) }
+    {
         self.call(format!(in self.alloc; "sync {path}"))?;
         let done = self.disk.sync(path);
         self.end(done)

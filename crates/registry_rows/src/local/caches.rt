@@ -61,14 +61,30 @@ fn place_line(
     Ok(format!(in alloc; "{} {path}", kind_of(cache))?)
 }
 
+/// The index of a word.
+fn url_of<'a>(
+    alloc: Global,
+    files: &mut MemFiles,
+    word: &'a str,
+) -> Result<IndexUrl<'a>, RowFault> {
+    if let Some(version) = word.strip_prefix("crates-io:") {
+        let found = IndexUrl::crates_io(alloc, files, None, None, Some(version));
+        return asked(alloc, found);
+    }
+    match word.strip_prefix("path:") {
+        Some(path) => Ok(IndexUrl::Local(Text::of(alloc, path)?)),
+        None => Ok(IndexUrl::from(word)),
+    }
+}
+
 /// The location of the words `URL FOLDER`.
-fn location_of<'a>(alloc: Global, row: &mut Row<'a>) -> Result<IndexLocation<'a>, RowFault> {
-    let word = row.word();
+fn location_of<'a>(
+    alloc: Global,
+    files: &mut MemFiles,
+    row: &mut Row<'a>,
+) -> Result<IndexLocation<'a>, RowFault> {
+    let url = url_of(alloc, files, row.word())?;
     let root = Text::of(alloc, row.word())?;
-    let url = match word.strip_prefix("path:") {
-        Some(path) => IndexUrl::Local(Text::of(alloc, path)?),
-        None => IndexUrl::from(word),
-    };
     Ok(IndexLocation {
         url,
         root: IndexPath::Exact(root),
@@ -78,7 +94,7 @@ fn location_of<'a>(alloc: Global, row: &mut Row<'a>) -> Result<IndexLocation<'a>
 
 /// `located URL FOLDER NAME`
 pub fn located(alloc: Global, stage: &mut Stage, mut row: Row<'_>) -> Result<String, RowFault> {
-    let location = location_of(alloc, &mut row)?;
+    let location = location_of(alloc, &mut stage.files, &mut row)?;
     let ident = TableIdent {
         known: Items::new(alloc),
     };

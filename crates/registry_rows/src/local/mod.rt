@@ -17,7 +17,8 @@
 //! - `open PATH IS`: opens a registry. `index PATH`: opens an index.
 //! - `krate PATH NAME`: the lines of a crate in the index of a path.
 //! - `located URL FOLDER NAME`: kind and path of a crate's file in the cache of the index at a url,
-//!   which is in a folder; of `path:PATH` in the index at that path.
+//!   which is in a folder; of `path:PATH` in the index at that path; of `crates-io:VERSION` in that
+//!   of crates.io for this version of cargo.
 //! - `cached KIND NAME`: path and entry of a crate in the cache of an index of a kind.
 mod caches;
 mod registries;
