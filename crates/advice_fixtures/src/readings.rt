@@ -23,11 +23,7 @@ pub fn read_advisory(alloc: Global, text: &str) -> Result<Advisory, RowFault>
 }
 
 /// Adds the advisory of a text that is one.
-pub fn add_read(
-    alloc: Global,
-    advisories: &mut Items<Advisory>,
-    text: &str,
-) -> Result<(), RowFault>
+pub fn add_read(alloc: Global, advisories: &mut Items<Advisory>, text: &str) -> Result<(), RowFault>
     ensures added { OnOk result (map (λ a. Ok a) advisories.new
         ≡ map (λ a. Ok a) advisories.old ++ advisory_of text.now ∷ []) }
     ensures unread { IfErr result (IsUnread (advisory_of text.now)) }

@@ -62,6 +62,6 @@ AddsRead call before after was_whole is_whole (Err e) =
 -- let through leaves the disk
 pub record IsPassed {D : Type 0} (left now_left : ℕ) (disk now_disk : D) (Cause : Type 0) : Type 0
   where
-  pub counted : now_left ≡ left - 1
-  pub own : 0 < left → Cause
-  pub stopped : left ≡ 0 → now_disk ≡ disk
+    pub counted : now_left ≡ left - 1
+    pub own : 0 < left → Cause
+    pub stopped : left ≡ 0 → now_disk ≡ disk

@@ -92,7 +92,7 @@ impl<'a, D: CacheDisk + Drop> Recorder<'a, D> {
     /// The record; none if memory ran out for a note of it.
     pub fn record(&self) -> Result<&str, AllocError>
         ensures whole { IsOk result ↔ IsTrue self.now.whole }
-        ensures record { IfOk result (λ record. record.now ≡ string_bytes self.now.notes) }
+        ensures notes { IfOk result (λ text. text.now ≡ string_bytes self.now.notes) }
     {
         if self.whole {
             Ok(self.notes.as_str())
