@@ -1,8 +1,6 @@
 -- What a disk records of the calls on it (this project).
-use Rattle.std.specs.Prelude.{◌≡◌, ◌<◌, ◌-◌, ℕ, IsTrue, Bool, List, [], ◌++◌, Option, Some, None, codes, Result, Ok, Err, Unit}
+use Rattle.std.specs.Prelude.{◌≡◌, ◌<◌, ◌-◌, ℕ, IsTrue, Bool, List, [], ◌++◌, Option, Some, None, codes, Result, Ok, Err}
 use Rattle.std.specs.Fmt.{decimal}
-use Rattle.std.specs.String.{String, string_bytes}
-use Rattle.std.specs.Vec.{Vec}
 use Rattle.tame_cache.specs.declared.disk.DiskReadFault.{DiskReadFault}
 use Rattle.tame_cache.specs.declared.disk.DiskReadFault.TheVariants as fault
 use Rattle.tame_cache.specs.declared.disk.Peek.{Peek}

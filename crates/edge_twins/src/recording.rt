@@ -1,9 +1,12 @@
 //! A disk whose calls are recorded, and made to fail from one on.
-ghost use Rattle.std.specs.Prelude.{◌≡◌, ◌↔◌, ◌<◌, ◌≤◌, ◌-◌, ◌^◌, ◌++◌, [], ℕ, List, IsTrue, None, codes, decimal, true, false, IsOk, IsErr, IfOk, OnOk, OnErr};
-ghost use Rattle.std.specs.String.{string_bytes};
+ghost use Rattle.std.specs.Prelude.{◌≡◌, ◌≢◌, ◌↔◌, ◌<◌, ◌≤◌, ◌+◌, ◌-◌, ◌^◌, ◌++◌, [], ◌∷◌, ℕ, List, length, take, IsTrue, Some, None, option_map, codes, decimal, true, false, IsOk, IfOk, OnOk, OnErr, string_bytes};
 ghost use Rattle.tame_names.specs.Counts.{CountRose, HasCause};
 ghost use Rattle.tame_names.specs.Output.{AddsPrefix};
+ghost use Rattle.tame_cache.specs.Disk.{MayCut, MaySync, MayWrite, Synced, content, first_of, reads, with_piece};
+ghost use Rattle.tame_cache.specs.FailedCalls.{AddsFailed, AddsFailedBut, FailedAt, FailedReading};
 ghost use Rattle.tame_cache.specs.Faults.{HasDiskCause};
+ghost use Rattle.tame_cache.specs.Folders.{MakesOnly};
+ghost use Rattle.tame_cache.specs.declared.disk.DiskCall.TheVariants as DiskCall;
 ghost use Rattle.edge_twins.specs.Recordings.{AddsNotes, AddsRead, IsPassed, done_text, first_text, note, peek_text, stopped, write_text};
 
 use crate::standing::push_bytes;
@@ -216,6 +219,14 @@ impl<'a, D: CacheDisk + Drop> CacheDisk for Recorder<'a, D> {
     }
 
     fn peek(&mut self, path: &str) -> Result<Peek, DiskFault>
+        ensures first { D.tells → IfOk result
+            (λ first. first ≡ first_of (reads (D.past self.old.disk path.now))) }
+        ensures same { D.tells → (q : List ℕ)
+            → D.past self.new.disk q ≡ D.past self.old.disk q }
+        ensures folders { D.tells → D.folders self.new.disk ≡ D.folders self.old.disk }
+        ensures calls { D.made self.new.disk ≤ D.made self.old.disk + 1 }
+        ensures failed { AddsFailed (FailedAt DiskCall.Peek path.now) None None result }
+        ensures cause { HasDiskCause self.old.faults self.new.faults result }
         ensures recorded { AddsNotes (note (codes "peek " ++ path.now) ++ note (peek_text result))
             (string_bytes self.old.notes) (string_bytes self.new.notes)
             self.old.whole self.new.whole }
@@ -234,6 +245,15 @@ impl<'a, D: CacheDisk + Drop> CacheDisk for Recorder<'a, D> {
     }
 
     fn read(&mut self, alloc: Global, path: &str) -> Result<Option<Vec<u8>>, DiskReadFault>
+        ensures file { D.tells → IfOk result (λ file. option_map (λ bytes. bytes.items) file
+            ≡ reads (D.past self.old.disk path.now)) }
+        ensures same { D.tells → (q : List ℕ)
+            → D.past self.new.disk q ≡ D.past self.old.disk q }
+        ensures folders { D.tells → D.folders self.new.disk ≡ D.folders self.old.disk }
+        ensures calls { D.made self.new.disk ≤ D.made self.old.disk + 1 }
+        ensures failed { AddsFailedBut DiskReadFault.NoMemory (FailedReading path.now)
+            None None result }
+        ensures cause { HasCause DiskReadFault.NoMemory self.old.faults self.new.faults result }
         ensures recorded { AddsRead (note (codes "read " ++ path.now))
             (string_bytes self.old.notes) (string_bytes self.new.notes)
             self.old.whole self.new.whole result }
@@ -265,6 +285,15 @@ impl<'a, D: CacheDisk + Drop> CacheDisk for Recorder<'a, D> {
     }
 
     fn make_dirs(&mut self, path: &str) -> Result<(), DiskFault>
+        ensures same { D.tells → (q : List ℕ)
+            → D.past self.new.disk q ≡ D.past self.old.disk q }
+        ensures folders { D.tells → MakesOnly (λ q. q ≡ path.now) (D.folders self.old.disk)
+            (D.folders self.new.disk) }
+        ensures made { D.tells → OnOk result
+            (D.folders self.new.disk ≡ D.folders self.old.disk ++ path.now ∷ []) }
+        ensures calls { D.made self.new.disk ≤ D.made self.old.disk + 1 }
+        ensures failed { AddsFailed (FailedAt DiskCall.MakeDirs path.now) None None result }
+        ensures cause { HasDiskCause self.old.faults self.new.faults result }
         ensures recorded { AddsNotes (note (codes "folders " ++ path.now)
             ++ note (done_text result)) (string_bytes self.old.notes)
             (string_bytes self.new.notes) self.old.whole self.new.whole }
@@ -277,6 +306,18 @@ impl<'a, D: CacheDisk + Drop> CacheDisk for Recorder<'a, D> {
     }
 
     fn write_at(&mut self, path: &str, at: u64, piece: &[u8]) -> Result<(), DiskFault>
+        ensures written { D.tells → OnOk result
+            (at ≤ length (content (reads (D.past self.old.disk path.now)))
+            → reads (D.past self.new.disk path.now) ≡ Some
+            (with_piece (content (reads (D.past self.old.disk path.now))) at piece.now)) }
+        ensures step { D.tells → MayWrite at (length piece.now) (D.past self.old.disk path.now)
+            (D.past self.new.disk path.now) }
+        ensures others { D.tells → (q : List ℕ) → q ≢ path.now
+            → D.past self.new.disk q ≡ D.past self.old.disk q }
+        ensures folders { D.tells → D.folders self.new.disk ≡ D.folders self.old.disk }
+        ensures calls { D.made self.new.disk ≤ D.made self.old.disk + 1 }
+        ensures failed { AddsFailed (FailedAt DiskCall.WriteAt path.now) None None result }
+        ensures cause { HasDiskCause self.old.faults self.new.faults result }
         ensures recorded { (told : List ℕ) × AddsNotes (note (write_text path.now at told)
             ++ note (done_text result)) (string_bytes self.old.notes)
             (string_bytes self.new.notes) self.old.whole self.new.whole }
@@ -289,6 +330,16 @@ impl<'a, D: CacheDisk + Drop> CacheDisk for Recorder<'a, D> {
     }
 
     fn cut(&mut self, path: &str, len: u64) -> Result<(), DiskFault>
+        ensures cut { D.tells → OnOk result (reads (D.past self.new.disk path.now)
+            ≡ option_map (take len) (reads (D.past self.old.disk path.now))) }
+        ensures step { D.tells → MayCut len (D.past self.old.disk path.now)
+            (D.past self.new.disk path.now) }
+        ensures others { D.tells → (q : List ℕ) → q ≢ path.now
+            → D.past self.new.disk q ≡ D.past self.old.disk q }
+        ensures folders { D.tells → D.folders self.new.disk ≡ D.folders self.old.disk }
+        ensures calls { D.made self.new.disk ≤ D.made self.old.disk + 1 }
+        ensures failed { AddsFailed (FailedAt DiskCall.Cut path.now) None None result }
+        ensures cause { HasDiskCause self.old.faults self.new.faults result }
         ensures recorded { AddsNotes (note (codes "cut " ++ path.now ++ codes " " ++ decimal len)
             ++ note (done_text result)) (string_bytes self.old.notes)
             (string_bytes self.new.notes) self.old.whole self.new.whole }
@@ -301,6 +352,16 @@ impl<'a, D: CacheDisk + Drop> CacheDisk for Recorder<'a, D> {
     }
 
     fn sync(&mut self, path: &str) -> Result<(), DiskFault>
+        ensures synced { D.tells → OnOk result (D.past self.new.disk path.now
+            ≡ Synced (reads (D.past self.old.disk path.now)) ∷ D.past self.old.disk path.now) }
+        ensures step { D.tells → MaySync (D.past self.old.disk path.now)
+            (D.past self.new.disk path.now) }
+        ensures others { D.tells → (q : List ℕ) → q ≢ path.now
+            → D.past self.new.disk q ≡ D.past self.old.disk q }
+        ensures folders { D.tells → D.folders self.new.disk ≡ D.folders self.old.disk }
+        ensures calls { D.made self.new.disk ≤ D.made self.old.disk + 1 }
+        ensures failed { AddsFailed (FailedAt DiskCall.Sync path.now) None None result }
+        ensures cause { HasDiskCause self.old.faults self.new.faults result }
         ensures recorded { AddsNotes (note (codes "sync " ++ path.now) ++ note (done_text result))
             (string_bytes self.old.notes) (string_bytes self.new.notes)
             self.old.whole self.new.whole }
