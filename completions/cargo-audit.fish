@@ -66,7 +66,7 @@ for program in cargo-audit cargo
     complete -c $program -n '__cargo_audit_is first audit none' -s n -l no-fetch -d 'the index isn\'t asked, only its cache'
     complete -c $program -n '__cargo_audit_is first audit none' -l stale -d 'read, and not used'
     complete -c $program -n '__cargo_audit_is first audit none' -s q -l quiet -d 'fewer status lines, and no trees'
-    complete -c $program -n '__cargo_audit_is first audit none' -l json -d 'the form json, also beside --format'
+    complete -c $program -n '__cargo_audit_is first audit none' -l json -d 'the form json, also with --format'
     complete -c $program -n '__cargo_audit_is first audit none' -l verdicts -d 'for each package whether it is yanked, and no report'
     complete -c $program -n '__cargo_audit_is first audit none' -l baseline -r -F -d 'the findings that aren\'t in this file, and no report'
     complete -c $program -n '__cargo_audit_is first audit none' -l write-baseline -r -F -d 'the findings go to this file, and no report is printed'

@@ -1,8 +1,9 @@
-"""What tests/checks/pages looks up for docs/items.md: the public items of a crate, each with its members and
-traits, and the rows of docs/DIFFERENCES.md by their headings."""
+"""What tests/checks/pages looks up for the index of docs/DIFFERENCES.md: the public items of a crate, each with its members and
+traits, and the rows of that page by their headings."""
 import glob
 import re
 
+INDEX = "## Upstream's items and ours\n"
 TOKEN = re.compile(r"""//[^\n]*|/\*.*?\*/|b?"(?:\\.|[^"\\])*"|b?'(?:\\(?:x..|.)|[^'\\\n])'""", re.S)
 KINDS = "struct|enum|trait|type|const|static|fn"
 
@@ -81,9 +82,10 @@ def told_in(differences, anchor_of):
     return told
 
 
-def wrong_rows(page, differences, crates, anchor_of):
-    """What is wrong with the rows of docs/items.md, and how many rows, alike names and links there are."""
+def wrong_rows(differences, crates, anchor_of):
+    """What is wrong with the rows of the index, and how many rows, alike names and links there are."""
     told, known, wrong, alike = told_in(differences, anchor_of), {}, [], 0
+    page = differences.partition(INDEX)[2]
     rows = [row for row in re.findall(r"(?m)^\| (.*) \|$", page) if not row.startswith("upstream |")]
     for row in rows:
         cells = [cell.strip() for cell in row.split(" | ")] if row.count(" | ") == 3 else re.split(r" ?\| ?", row)
@@ -101,7 +103,7 @@ def wrong_rows(page, differences, crates, anchor_of):
         if not (same or cells[2] in ("alike", "-")) or not (same or cells[2] == "alike" or cells[3]):
             wrong.append(f"nothing is said of {cells[0][:60]}")
         alike += len(same) or (len(names) if cells[2] == "alike" else 0)
-    links = re.findall(r"\[((?:`[^`]*`|[^]`])*)\]\(DIFFERENCES\.md#([\w-]+)\)", page)
+    links = re.findall(r"\[((?:`[^`]*`|[^]`])*)\]\(#([\w-]+)\)", page)
     wrong.extend(f"no row {label} under {anchor}" for label, anchor in links
                  if label not in told.get(anchor, ()) and label != "what holds everywhere")
     return wrong, (len(rows), alike, len(links))
