@@ -29,7 +29,11 @@ pub fn add_read(alloc: Global, advisories: &mut Items<Advisory>, text: &str) -> 
     ensures unread { IfErr result (IsUnread (advisory_of text.now)) }
     ensures same { OnErr result (advisories.new ≡ advisories.old) }
 {
-    Ok(advisories.add(read_advisory(alloc, text)?)?)
+    let advisory = read_advisory(alloc, text)?;
+    match advisories.add(advisory) {
+        Ok(()) => Ok(()),
+        Err(_) => Err(RowFault::NoMemory),
+    }
 }
 
 /// The lockfile of a text that is one.

@@ -41,20 +41,12 @@ abbrev pub peek_text : {E : Type 0} → Result Peek E → List ℕ
 peek_text (Ok first) = first_text first
 peek_text (Err fault) = codes "fault"
 
--- the text of a file that couldn't be read
-abbrev pub unread_text : DiskReadFault → List ℕ
-unread_text fault.Failed = codes "fault"
-unread_text fault.NoMemory = codes "no memory"
-
--- a read was noted, with the file as some text if there is one
-abbrev pub AddsRead : {A : Type 0} → List ℕ → List ℕ → List ℕ → Bool → Bool
-    → Result (Option A) DiskReadFault → Type 0
-AddsRead call before after was_whole is_whole (Ok None) =
-    AddsNotes (call ++ note (codes "absent")) before after was_whole is_whole
-AddsRead call before after was_whole is_whole (Ok (Some file)) =
-    (text : List ℕ) × AddsNotes (call ++ note text) before after was_whole is_whole
-AddsRead call before after was_whole is_whole (Err e) =
-    AddsNotes (call ++ note (unread_text e)) before after was_whole is_whole
+-- the text that a read is answered with; how the bytes of a file are told stays open
+abbrev pub read_text : {A : Type 0} → List ℕ → Result (Option A) DiskReadFault → List ℕ
+read_text told (Ok None) = codes "absent"
+read_text told (Ok (Some file)) = told
+read_text told (Err fault.Failed) = codes "fault"
+read_text told (Err fault.NoMemory) = codes "no memory"
 
 -- a call took one of those that are let through and failed by the disk's own fault; one that isn't
 -- let through leaves the disk

@@ -7,7 +7,7 @@ ghost use Rattle.tame_cache.specs.FailedCalls.{AddsFailed, AddsFailedBut, Failed
 ghost use Rattle.tame_cache.specs.Faults.{HasDiskCause};
 ghost use Rattle.tame_cache.specs.Folders.{MakesOnly};
 ghost use Rattle.tame_cache.specs.declared.disk.DiskCall.TheVariants as DiskCall;
-ghost use Rattle.edge_twins.specs.Recordings.{AddsNotes, AddsRead, IsPassed, done_text, first_text, note, peek_text, stopped, write_text};
+ghost use Rattle.edge_twins.specs.Recordings.{AddsNotes, IsPassed, done_text, first_text, note, peek_text, read_text, stopped, write_text};
 
 use crate::standing::push_bytes;
 use std::alloc::{AllocError, Global};
@@ -26,6 +26,8 @@ pub struct Recorder<'a, D: CacheDisk + Drop> {
     notes: String,
     /// Whether memory sufficed for each note.
     whole: bool,
+    /// How the bytes of the last write or read are noted.
+    told: String,
     /// How many calls are let through; those behind them fail.
     left: u64,
     faults: u64,
@@ -58,6 +60,15 @@ fn digits(alloc: Global, bytes: &[u8]) -> Result<String, AllocError> {
     Ok(text)
 }
 
+/// Adds a note.
+fn push_note(notes: &mut String, text: &str) -> Result<(), AllocError>
+    ensures part { AddsPrefix (string_bytes notes.old) (note text.now) (string_bytes notes.new) }
+    ensures whole { OnOk result (string_bytes notes.new ≡ string_bytes notes.old ++ note text.now) }
+{
+    notes.push_str(text)?;
+    notes.push_str("; ")
+}
+
 impl<'a, D: CacheDisk + Drop> Recorder<'a, D> {
     /// A disk whose calls are told, where there is someone to tell them.
     pub fn new(alloc: Global, disk: D, teller: Option<&'a HostRuntime>) -> Recorder<'a, D>
@@ -73,6 +84,7 @@ impl<'a, D: CacheDisk + Drop> Recorder<'a, D> {
             teller,
             notes: String::new(alloc),
             whole: true,
+            told: String::new(alloc),
             left: u64::MAX,
             faults: 0,
         }
@@ -123,8 +135,22 @@ impl<'a, D: CacheDisk + Drop> Recorder<'a, D> {
         if let Some(rt) = self.teller {
             let _ = println!(rt; "{text}");
         }
-        if self.notes.push_str(text.as_str()).is_err() || self.notes.push_str("; ").is_err() {
+        if push_note(&mut self.notes, text.as_str()).is_err() {
             self.whole = false;
+        }
+    }
+
+    /// Keeps how the bytes of a call are noted.
+    fn keep(&mut self, text: Result<String, AllocError>)
+        ensures disk { self.new.disk ≡ self.old.disk }
+        ensures left { self.new.left ≡ self.old.left }
+        ensures faults { self.new.faults ≡ self.old.faults }
+        ensures notes { self.new.notes ≡ self.old.notes }
+        ensures whole { IsTrue self.new.whole → IsTrue self.old.whole }
+    {
+        match text {
+            Ok(text) => self.told = text,
+            Err(_) => self.whole = false,
         }
     }
 
@@ -191,14 +217,6 @@ impl<'a, D: CacheDisk + Drop> Recorder<'a, D> {
         push_bytes(self.alloc, &mut text, piece)?;
         Ok(text)
     }
-
-    fn write_text(&self, path: &str, at: u64, piece: &[u8]) -> Result<String, AllocError>
-        ensures { IfOk result (λ text. (told : List ℕ)
-            × (string_bytes text ≡ write_text path.now at told)) }
-    {
-        let piece = self.piece(piece)?;
-        format!(in self.alloc; "write {path} {at} {piece}")
-    }
 }
 
 impl<'a, D: CacheDisk + Drop> CacheDisk for Recorder<'a, D> {
@@ -254,9 +272,10 @@ impl<'a, D: CacheDisk + Drop> CacheDisk for Recorder<'a, D> {
         ensures failed { AddsFailedBut DiskReadFault.NoMemory (FailedReading path.now)
             None None result }
         ensures cause { HasCause DiskReadFault.NoMemory self.old.faults self.new.faults result }
-        ensures recorded { AddsRead (note (codes "read " ++ path.now))
+        ensures recorded { AddsNotes (note (codes "read " ++ path.now)
+            ++ note (read_text (string_bytes self.new.told) result))
             (string_bytes self.old.notes) (string_bytes self.new.notes)
-            self.old.whole self.new.whole result }
+            self.old.whole self.new.whole }
         ensures passed { IsPassed self.old.left self.new.left self.old.disk self.new.disk
             (HasCause DiskReadFault.NoMemory (D.faults self.old.disk) (D.faults self.new.disk)
             result) }
@@ -270,7 +289,8 @@ impl<'a, D: CacheDisk + Drop> CacheDisk for Recorder<'a, D> {
                 Ok(None)
             }
             Ok(Some(bytes)) => {
-                self.note(file_text(alloc, bytes.as_slice()));
+                self.keep(file_text(alloc, bytes.as_slice()));
+                self.note(String::from_str(alloc, self.told.as_str()));
                 Ok(Some(bytes))
             }
             Err(DiskReadFault::NoMemory) => {
@@ -318,13 +338,14 @@ impl<'a, D: CacheDisk + Drop> CacheDisk for Recorder<'a, D> {
         ensures calls { D.made self.new.disk ≤ D.made self.old.disk + 1 }
         ensures failed { AddsFailed (FailedAt DiskCall.WriteAt path.now) None None result }
         ensures cause { HasDiskCause self.old.faults self.new.faults result }
-        ensures recorded { (told : List ℕ) × AddsNotes (note (write_text path.now at told)
+        ensures recorded { AddsNotes (note (write_text path.now at (string_bytes self.new.told))
             ++ note (done_text result)) (string_bytes self.old.notes)
             (string_bytes self.new.notes) self.old.whole self.new.whole }
         ensures passed { IsPassed self.old.left self.new.left self.old.disk self.new.disk
             (HasDiskCause (D.faults self.old.disk) (D.faults self.new.disk) result) }
     {
-        self.call(self.write_text(path, at, piece))?;
+        self.keep(self.piece(piece));
+        self.call(format!(in self.alloc; "write {path} {at} {}", self.told))?;
         let done = self.disk.write_at(path, at, piece);
         self.end(done)
     }
