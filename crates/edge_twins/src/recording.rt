@@ -9,7 +9,7 @@ ghost use Rattle.tame_cache.specs.Folders.{MakesOnly};
 ghost use Rattle.tame_cache.specs.declared.disk.DiskCall.TheVariants as DiskCall;
 ghost use Rattle.edge_twins.specs.Recordings.{AddsNotes, IsPassed, done_text, first_text, note, peek_text, read_text, stopped, write_text};
 
-use crate::standing::push_bytes;
+use crate::standing::{digits, push_bytes};
 use std::alloc::{AllocError, Global};
 use tame_cache::{CacheDisk, DiskFault, DiskReadFault, Peek};
 
@@ -51,22 +51,18 @@ fn text_of_first(alloc: Global, first: Peek) -> Result<String, AllocError>
     }
 }
 
-/// Bytes as digits.
-fn digits(alloc: Global, bytes: &[u8]) -> Result<String, AllocError> {
-    let mut text = String::new(alloc);
-    for byte in bytes {
-        text.push_str(format!(in alloc; "{byte:02x}")?.as_str())?;
-    }
-    Ok(text)
-}
-
 /// Adds a note.
 fn push_note(notes: &mut String, text: &str) -> Result<(), AllocError>
     ensures part { AddsPrefix (string_bytes notes.old) (note text.now) (string_bytes notes.new) }
     ensures whole { OnOk result (string_bytes notes.new ≡ string_bytes notes.old ++ note text.now) }
 {
-    notes.push_str(text)?;
-    notes.push_str("; ")
+    if notes.push_str(text).is_err() {
+        return Err(AllocError);
+    }
+    if notes.push_str("; ").is_err() {
+        return Err(AllocError);
+    }
+    Ok(())
 }
 
 impl<'a, D: CacheDisk + Drop> Recorder<'a, D> {
@@ -290,7 +286,8 @@ impl<'a, D: CacheDisk + Drop> CacheDisk for Recorder<'a, D> {
             }
             Ok(Some(bytes)) => {
                 self.keep(file_text(alloc, bytes.as_slice()));
-                self.note(String::from_str(alloc, self.told.as_str()));
+                let told = String::from_str(alloc, self.told.as_str());
+                self.note(told);
                 Ok(Some(bytes))
             }
             Err(DiskReadFault::NoMemory) => {
@@ -345,7 +342,8 @@ impl<'a, D: CacheDisk + Drop> CacheDisk for Recorder<'a, D> {
             (HasDiskCause (D.faults self.old.disk) (D.faults self.new.disk) result) }
     {
         self.keep(self.piece(piece));
-        self.call(format!(in self.alloc; "write {path} {at} {}", self.told))?;
+        let text = format!(in self.alloc; "write {path} {at} {}", self.told);
+        self.call(text)?;
         let done = self.disk.write_at(path, at, piece);
         self.end(done)
     }
