@@ -1,4 +1,0 @@
-pub mod LockedRuns
-pub mod Sufficing
-pub mod Taking
-pub mod Waiting
