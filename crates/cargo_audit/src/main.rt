@@ -1,75 +1,44 @@
-//! The program `cargo_audit`: makes the real outside and runs the command over it.
+//! The program `cargo_audit`: a run over the real outside, started as its arguments and the
+//! variables say.
 #![tactic(auto)]
 
-mod locking;
-mod starting;
-mod streams;
-
-use crate::locking::cache_lock;
-use crate::starting::{StartFault, folder, words};
-use crate::streams::closed_streams;
 use audit_asked::NoRunner;
 use audit_binaries::PlainDecoder;
 use audit_edges::{FileCacheDisk, MirrorWire, StdFiles, StdSink};
 use audit_program::run;
+use audit_start::{
+    StartFault, begin, closed_streams, given_arguments, is_plain, refuse, take_cache_lock,
+};
 use std::io;
 use std::process::ExitCode;
-use tame_names::FileLock;
 
-/// The folder of the mirror, where `CARGO_AUDIT_MIRROR` is unset or empty.
-const DEFAULT_MIRROR: &str = "index-mirror";
-
-/// The folder of the cache, where `CARGO_AUDIT_INDEX` is unset or empty.
-const DEFAULT_CACHE: &str = "index-cache";
-
-/// Runs the command over the real outside, and answers the status.
-fn run_in(rt: &HostRuntime, words: &[String], lock: &FileLock, mirror: &str, cache: &str) -> u8 {
+/// Runs the command over the real outside, and gives the status.
+fn run_started(rt: &HostRuntime) -> Result<u8, StartFault> {
+    let _streams = closed_streams(rt)?;
+    let arguments = given_arguments(rt)?;
     let mut files = StdFiles::new(rt);
-    let mut decoder = PlainDecoder;
-    let mut runner = NoRunner::new();
-    let mut wire = MirrorWire::new(rt, mirror);
-    let mut disk = FileCacheDisk::new(rt, cache);
-    let mut out = StdSink::new(io::writer(rt));
     let mut err = StdSink::new(rt.stderr());
+    let start = begin(rt.alloc(), arguments.as_slice(), &mut files)?;
+    let plain = |path: &str| is_plain(rt, path);
+    let lock = take_cache_lock(rt.alloc(), &start, plain, &mut files, &mut err)?;
     let outcome = run(
         rt.alloc(),
-        words,
+        arguments.as_slice(),
         &mut files,
-        &mut decoder,
-        &mut runner,
-        lock,
-        &mut wire,
-        &mut disk,
-        &mut out,
+        &mut PlainDecoder,
+        &mut NoRunner::new(),
+        &lock,
+        &mut MirrorWire::new(rt, start.mirror.as_str()),
+        &mut FileCacheDisk::new(rt, start.cache.as_str()),
+        &mut StdSink::new(io::writer(rt)),
         &mut err,
     );
-    outcome.status
-}
-
-/// The same in the folders that the environment names, under the cache's lock.
-fn run_locked(rt: &HostRuntime, words: &[String]) -> Result<u8, StartFault> {
-    let mirror = folder(rt, "CARGO_AUDIT_MIRROR", DEFAULT_MIRROR)?;
-    let cache = folder(rt, "CARGO_AUDIT_INDEX", DEFAULT_CACHE)?;
-    match cache_lock(rt, words, cache.as_str()) {
-        Ok(lock) => Ok(run_in(rt, words, &lock, mirror.as_str(), cache.as_str())),
-        Err(fault) => Err(fault),
-    }
-}
-
-fn audit(rt: &HostRuntime) -> Result<u8, StartFault> {
-    let _streams = closed_streams(rt)?;
-    match words(rt) {
-        Ok(words) => run_locked(rt, words.as_slice()),
-        Err(fault) => Err(fault),
-    }
+    Ok(outcome.status)
 }
 
 fn main(rt: HostRuntime) -> ExitCode {
-    match audit(&rt) {
+    match run_started(&rt) {
         Ok(status) => ExitCode::from(status),
-        Err(fault) => {
-            let _ = eprintln!(rt; "error: {fault}");
-            ExitCode::from(fault.status())
-        }
+        Err(fault) => ExitCode::from(refuse(fault, &mut StdSink::new(rt.stderr()))),
     }
 }

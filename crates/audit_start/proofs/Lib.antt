@@ -1,0 +1,4 @@
+pub mod LockedRuns
+pub mod Sufficing
+pub mod Taking
+pub mod Waiting

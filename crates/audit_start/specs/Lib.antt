@@ -1,0 +1,5 @@
+pub mod Faults
+pub mod LockHistories
+pub mod Needs
+pub mod Starts
+pub mod Taking
