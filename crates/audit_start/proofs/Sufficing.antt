@@ -62,16 +62,16 @@ under command host config settles =
     (first.0, cc (last))
 
 is_off : (command : AuditCommand) (host : Host) (config : AuditConfig) → settled command host ≡ Ok config → command.no_yanked ≡ true → checks_of config ≡ Off
-is_off command host config settles no =
+is_off command host config settles by_flag =
     let file = under command host config settles in
     let P : AuditConfig → Type 0 = λ c. checks_of c ≡ Off in
-    subst P file.1 (off_by file.0.yanked.enabled command.no_yanked (file.0.yanked.update_index && (file.0.database.fetch && not command.no_fetch)) no)
+    subst P file.1 (off_by file.0.yanked.enabled command.no_yanked (file.0.yanked.update_index && (file.0.database.fetch && not command.no_fetch)) by_flag)
 
 isnt_online : (command : AuditCommand) (host : Host) (config : AuditConfig) → settled command host ≡ Ok config → command.no_fetch ≡ true → checks_of config ≢ Online
-isnt_online command host config settles no =
+isnt_online command host config settles by_flag =
     let file = under command host config settles in
     let P : AuditConfig → Type 0 = λ c. checks_of c ≢ Online in
-    subst P file.1 (offline_by (not (file.0.yanked.enabled && not command.no_yanked)) (file.0.yanked.update_index && (file.0.database.fetch && not command.no_fetch)) (unasked file.0.yanked.update_index file.0.database.fetch command.no_fetch no))
+    subst P file.1 (offline_by (not (file.0.yanked.enabled && not command.no_yanked)) (file.0.yanked.update_index && (file.0.database.fetch && not command.no_fetch)) (unasked file.0.yanked.update_index file.0.database.fetch command.no_fetch by_flag))
 
 -- ---- locks by options
 
@@ -108,8 +108,8 @@ shared_part (Vendor more) options is = λ alone. is (ap at_least_shared alone)
 
 -- an audit that doesn't need the lock for itself isn't online
 not_online_by : (command : AuditCommand) (host : Host) (config : AuditConfig) → settled command host ≡ Ok config → (command.no_yanked ≡ true) ⊎ (command.no_fetch ≡ true) → checks_of config ≢ Online
-not_online_by command host config settles (inl no) = λ online. cc (is_off command host config settles no, online)
-not_online_by command host config settles (inr no) = isnt_online command host config settles no
+not_online_by command host config settles (inl by_flag) = λ online. cc (is_off command host config settles by_flag, online)
+not_online_by command host config settles (inr by_flag) = isnt_online command host config settles by_flag
 
 not_online : (command : AuditCommand) (host : Host) (config : AuditConfig) → settled command host ≡ Ok config → audit_lock command ≢ state.Exclusive → checks_of config ≢ Online
 not_online command host config settles is = not_online_by command host config settles (one_of command.no_yanked command.no_fetch is)
