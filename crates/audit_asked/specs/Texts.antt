@@ -1,7 +1,7 @@
 -- The texts of a host's files (this project).
-use Rattle.std.specs.Prelude.{ℕ, codes, List, length, bytes_eq, nat_lt, Option, Some, None, if◌then◌else◌, Result, Ok, Err}
+use Rattle.std.specs.Prelude.{◌≡◌, ℕ, codes, List, [], length, bytes_eq, nat_lt, Option, Some, None, if◌then◌else◌, Result, Ok, Err}
 use Rattle.toml_tables.specs.Results.{and_then, or_fault}
-use Rattle.tame_names.specs.Standing.{Host, Standing, Nothing, File, Folder, Other}
+use Rattle.tame_names.specs.Standing.{Host, IsInput, Standing, Nothing, File, Folder, Other}
 use Rattle.tame_names.specs.Utf8.{utf8_text}
 use Rattle.audit_asked.specs.Refusals.{Refused, limit, missing, no_file, not_utf8, too_large}
 
@@ -31,3 +31,7 @@ abbrev pub input_or_text : Host → List ℕ → Result (List ℕ) Refused
 input_or_text host path =
     if bytes_eq path (codes "-") then limited_text path host.input
     else file_text path (host.stands path)
+
+-- if this path is that of standard input, nothing is left of it
+abbrev pub IsUsedUp : List ℕ → Host → Type 0
+IsUsedUp path host = IsInput path → host.input ≡ []

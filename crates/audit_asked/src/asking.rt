@@ -7,6 +7,7 @@ ghost use Rattle.audit_asked.specs.Places.{place_of};
 ghost use Rattle.audit_asked.specs.Refusals.{Gives, IsAskFault, IsTextsFault, is_told, refused};
 ghost use Rattle.audit_asked.specs.Settings.{settled};
 ghost use Rattle.audit_asked.specs.Starts.{HasRunStartCause, RunStartsWhere, StartsAtMost};
+ghost use Rattle.audit_asked.specs.Texts.{IsUsedUp};
 
 use crate::advisories::advisories;
 use crate::databases::{database, database_path};
@@ -80,6 +81,7 @@ fn look<F: Files>(
         (F.failed files.old) (F.failed files.new) result }
     ensures same { F.tells → StaysButInput (IsInput place.now)
         (F.host files.old) (F.host files.new) }
+    ensures left { F.tells → IfOk result (λ _. IsUsedUp place.now (F.host files.new)) }
 {
     let database = database(alloc, files, &config.database.path)?;
     let advisories = advisories(alloc, files, &database)?;
@@ -115,6 +117,7 @@ fn texts<F: Files>(
         (F.failed files.old) (F.failed files.new) result }
     ensures same { F.tells → StaysButInput (IsInput place)
         (F.host files.old) (F.host files.new) }
+    ensures left { F.tells → IfOk result (λ _. IsUsedUp place (F.host files.new)) }
 {
     let Found {
         database,
@@ -168,6 +171,8 @@ pub fn ask<F: Files, R: Runner>(
         (F.failed files.old) (F.failed files.new) result }
     ensures same { F.tells → StaysButInput (IsInput (place_of command.now.file))
         (F.host files.old) (F.host files.new) }
+    ensures left { F.tells → IfOk result (λ _.
+        IsUsedUp (place_of command.now.file) (F.host files.new)) }
 {
     let config = settled(alloc, command, files)?;
     let place = place(alloc, files, runner, path_of(&command.file))?;

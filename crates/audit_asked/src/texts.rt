@@ -1,11 +1,11 @@
 //! The texts of a host's files.
-ghost use Rattle.std.specs.Prelude.{◌≡◌, ◌⊎◌, Ok, Err, Some, None, IfOk, IfErr, IsTrue, ⊤};
+ghost use Rattle.std.specs.Prelude.{◌≡◌, ◌⊎◌, [], Ok, Err, Some, None, IfOk, IfErr, IsTrue, ⊤};
 ghost use Rattle.tame_names.specs.Standing.{IsInput, StaysButInput};
 ghost use Rattle.tame_names.specs.Utf8.{utf8_text};
 ghost use Rattle.tame_names.specs.declared.host.FileCall.TheVariants as FileCall;
 ghost use Rattle.audit_asked.specs.Calls.{AddsFailed, HasFileCause, IsCallOn, IsInputCall, IsLockfileCall};
 ghost use Rattle.audit_asked.specs.Refusals.{IsReadFault, is_told, refused};
-ghost use Rattle.audit_asked.specs.Texts.{limited_text};
+ghost use Rattle.audit_asked.specs.Texts.{IsUsedUp, limited_text};
 ghost use Rattle.audit_asked.specs.Texts as spec;
 
 use crate::faults::AskFault;
@@ -87,6 +87,7 @@ fn input_text<F: Files>(alloc: Global, files: &mut F, path: &str) -> Result<Text
     ensures failed { F.tells → AddsFailed (IsInputCall path.now)
         (F.failed files.old) (F.failed files.new) result }
     ensures same { F.tells → StaysButInput ⊤ (F.host files.old) (F.host files.new) }
+    ensures left { F.tells → IfOk result (λ _. (F.host files.new).input ≡ []) }
 {
     let copy = Text::of(alloc, path)?;
     match files.read_stdin(alloc, TEXT_LIMIT) {
@@ -114,6 +115,7 @@ pub(crate) fn input_or_text<F: Files>(
         (F.failed files.old) (F.failed files.new) result }
     ensures same { F.tells → StaysButInput (IsInput path.now)
         (F.host files.old) (F.host files.new) }
+    ensures left { F.tells → IfOk result (λ _. IsUsedUp path.now (F.host files.new)) }
 {
     if path == "-" {
         input_text(alloc, files, path)

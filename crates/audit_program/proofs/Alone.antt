@@ -80,7 +80,7 @@ memory_run tells asking same before err err_faults outcome quiet fails ended =
       audits = record {
         audited = none_some outcome.audited _ fails.audited;
         binaries = none_some outcome.binaries _ fails.binaries;
-        partly = all_binaries _ asking (λ command more memory. if_none outcome.binaries _ (inl (quiet.wire, quiet.disk)));
+        partly = all_binaries _ asking (λ command more memory. if_none outcome.binaries _ (inl (quiet.wire, quiet.disk, quiet.decoder)));
         generated = none_some outcome.generated _ fails.generated;
       };
       has = record {
@@ -194,7 +194,7 @@ plain_run tells asking same before out out_faults err err_faults outcome quiet p
       audits = record {
         audited = none_some outcome.audited _ puts.audited;
         binaries = none_some outcome.binaries _ puts.binaries;
-        partly = all_binaries _ asking (λ command more memory. if_none outcome.binaries _ (inl (quiet.wire, quiet.disk)));
+        partly = all_binaries _ asking (λ command more memory. if_none outcome.binaries _ (inl (quiet.wire, quiet.disk, quiet.decoder)));
         generated = generated;
       };
       has = record {

@@ -1,12 +1,13 @@
 -- The line of a fault behind what was put.
-use Rattle.std.proofs.Common.{◌≡◌, ◌⊎◌, ◌≤◌, inl, inr, ℕ, List, ◌++◌, Option, Some, None, Result, Ok, Err, sym, subst, arith}
+use Rattle.std.proofs.Common.{◌≡◌, ◌⊎◌, ◌≤◌, inl, inr, ℕ, List, [], ◌++◌, take, ap, ◌∙◌, append_assoc, Option, Some, None, Result, Ok, Err, sym, subst, arith}
 use Rattle.std.specs.Prelude.{OnOk, IfErr}
 use Rattle.tame_names.specs.Counts.{CountStayed, CountRose}
 use Rattle.tame_names.specs.Output.{AddsPrefix}
 use Rattle.audit_remedies.specs.declared.faults.RunFault.{RunFault}
 use Rattle.audit_remedies.specs.declared.faults.RunFault.TheVariants as fault
 use Rattle.audit_remedies.specs.FaultLines.{fault_line}
-use Rattle.audit_remedies.specs.Outputs.{IsEnded, IsLinePut, IsPutBy}
+use Rattle.audit_remedies.specs.Outputs.{IsEnded, IsLinePut, IsPutBy, IsPutFirst}
+use Rattle.audit_remedies.proofs.Putting.{first_more}
 
 pub not_both : (before now : ℕ) → CountStayed before now → CountRose before now → ⊥
 not_both before now quiet rose = let same = quiet.0 in let low = quiet.1 in omega (arith, same, low, rose)
@@ -42,3 +43,18 @@ ended_by a b before text now f o m n line (inr is) h =
     let P : Option RunFault → Type 0 = λ x. IsEnded a before text x now m n in
     let Q : Option RunFault → Type 0 = λ x. IsEnded b before text x now m n in
     subst Q (sym is) (subst P is h)
+
+-- behind what was put there is at most the line
+ended_more : (place mid : List ℕ) (o : Option RunFault) (now : List ℕ) (f g : ℕ) → IsEnded place mid [] o now f g → (more : List ℕ) × (now ≡ mid ++ more)
+ended_more place mid None now f g h = (take h.part.0 [], h.part.1)
+ended_more place mid (Some reason) now f g h =
+    let none : List ℕ = take h.1.part.0 [] in
+    let line : List ℕ = take h.2.part.0 (fault_line place reason) in
+    (none ++ line, h.2.part.1 ∙ ap (λ (zs : List ℕ). zs ++ line) h.1.part.1 ∙ append_assoc mid none line)
+
+-- a text that was put whole before a step was started still stands once the line is put
+pub shown_more : (S T : Type 0) (before text mid now place : List ℕ) (o : Option RunFault) (f g : ℕ) → S ⊎ (T → IsPutFirst before text mid) → (T → IsEnded place mid [] o now f g)
+    → S ⊎ (T → IsPutFirst before text now)
+shown_more S T before text mid now place o f g (inl same) ended = inl same
+shown_more S T before text mid now place o f g (inr shown) ended =
+    inr (λ told. let more = ended_more place mid o now f g (ended told) in first_more before text mid more.0 now (shown told) more.1)

@@ -63,7 +63,7 @@ early_of (Fix dry_run) f early = early
 early_of Plan f early = early
 early_of (Baseline path) f early = early
 early_of (Vendor more) f early = early
-early_of (WriteBaseline path) (fault.File told) early = absurd early
+early_of (WriteBaseline path) (fault.File told) early = refl
 early_of (WriteBaseline path) (fault.Usage place) early = early
 early_of (WriteBaseline path) (fault.Settings reason) early = early
 early_of (WriteBaseline path) (fault.Missing told) early = early
@@ -93,7 +93,7 @@ late_vendor remedy reason early = let no : IsTrue (is_early (fault.Vendor reason
 
 -- nor is a fault of making
 late_file : {X : Type 0} (remedy : Remedy) (told : List ℕ) → IsFileOf remedy told → IsEarly remedy (fault.File told) → X
-late_file (WriteBaseline path) told only early = absurd early
+late_file (WriteBaseline path) told only early = absurd (early only)
 late_file Report told only early = absurd only
 late_file (Fix dry_run) told only early = absurd only
 late_file Plan told only early = absurd only

@@ -12,6 +12,7 @@ pub mod FaultCases
 pub mod GivenEnds
 pub mod HeldItems
 pub mod HeldVerdicts
+pub mod InputUsedUp
 pub mod LaterAudits
 pub mod LaterRuns
 pub mod Leaving

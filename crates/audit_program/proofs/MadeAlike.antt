@@ -123,13 +123,13 @@ plan_case m (made.Vendored v) h = absurd h
 planned_same : (m m2 : Making) (it it_too : Result Made RunFault) (w w2 : Made) → m.disk_tells → m2.disk_tells → it ≡ Ok w → it_too ≡ Ok w2 → m.advisories ≡ m2.advisories → SaysSame m.audited m2.audited
     → StockSame m.left.files m2.left.files m.audited.lockfile → CountStayed m.left.disk_faults m.ended.disk_faults → CountStayed m2.left.disk_faults m2.ended.disk_faults
     → IsPlanMade m it → IsPlanMade m2 it_too → w ≡ w2
-planned_same m m2 it it_too w w2 t t2 is is_too same said left stayed stayed_too h k =
+planned_same m m2 it it_too w w2 t t_too is is_too same said left stayed stayed_too h k =
     let A : Result Made RunFault → Type 0 = λ r. IsPlanMade m r in
     let B : Result Made RunFault → Type 0 = λ r. IsPlanMade m2 r in
     let one = plan_case m w (subst A is h) in
     let two = plan_case m2 w2 (subst B is_too k) in
     let P : List Advisory → Type 0 = λ x. IsPlanBy m2.disk_tells x m2.audited m2.left.files m2.left.disk_faults m2.ended.disk_faults two.0 in
-    let items : one.0 ≡ two.0 = plans_same m.disk_tells m2.disk_tells m.advisories m.audited m2.audited m.left.files m2.left.files m.left.disk_faults m.ended.disk_faults m2.left.disk_faults m2.ended.disk_faults one.0 two.0 t t2 said left stayed stayed_too
+    let items : one.0 ≡ two.0 = plans_same m.disk_tells m2.disk_tells m.advisories m.audited m2.audited m.left.files m2.left.files m.left.disk_faults m.ended.disk_faults m2.left.disk_faults m2.ended.disk_faults one.0 two.0 t t_too said left stayed stayed_too
     one.2 (subst P (sym same) two.2) in
     one.1 ∙ ap (λ (xs : List PlanItem). made.Planned xs) items ∙ sym two.1
 
@@ -159,8 +159,8 @@ pub record MadeSame (w x : Made) (now now_too : Host) : Type 0 where
   pub stands : now.stands ≡ now_too.stands
 
 -- no file was written
-unwritten_same : (T T2 : Type 0) (host now host_too now_too : Host) → T → T2 → host.stands ≡ host_too.stands → (T → now ≡ host) → (T2 → now_too ≡ host_too) → now.stands ≡ now_too.stands
-unwritten_same T T2 host now host_too now_too t t2 same h k = ap (λ (x : Host). x.stands) (h t) ∙ same ∙ sym (ap (λ (x : Host). x.stands) (k t2))
+unwritten_same : (T T_too : Type 0) (host now host_too now_too : Host) → T → T_too → host.stands ≡ host_too.stands → (T → now ≡ host) → (T_too → now_too ≡ host_too) → now.stands ≡ now_too.stands
+unwritten_same T T_too host now host_too now_too t t_too same h k = ap (λ (x : Host). x.stands) (h t) ∙ same ∙ sym (ap (λ (x : Host). x.stands) (k t_too))
 
 file_stands : (path : List ℕ) (m : Making) (it : Result Made RunFault) → m.files_tell → it ≡ Ok made.Written → IsFileMade path m it
     → m.host_now.stands ≡ with_standing path (File (written (listed (audit_findings m.advisories m.audited)))) m.host.stands
@@ -176,39 +176,39 @@ checks_same more m m2 said host stock =
 
 vendored_same : (more : VendorCommand) (m m2 : Making) (it it_too : Result Made RunFault) (w w2 : Made) → m.files_tell → m.disk_tells → m2.files_tell → m2.disk_tells → it ≡ Ok w → it_too ≡ Ok w2 → SaysSame m.audited m2.audited
     → m.host.stands ≡ m2.host.stands → StockSame m.left.files m2.left.files m.audited.lockfile → IsVendorMade more m it → IsVendorMade more m2 it_too → MadeSame w w2 m.host_now m2.host_now
-vendored_same more m m2 it it_too w w2 f d f2 d2 is is_too said host stock h k =
+vendored_same more m m2 it it_too w w2 f d f2 d_too is is_too said host stock h k =
     let A : Result Made RunFault → Type 0 = λ r. IsVendorMade more m r in
     let B : Result Made RunFault → Type 0 = λ r. IsVendorMade more m2 r in
     let one = vendor_case more m w (subst A is h) in
     let two = vendor_case more m2 w2 (subst B is_too k) in
     let both = made_both (stock_in more m) (stock_in more m2) m.audited.lockfile m2.audited.lockfile more.to (checks_same more m m2 said host stock) host m.host_now m2.host_now
-    m.left.disk_faults m.ended.disk_faults m2.left.disk_faults m2.ended.disk_faults one.0 two.0 f d f2 d2 one.2 two.2 in
+    m.left.disk_faults m.ended.disk_faults m2.left.disk_faults m2.ended.disk_faults one.0 two.0 f d f2 d_too one.2 two.2 in
     record { shown = inr (record { mine = one.0; other = two.0; is = one.1; too = two.1; packages = both.0; bytes = both.1 }); stands = both.2 }
 
 -- so the same is made
-pub made_same : (remedy : Remedy) (T D T2 D2 : Type 0) (advisories : List Advisory) (known : Option (List Finding)) (a a2 : Audited) (left ended left_too ended_too : Moment) (host now host_too now_too : Host) (it it_too : Result Made RunFault) (w w2 : Made) → T → D → T2 → D2
+pub made_same : (remedy : Remedy) (T D T_too D_too : Type 0) (advisories : List Advisory) (known : Option (List Finding)) (a a2 : Audited) (left ended left_too ended_too : Moment) (host now host_too now_too : Host) (it it_too : Result Made RunFault) (w w2 : Made) → T → D → T_too → D_too
     → IfErr it (λ reason. (None ≡ Some reason) ⊎ (None ≡ Some fault.NoMemory)) → IfErr it_too (λ reason. (None ≡ Some reason) ⊎ (None ≡ Some fault.NoMemory))
     → it ≡ Ok w → it_too ≡ Ok w2 → SaysSame a a2 → host.stands ≡ host_too.stands → ReadsAs remedy left left_too a.lockfile → CountStayed left.disk_faults ended.disk_faults → CountStayed left_too.disk_faults ended_too.disk_faults
-    → IsMade remedy (making T D advisories known a left ended host now) it → IsMade remedy (making T2 D2 advisories known a2 left_too ended_too host_too now_too) it_too → MadeSame w w2 now now_too
-made_same Report T D T2 D2 advisories known a a2 left ended left_too ended_too host now host_too now_too it it_too w w2 t d t2 d2 none none_too is is_too said same reads_as stayed stayed_too h k =
+    → IsMade remedy (making T D advisories known a left ended host now) it → IsMade remedy (making T_too D_too advisories known a2 left_too ended_too host_too now_too) it_too → MadeSame w w2 now now_too
+made_same Report T D T_too D_too advisories known a a2 left ended left_too ended_too host now host_too now_too it it_too w w2 t d t_too d_too none none_too is is_too said same reads_as stayed stayed_too h k =
     let one = h.0 in
     let two = k.0 in
-    record { shown = inl (cc (is, is_too, one, two)); stands = unwritten_same T T2 host now host_too now_too t t2 same h.2 k.2 }
-made_same (Fix dry_run) T D T2 D2 advisories known a a2 left ended left_too ended_too host now host_too now_too it it_too w w2 t d t2 d2 none none_too is is_too said same reads_as stayed stayed_too h k =
+    record { shown = inl (cc (is, is_too, one, two)); stands = unwritten_same T T_too host now host_too now_too t t_too same h.2 k.2 }
+made_same (Fix dry_run) T D T_too D_too advisories known a a2 left ended left_too ended_too host now host_too now_too it it_too w w2 t d t_too d_too none none_too is is_too said same reads_as stayed stayed_too h k =
     let one = h.0 in
     let two = k.0 in
-    record { shown = inl (cc (is, is_too, one, two)); stands = unwritten_same T T2 host now host_too now_too t t2 same h.2 k.2 }
-made_same Plan T D T2 D2 advisories known a a2 left ended left_too ended_too host now host_too now_too it it_too w w2 t d t2 d2 none none_too is is_too said same reads_as stayed stayed_too h k =
+    record { shown = inl (cc (is, is_too, one, two)); stands = unwritten_same T T_too host now host_too now_too t t_too same h.2 k.2 }
+made_same Plan T D T_too D_too advisories known a a2 left ended left_too ended_too host now host_too now_too it it_too w w2 t d t_too d_too none none_too is is_too said same reads_as stayed stayed_too h k =
     record {
-      shown = inl (planned_same (making T D advisories known a left ended host now) (making T2 D2 advisories known a2 left_too ended_too host_too now_too) it it_too w w2 d d2 is is_too refl said reads_as stayed stayed_too h.0 k.0);
-      stands = unwritten_same T T2 host now host_too now_too t t2 same h.2 k.2;
+      shown = inl (planned_same (making T D advisories known a left ended host now) (making T_too D_too advisories known a2 left_too ended_too host_too now_too) it it_too w w2 d d_too is is_too refl said reads_as stayed stayed_too h.0 k.0);
+      stands = unwritten_same T T_too host now host_too now_too t t_too same h.2 k.2;
     }
-made_same (Baseline path) T D T2 D2 advisories known a a2 left ended left_too ended_too host now host_too now_too it it_too w w2 t d t2 d2 none none_too is is_too said same reads_as stayed stayed_too h k =
+made_same (Baseline path) T D T_too D_too advisories known a a2 left ended left_too ended_too host now host_too now_too it it_too w w2 t d t_too d_too none none_too is is_too said same reads_as stayed stayed_too h k =
     let one = gate_case (making T D advisories known a left ended host now) it none h.0 in
-    let two = gate_case (making T2 D2 advisories known a2 left_too ended_too host_too now_too) it_too none_too k.0 in
+    let two = gate_case (making T_too D_too advisories known a2 left_too ended_too host_too now_too) it_too none_too k.0 in
     let found = gate_same advisories known a a2 said in
-    record { shown = inl (cc (is, is_too, one, two, found)); stands = unwritten_same T T2 host now host_too now_too t t2 same h.2 k.2 }
-made_same (WriteBaseline path) T D T2 D2 advisories known a a2 left ended left_too ended_too host now host_too now_too it it_too w w2 t d t2 d2 none none_too is is_too said same reads_as stayed stayed_too h k =
+    record { shown = inl (cc (is, is_too, one, two, found)); stands = unwritten_same T T_too host now host_too now_too t t_too same h.2 k.2 }
+made_same (WriteBaseline path) T D T_too D_too advisories known a a2 left ended left_too ended_too host now host_too now_too it it_too w w2 t d t_too d_too none none_too is is_too said same reads_as stayed stayed_too h k =
     let one = file_case path it none h.0 in
     let two = file_case path it_too none_too k.0 in
     let F : Audited → (List ℕ → Standing) → List ℕ → Standing = λ x stands. with_standing path (File (written (listed (audit_findings advisories x)))) stands in
@@ -216,10 +216,10 @@ made_same (WriteBaseline path) T D T2 D2 advisories known a a2 left ended left_t
       shown = inl (cc (is, is_too, one, two));
       stands = file_stands path (making T D advisories known a left ended host now) it t one h.2
           ∙ ap (λ (x : Audited). F x host.stands) (same_but_turns a a2 said) ∙ ap (λ (s : List ℕ → Standing). F a2 s) same
-          ∙ sym (file_stands path (making T2 D2 advisories known a2 left_too ended_too host_too now_too) it_too t2 two k.2);
+          ∙ sym (file_stands path (making T_too D_too advisories known a2 left_too ended_too host_too now_too) it_too t_too two k.2);
     }
-made_same (Vendor more) T D T2 D2 advisories known a a2 left ended left_too ended_too host now host_too now_too it it_too w w2 t d t2 d2 none none_too is is_too said same reads_as stayed stayed_too h k =
-    vendored_same more (making T D advisories known a left ended host now) (making T2 D2 advisories known a2 left_too ended_too host_too now_too) it it_too w w2 t d t2 d2 is is_too said same reads_as h.0 k.0
+made_same (Vendor more) T D T_too D_too advisories known a a2 left ended left_too ended_too host now host_too now_too it it_too w w2 t d t_too d_too none none_too is is_too said same reads_as stayed stayed_too h k =
+    vendored_same more (making T D advisories known a left ended host now) (making T_too D_too advisories known a2 left_too ended_too host_too now_too) it it_too w w2 t d t_too d_too is is_too said same reads_as h.0 k.0
 
 -- ---- no registry could be made
 
@@ -227,36 +227,36 @@ no_gate : {X : Type 0} (m : Making) (e : VendorFault) → IsGateMade m (Err (fau
 no_gate m e h = absurd h
 
 -- of the same, for the same reason
-pub unmade_same : (remedy : Remedy) (T D T2 D2 : Type 0) (advisories : List Advisory) (known : Option (List Finding)) (a a2 : Audited) (left ended left_too ended_too : Moment) (host now host_too now_too : Host) (e g : VendorFault) → T → D → T2 → D2
+pub unmade_same : (remedy : Remedy) (T D T_too D_too : Type 0) (advisories : List Advisory) (known : Option (List Finding)) (a a2 : Audited) (left ended left_too ended_too : Moment) (host now host_too now_too : Host) (e g : VendorFault) → T → D → T_too → D_too
     → IsTrue (is_said e) → IsTrue (is_said g) → SaysSame a a2 → host.stands ≡ host_too.stands → ReadsAs remedy left left_too a.lockfile
-    → IsMade remedy (making T D advisories known a left ended host now) (Err (fault.Vendor e)) → IsMade remedy (making T2 D2 advisories known a2 left_too ended_too host_too now_too) (Err (fault.Vendor g))
+    → IsMade remedy (making T D advisories known a left ended host now) (Err (fault.Vendor e)) → IsMade remedy (making T_too D_too advisories known a2 left_too ended_too host_too now_too) (Err (fault.Vendor g))
     → (vendor_words e ≡ vendor_words g) × (now.stands ≡ now_too.stands)
-unmade_same Report T D T2 D2 advisories known a a2 left ended left_too ended_too host now host_too now_too e g t d t2 d2 agreed agreed_too said same reads_as h k = let no = h.0 in cc (no)
-unmade_same (Fix dry_run) T D T2 D2 advisories known a a2 left ended left_too ended_too host now host_too now_too e g t d t2 d2 agreed agreed_too said same reads_as h k = let no = h.0 in cc (no)
-unmade_same Plan T D T2 D2 advisories known a a2 left ended left_too ended_too host now host_too now_too e g t d t2 d2 agreed agreed_too said same reads_as h k = absurd h.0
-unmade_same (Baseline path) T D T2 D2 advisories known a a2 left ended left_too ended_too host now host_too now_too e g t d t2 d2 agreed agreed_too said same reads_as h k = absurd h.0
-unmade_same (WriteBaseline path) T D T2 D2 advisories known a a2 left ended left_too ended_too host now host_too now_too e g t d t2 d2 agreed agreed_too said same reads_as h k = absurd h.0
-unmade_same (Vendor more) T D T2 D2 advisories known a a2 left ended left_too ended_too host now host_too now_too e g t d t2 d2 agreed agreed_too said same reads_as h k =
+unmade_same Report T D T_too D_too advisories known a a2 left ended left_too ended_too host now host_too now_too e g t d t_too d_too agreed agreed_too said same reads_as h k = let no = h.0 in cc (no)
+unmade_same (Fix dry_run) T D T_too D_too advisories known a a2 left ended left_too ended_too host now host_too now_too e g t d t_too d_too agreed agreed_too said same reads_as h k = let no = h.0 in cc (no)
+unmade_same Plan T D T_too D_too advisories known a a2 left ended left_too ended_too host now host_too now_too e g t d t_too d_too agreed agreed_too said same reads_as h k = absurd h.0
+unmade_same (Baseline path) T D T_too D_too advisories known a a2 left ended left_too ended_too host now host_too now_too e g t d t_too d_too agreed agreed_too said same reads_as h k = absurd h.0
+unmade_same (WriteBaseline path) T D T_too D_too advisories known a a2 left ended left_too ended_too host now host_too now_too e g t d t_too d_too agreed agreed_too said same reads_as h k = absurd h.0
+unmade_same (Vendor more) T D T_too D_too advisories known a a2 left ended left_too ended_too host now host_too now_too e g t d t_too d_too agreed agreed_too said same reads_as h k =
     let m = making T D advisories known a left ended host now in
-    let m2 = making T2 D2 advisories known a2 left_too ended_too host_too now_too in
+    let m2 = making T_too D_too advisories known a2 left_too ended_too host_too now_too in
     refused_same (stock_in more m) (stock_in more m2) a.lockfile a2.lockfile more.to (checks_same more m m2 said same reads_as) same now now_too left.disk_faults ended.disk_faults left_too.disk_faults ended_too.disk_faults
-    e g t d t2 d2 agreed agreed_too h.0.1 k.0.1
+    e g t d t_too d_too agreed agreed_too h.0.1 k.0.1
 
 -- and not where one was made
-pub made_unmade : {X : Type 0} (remedy : Remedy) (T D T2 D2 : Type 0) (advisories : List Advisory) (known : Option (List Finding)) (a a2 : Audited) (left ended left_too ended_too : Moment) (host now host_too now_too : Host) (w : Made) (g : VendorFault) → T → D → T2 → D2
+pub made_unmade : {X : Type 0} (remedy : Remedy) (T D T_too D_too : Type 0) (advisories : List Advisory) (known : Option (List Finding)) (a a2 : Audited) (left ended left_too ended_too : Moment) (host now host_too now_too : Host) (w : Made) (g : VendorFault) → T → D → T_too → D_too
     → IsTrue (is_said g) → SaysSame a a2 → host.stands ≡ host_too.stands → ReadsAs remedy left left_too a.lockfile
-    → IsMade remedy (making T D advisories known a left ended host now) (Ok w) → IsMade remedy (making T2 D2 advisories known a2 left_too ended_too host_too now_too) (Err (fault.Vendor g)) → X
-made_unmade Report T D T2 D2 advisories known a a2 left ended left_too ended_too host now host_too now_too w g t d t2 d2 agreed said same reads_as h k = let no = k.0 in cc (no)
-made_unmade (Fix dry_run) T D T2 D2 advisories known a a2 left ended left_too ended_too host now host_too now_too w g t d t2 d2 agreed said same reads_as h k = let no = k.0 in cc (no)
-made_unmade Plan T D T2 D2 advisories known a a2 left ended left_too ended_too host now host_too now_too w g t d t2 d2 agreed said same reads_as h k = absurd k.0
-made_unmade (Baseline path) T D T2 D2 advisories known a a2 left ended left_too ended_too host now host_too now_too w g t d t2 d2 agreed said same reads_as h k = absurd k.0
-made_unmade (WriteBaseline path) T D T2 D2 advisories known a a2 left ended left_too ended_too host now host_too now_too w g t d t2 d2 agreed said same reads_as h k = absurd k.0
-made_unmade (Vendor more) T D T2 D2 advisories known a a2 left ended left_too ended_too host now host_too now_too w g t d t2 d2 agreed said same reads_as h k =
+    → IsMade remedy (making T D advisories known a left ended host now) (Ok w) → IsMade remedy (making T_too D_too advisories known a2 left_too ended_too host_too now_too) (Err (fault.Vendor g)) → X
+made_unmade Report T D T_too D_too advisories known a a2 left ended left_too ended_too host now host_too now_too w g t d t_too d_too agreed said same reads_as h k = let no = k.0 in cc (no)
+made_unmade (Fix dry_run) T D T_too D_too advisories known a a2 left ended left_too ended_too host now host_too now_too w g t d t_too d_too agreed said same reads_as h k = let no = k.0 in cc (no)
+made_unmade Plan T D T_too D_too advisories known a a2 left ended left_too ended_too host now host_too now_too w g t d t_too d_too agreed said same reads_as h k = absurd k.0
+made_unmade (Baseline path) T D T_too D_too advisories known a a2 left ended left_too ended_too host now host_too now_too w g t d t_too d_too agreed said same reads_as h k = absurd k.0
+made_unmade (WriteBaseline path) T D T_too D_too advisories known a a2 left ended left_too ended_too host now host_too now_too w g t d t_too d_too agreed said same reads_as h k = absurd k.0
+made_unmade (Vendor more) T D T_too D_too advisories known a a2 left ended left_too ended_too host now host_too now_too w g t d t_too d_too agreed said same reads_as h k =
     let m = making T D advisories known a left ended host now in
-    let m2 = making T2 D2 advisories known a2 left_too ended_too host_too now_too in
+    let m2 = making T_too D_too advisories known a2 left_too ended_too host_too now_too in
     let one = vendor_case more m w h.0 in
     absurd (made_refused (stock_in more m) (stock_in more m2) a.lockfile a2.lockfile more.to (checks_same more m m2 said same reads_as) same now now_too left.disk_faults ended.disk_faults left_too.disk_faults ended_too.disk_faults
-    one.0 g t d t2 d2 agreed one.2 k.0.1)
+    one.0 g t d t_too d_too agreed one.2 k.0.1)
 
 -- the other way round
 pub reads_back : (remedy : Remedy) (left left_too : Moment) (packages packages_too : List Package) → packages ≡ packages_too → ReadsAs remedy left left_too packages → ReadsAs remedy left_too left packages_too

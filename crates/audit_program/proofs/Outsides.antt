@@ -29,6 +29,7 @@ given_beside tells told task given before now end a h = record {
   out = h.out;
   err = h.err;
   shown = h.shown;
+  shown_err = h.shown_err;
   is_end = h.is_end;
 }
 
@@ -39,6 +40,7 @@ task_beside tells told task before now end a h = record {
   gives = h.gives;
   there = h.there;
   is_there = h.is_there;
+  used_up = h.used_up;
   generated = h.generated;
   at_most = h.at_most;
   is_generated = h.is_generated;

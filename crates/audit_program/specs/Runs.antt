@@ -36,10 +36,10 @@ pub record AreAudits (tells : Telling) (asking : Asking) (same : Uncalled) (befo
   pub binaries : IfSome outcome.binaries (λ b. OfBinaries (λ command more.
       AreBinariesRun tells command more before now
       (ending outcome.fault outcome.status outcome.plan) b) asking)
-  -- where memory ran out and there are no answers: wire and cache are what they were, or the first
-  -- binaries were audited so, and the next one at most was begun
+  -- where memory ran out and there are no answers: wire, cache and decoder are what they were, or
+  -- the first binaries were audited so, and the next one at most was begun
   pub partly : IfBinaries (λ command more. outcome.fault ≡ Some fault.NoMemory
-      → IfNone outcome.binaries ((same.wire × same.disk)
+      → IfNone outcome.binaries ((same.wire × same.disk × same.decoder)
       ⊎ ArePartlyRun tells command more before now)) asking
   -- the two of made packages, over a server that is made too and one cache
   pub generated : IfSome outcome.generated (IsGeneratedRun asking)

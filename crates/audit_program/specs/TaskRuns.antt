@@ -4,6 +4,7 @@ use Rattle.tame_names.specs.Standing.{Host, IsInput, StaysButInput}
 use Rattle.audit_advisory.specs.declared.advisories.Advisory.{Advisory}
 use Rattle.audit_settings.specs.declared.configs.AuditConfig.{AuditConfig}
 use Rattle.audit_asked.specs.Starts.{RunStartsWhere, StartsAtMost}
+use Rattle.audit_asked.specs.Texts.{IsUsedUp}
 use Rattle.audit_asked.specs.declared.asking.Asked.{Asked}
 use Rattle.audit_asked.specs.declared.runners.Started.{Started}
 use Rattle.audit_core.specs.Auditors.{auditor_of}
@@ -12,7 +13,7 @@ use Rattle.audit_core.specs.Checks.{checks_of}
 use Rattle.audit_core.specs.declared.auditing.Audited.{Audited}
 use Rattle.audit_output.specs.Outputs.{Output, Shown, output_of}
 use Rattle.audit_remedies.specs.Makings.{IsMade, making}
-use Rattle.audit_remedies.specs.Outputs.{IsEnded, IsPutBy, output_by}
+use Rattle.audit_remedies.specs.Outputs.{IsEnded, IsPutBy, IsPutFirst, output_by}
 use Rattle.audit_remedies.specs.Steps.{AreStarted}
 use Rattle.audit_program.specs.Tasks.{task_asked, task_generates, task_place}
 use Rattle.audit_program.specs.Worlds.{Telling, World, moment_of}
@@ -58,19 +59,23 @@ pub record IsGivenRun (tells : Telling) (task : Task) (given : Asked) (before no
       ((task_output task given audited it).err
       ++ lines_by task.command.verdicts given.advisories audited it statuses)
       end.fault now.err before.err_faults now.err_faults
-  -- where a step was started, the whole text for out stands there
+  -- where a step was started, the whole text for out stands there, and so does that for err
   pub shown : (now.starts ≡ before.starts)
       ⊎ (tells.out → now.out ≡ before.out ++ (task_output task given audited it).out)
+  pub shown_err : (now.starts ≡ before.starts)
+      ⊎ (tells.err → IsPutFirst before.err (task_output task given audited it).err now.err)
   pub is_end : IsEndBy given.advisories audited it end
 
 -- the audit of a task: what the host has gives what was asked, of which nothing but standard input
--- is used up; the steps stand behind the start that generates a lockfile
+-- is used up, and all of it if the lockfile is there; the steps stand behind the start that
+-- generates a lockfile
 pub record IsTaskRun (tells : Telling) (task : Task) (before now : World) (end : Ending)
     (audited : Audited) : Type 0 where
   pub given : Asked
   pub gives : tells.files → task_asked task before.host (pos 0) ≡ Ok given
   pub there : Host
   pub is_there : tells.files → StaysButInput (IsInput (task_place task)) before.host there
+  pub used_up : tells.files → IsUsedUp (task_place task) there
   pub generated : List Started
   pub at_most : tells.runner → StartsAtMost before.starts generated
   -- it stands there where a lockfile was to be generated, and ended with 0

@@ -19,6 +19,7 @@
 mod auditing;
 mod binary_runs;
 mod generating;
+mod input_laws;
 mod laws;
 mod outcomes;
 mod running;
@@ -29,6 +30,7 @@ pub use audit_remedies::{Remedy, RunFault, fault_line};
 pub use audit_words::{
     BinCommand, CONFIG_FILE, Command, FixCommand, VERSION, VendorCommand, WordsFault, read_words,
 };
+pub use input_laws::nothing_is_left_of_the_input;
 pub use laws::{
     binaries_match_the_server, nothing_is_asked_without_a_lockfile,
     nothing_is_called_where_checks_are_off, offline_runs_in_histories_remember,

@@ -1,12 +1,12 @@
 -- Texts that were put, whole or in part.
-use Rattle.std.proofs.Common.{◌≡◌, ◌⊎◌, inl, inr, ℕ, List, [], ◌++◌, length, Option, Some, sym, ap, subst, ◌∙◌, append_assoc, append-nil}
+use Rattle.std.proofs.Common.{◌≡◌, ◌⊎◌, inl, inr, ℕ, List, [], ◌++◌, length, take, Option, Some, sym, ap, subst, ◌∙◌, append_assoc, append-nil}
 use Rattle.std.proofs.Math.Seq.{take-length}
 use Rattle.tame_names.specs.Output.{AddsPrefix}
 use Rattle.audit_remedies.specs.declared.faults.RunFault.{RunFault}
 use Rattle.audit_remedies.specs.declared.faults.RunFault.TheVariants as fault
 use Rattle.audit_remedies.specs.Faults.{IsPrintFault}
 use Rattle.audit_report.proofs.Puts.{part_first, part_none, part_then}
-use Rattle.audit_remedies.specs.Outputs.{IsPutBy, IsWhole}
+use Rattle.audit_remedies.specs.Outputs.{IsPutBy, IsPutFirst, IsWhole}
 use Rattle.audit_remedies.proofs.FaultCases.{print_case}
 
 -- all of it is a part of it
@@ -50,3 +50,11 @@ put_behind before xs ys mid now reason first h = record {
 -- the first text alone, or a part of it
 pub put_first : (before xs ys now : List ℕ) (f : RunFault) → IsPrintFault f → AddsPrefix before xs now → IsPutBy before (xs ++ ys) (Some f) now
 put_first before xs ys now f only part = put_part before (xs ++ ys) now f only (part_first before xs ys now part)
+
+-- a text that was put whole, and a part of another one after it
+pub first_put : (before text mid ys now : List ℕ) → mid ≡ before ++ text → AddsPrefix mid ys now → IsPutFirst before text now
+first_put before text mid ys now whole part = (take part.0 ys, part.1 ∙ ap (λ (zs : List ℕ). zs ++ take part.0 ys) whole)
+
+-- more after it
+pub first_more : (before text mid more now : List ℕ) → IsPutFirst before text mid → now ≡ mid ++ more → IsPutFirst before text now
+first_more before text mid more now h is = (h.0 ++ more, is ∙ ap (λ (zs : List ℕ). zs ++ more) h.1 ∙ append_assoc (before ++ text) h.0 more)

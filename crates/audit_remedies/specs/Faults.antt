@@ -6,7 +6,7 @@ use Rattle.audit_output.specs.declared.putting.PrintFault.{PrintFault}
 use Rattle.audit_output.specs.declared.putting.PrintFault.TheVariants as print
 use Rattle.audit_remedies.specs.declared.faults.RunFault.{RunFault}
 use Rattle.audit_remedies.specs.declared.faults.RunFault.TheVariants as fault
-use Rattle.std.specs.Prelude.{ℕ, Bool, true, false, IsTrue}
+use Rattle.std.specs.Prelude.{◌≢◌, ℕ, Bool, true, false, IsTrue}
 use Rattle.audit_remedies.specs.declared.remedies.Remedy.{Remedy}
 use Rattle.audit_remedies.specs.declared.remedies.Remedy.TheVariants.{WriteBaseline}
 
@@ -23,9 +23,10 @@ is_early (fault.Start failed) = false
 is_early fault.NoMemory = false
 is_early _ = true
 
--- the same of what is done with the audit: the file of a baseline is made behind it
+-- the same of what is done with the audit: the file of a baseline is made after it, so a call on it
+-- may fail then
 abbrev pub IsEarly : Remedy → RunFault → Type 0
-IsEarly (WriteBaseline path) (fault.File told) = ⊥
+IsEarly (WriteBaseline path) (fault.File told) = told ≢ path
 IsEarly remedy reason = IsTrue (is_early reason)
 
 -- what is asked of the host isn't given; one program couldn't be started

@@ -62,6 +62,10 @@ pub record IsPutBy (before text : List ℕ) (reason : Option RunFault) (now : Li
   pub part : AddsPrefix before text now
   pub whole : IsWhole reason → now ≡ before ++ text
 
+-- a text was put whole, and more may stand after it
+abbrev pub IsPutFirst : List ℕ → List ℕ → List ℕ → Type 0
+IsPutFirst before text now = (more : List ℕ) × (now ≡ (before ++ text) ++ more)
+
 -- a line was put: a part of it from the front, and all of it where the output's count of faults
 -- stayed
 pub record IsLinePut (before line now : List ℕ) (faults faults_now : ℕ) : Type 0 where

@@ -7,7 +7,7 @@ ghost use Rattle.audit_output.specs.Outputs.{output_of, shown_on};
 ghost use Rattle.audit_report.specs.Outputs.{IsPut};
 ghost use Rattle.upgrade_plan.specs.Lines as lines_spec;
 ghost use Rattle.audit_remedies.specs.Finishes.{IsFinishFault, IsFinished, end_of};
-ghost use Rattle.audit_remedies.specs.Outputs.{IsPutBy, made_output, vendored_line};
+ghost use Rattle.audit_remedies.specs.Outputs.{IsPutBy, IsPutFirst, made_output, vendored_line};
 ghost use Rattle.audit_remedies.specs.Statuses.{made_status};
 
 use crate::faults::RunFault;
@@ -109,6 +109,10 @@ pub fn finish<R: Runner, O: Sink, E: Sink>(
         ≡ O.holds out.old ++ (made_output (output_of verdicts
         (shown_on sheet.now) sheet.now.place.now sheet.now.audited.now) sheet.now.audited.now
         made.now).out) }
+    ensures shown_err { (R.starts runner.new ≡ R.starts runner.old) ⊎ (E.tells
+        → IsPutFirst (E.holds err.old) (made_output (output_of verdicts
+        (shown_on sheet.now) sheet.now.place.now sheet.now.audited.now) sheet.now.audited.now
+        made.now).err (E.holds err.new)) }
     ensures status { IfOk result (λ status. status ≡ made_status
         sheet.now.auditor.now.database sheet.now.audited.now made.now) }
     ensures out_later { O.faults out.old ≤ O.faults out.new }

@@ -5,7 +5,7 @@ ghost use Rattle.audit_core.specs.Auditors.{IsReportOf};
 ghost use Rattle.audit_output.specs.Outputs.{output_of, shown_on};
 ghost use Rattle.audit_report.specs.Outputs.{IsPut};
 ghost use Rattle.audit_remedies.specs.Finishes.{IsFinishFault, IsFinished, end_of};
-ghost use Rattle.audit_remedies.specs.Outputs.{IsPutBy, remedy_lines};
+ghost use Rattle.audit_remedies.specs.Outputs.{IsPutBy, IsPutFirst, remedy_lines};
 ghost use Rattle.audit_remedies.specs.Statuses.{fix_plan_of, made_status};
 ghost use Rattle.audit_remedies.specs.Steps.{AreStarted};
 ghost use Rattle.audit_remedies.specs.declared.makings.Made.TheVariants as Made;
@@ -122,6 +122,9 @@ pub fn print_and_fix<R: Runner, O: Sink, E: Sink>(
     ensures shown { (R.starts runner.new ≡ R.starts runner.old) ⊎ (O.tells → O.holds out.new
         ≡ O.holds out.old ++ (output_of verdicts (shown_on sheet.now)
         sheet.now.place.now sheet.now.audited.now).out) }
+    ensures shown_err { (R.starts runner.new ≡ R.starts runner.old) ⊎ (E.tells
+        → IsPutFirst (E.holds err.old) (output_of verdicts (shown_on sheet.now)
+        sheet.now.place.now sheet.now.audited.now).err (E.holds err.new)) }
     ensures status { IfOk result (λ status. status ≡ made_status
         sheet.now.auditor.now.database sheet.now.audited.now (Made.Fix dry_run)) }
     ensures out_later { O.faults out.old ≤ O.faults out.new }

@@ -148,11 +148,11 @@ ungiven command host reason given refused is =
     let settles = first.1 in
     cc (settles, refused)
 
-one_uncalled : {A B P : Type 0} → (A × B) ⊎ P → (P → ⊥) → B
-one_uncalled (inl both) never = both.1
+one_uncalled : {A B C P : Type 0} → (A × B × C) ⊎ P → (P → ⊥) → B
+one_uncalled (inl all) never = all.1
 one_uncalled (inr partly) never = absurd (never partly)
 
-ended_uncalled : {A B C P : Type 0} (o : Option RunFault) → (o ≡ Some fault.NoMemory) ⊎ (o ≢ Some fault.NoMemory) → (o ≡ Some fault.NoMemory → (A × B) ⊎ P) → (P → ⊥) → (o ≢ Some fault.NoMemory → A × B × C) → B
+ended_uncalled : {A B C P : Type 0} (o : Option RunFault) → (o ≡ Some fault.NoMemory) ⊎ (o ≢ Some fault.NoMemory) → (o ≡ Some fault.NoMemory → (A × B × C) ⊎ P) → (P → ⊥) → (o ≢ Some fault.NoMemory → A × B × C) → B
 ended_uncalled o (inl is) partly never early = one_uncalled (partly is) never
 ended_uncalled o (inr other) partly never early = (early other).1
 

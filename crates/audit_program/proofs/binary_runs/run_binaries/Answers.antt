@@ -100,7 +100,7 @@ returns-in-Err g c starts start_faults =
       audits = record {
         audited = none_some outcome.audited _ c.failed.ensures.audited;
         binaries = none_some outcome.binaries _ c.failed.ensures.binaries;
-        partly = λ memory. if_none outcome.binaries _ (inl (refl, refl));
+        partly = λ memory. if_none outcome.binaries _ (inl (refl, refl, refl));
         generated = none_some outcome.generated _ c.failed.ensures.generated;
       };
       has = record { has = first_of (search rules, grind (arith, common_steps)); vendor_audit = first_of (search rules, grind (arith, common_steps)); no_audit = first_of (search rules, grind (arith, common_steps)); no_plan = if_none outcome.audited _ c.failed.ensures.plan };

@@ -12,7 +12,7 @@ use Rattle.audit_remedies.specs.Faults.{IsEarly}
 use Rattle.audit_remedies.specs.Moments.{moment}
 use Rattle.audit_remedies.specs.declared.faults.RunFault.{RunFault}
 use Rattle.audit_remedies.specs.declared.faults.RunFault.TheVariants as fault
-use Rattle.audit_program.proofs.Ended.{ended_from}
+use Rattle.audit_program.proofs.Ended.{ended_from, shown_more}
 use Rattle.audit_program.proofs.FaultCases.{ends_with, finish_case, has_fault, late_making, late_memory, late_print, late_start, rose_before, rose_later}
 use Rattle.audit_remedies.proofs.Finishing.{started_failed}
 use Rattle.audit_program.proofs.GivenEnds.{audit_adds, audit_asked, audit_refused, failed_ends, later_count, no_fault, not_err, of_fault, same_count, unaudited_causes, unaudited_has, unfinished_causes, unmade_causes}
@@ -106,6 +106,7 @@ returns-in-Err-made g c decodes decode_faults =
         out = λ told. put_failed _ _ _ f c.failed-in-Err-made.result.fault end (put_nothing _ (Some f));
         err = λ told. rw c.place-in-Err-made.ensures at (c.failed-in-Err-made.ensures.ended told _ _ (put_nothing (g.E.Sink.holds c.args.err.now) (Some f)));
         shown = inl refl;
+        shown_err = inl refl;
         is_end = record { unmade = end; made = tt; status = tt; plan = refl };
       };
       has = record {
@@ -153,6 +154,7 @@ returns-in-Ok-finish g c decodes decode_faults =
         out = λ told. rw (c.in-Ok.ensures, c.as_str-2.ensures, c.as_str-3.ensures) at (c.in-Ok-finish.ensures.out told);
         err = f.put;
         shown = rw (c.in-Ok.ensures, c.as_str-2.ensures, c.as_str-3.ensures) at c.in-Ok-finish.ensures.shown;
+        shown_err = rw (c.in-Ok.ensures, c.as_str-2.ensures, c.as_str-3.ensures) at c.in-Ok-finish.ensures.shown_err;
         is_end = record { unmade = tt; made = tt; status = λ none. rw c.in-Ok.ensures at c.in-Ok-finish.ensures.status; plan = c.into_plan.ensures };
       };
       has = record { has = λ how. refl; vendor_audit = λ reason is. refl; no_audit = tt; no_plan = tt };
@@ -204,6 +206,8 @@ returns g c decodes decode_faults =
             ended_from _ _ _ c.failed-in-Err-finish.result.fault _ _ _ _ c.in-Err-finish.ensures.err_later c.failed-in-Err-finish.ensures.later
             (rw c.place-in-Err-finish.ensures at (c.failed-in-Err-finish.ensures.ended told _ _ (f.put told)));
         shown = rw (c.in-Ok.ensures, c.as_str-2.ensures, c.as_str-3.ensures) at c.in-Err-finish.ensures.shown;
+        shown_err = shown_more _ _ _ _ _ _ _ _ _ _ (rw (c.in-Ok.ensures, c.as_str-2.ensures, c.as_str-3.ensures) at c.in-Err-finish.ensures.shown_err)
+            (λ told. c.failed-in-Err-finish.ensures.ended told _ _ (put_nothing _ (Some c.in-Err-finish.fault)));
         is_end = record {
           unmade = tt;
           made = ends_with IsFinishFault c.failed-in-Err-finish.result.fault c.in-Err-finish.fault end c.in-Err-finish.ensures.only tt;

@@ -36,6 +36,7 @@ returns-in-Ok g c decodes decode_faults =
           gives = λ told. rw c.baseline.ensures at (c.in-Ok.ensures.gives told).ok;
           there = g.F.Files.host c.ask.new.files;
           is_there = c.in-Ok.ensures.same;
+          used_up = c.in-Ok.ensures.left;
           generated = g.R.Runner.starts c.ask.new.runner;
           at_most = c.in-Ok.ensures.at_most;
           is_generated = λ told_files told. generated_as _ c.in-Ok.given _ _ (c.in-Ok.ensures.started told_files told);
@@ -49,6 +50,7 @@ returns-in-Ok g c decodes decode_faults =
             out = k.out;
             err = k.err;
             shown = k.shown;
+            shown_err = k.shown_err;
             is_end = k.is_end;
           };
         }) h.audited;

@@ -4,7 +4,7 @@ use Rattle.audit_remedies.specs.Faults.{by_print}
 use Rattle.audit_remedies.specs.Finishes.{end_of}
 use Rattle.audit_remedies.proofs.FaultCases.{is_print}
 use Rattle.audit_remedies.proofs.Finishing.{part_nothing, partly_started}
-use Rattle.audit_remedies.proofs.Putting.{put_behind, put_first}
+use Rattle.audit_remedies.proofs.Putting.{first_put, put_behind, put_first}
 use Rattle.audit_remedies.proofs.fix_runs.print_and_fix.Goals as goal
 
 pub returns-in_err-print-clause-finished : goal.returns-in_err-print-clause-finished
@@ -27,3 +27,6 @@ returns-clause-finished g c =
 
 pub returns-clause-shown : goal.returns-clause-shown
 returns-clause-shown g c = inr (λ told. (c.in_ok-print.ensures.out told).whole)
+
+pub returns-clause-shown_err : goal.returns-clause-shown_err
+returns-clause-shown_err g c = inr (λ told. first_put _ _ _ _ _ (c.in_ok-print.ensures.err told).whole (c.fix.ensures.fixed.put told).part)
