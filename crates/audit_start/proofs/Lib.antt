@@ -1,5 +1,5 @@
+pub mod Begun
 pub mod LockedRuns
-pub mod Starting
 pub mod Sufficing
 pub mod Taking
 pub mod Waiting

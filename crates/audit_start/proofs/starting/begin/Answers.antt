@@ -1,6 +1,6 @@
 use Rattle.std.proofs.Common.{◌≡◌}
 use Rattle.audit_start.specs.Starts.{lock_file}
-use Rattle.audit_start.proofs.Starting.{started}
+use Rattle.audit_start.proofs.Begun.{started}
 use Rattle.audit_start.proofs.starting.begin.Goals as goal
 
 pub returns-clause-ok : goal.returns-clause-ok
