@@ -71,21 +71,42 @@ def items_of(folder):
     return items & handed, had
 
 
+# what is derived, or is a trait of the toolchain alone: the page names these only where upstream has them
+DERIVED = set("Clone Copy Debug Drop Eq Hash Model PartialEq ThisError".split())
+LINK = re.compile(r"\[((?:`[^`]*`|[^]`])*)\]\(#([\w-]+)\)")
+
+
 def told_in(differences, anchor_of):
-    """For each heading of docs/DIFFERENCES.md the first cells of its rows, and the words in front of its points."""
-    told, now = {}, None
+    """For each heading of docs/DIFFERENCES.md the rows by their first cells, and the points by the words that they begin with. A
+    row without a first cell goes on with the one above it."""
+    told, now, above = {}, None, ""
     for line in differences.splitlines():
         if line.startswith("#"):
-            now = told.setdefault(anchor_of(line.lstrip("# ")), set())
-        elif found := re.match(r"\| (.+?) \||- \*\*(.+?)\*\*", line):
-            now.add((found[1] or found[2]).strip().removesuffix("."))
+            now = told.setdefault(anchor_of(line.lstrip("# ")), {})
+        elif found := re.match(r"\| (.*?) ?\||- \*\*(.+?)\*\*", line):
+            above = (found[1] or found[2] or above).strip().removesuffix(".")
+            now[above] = now.get(above, "") + line
     return told
 
 
+def words(text):
+    """The words in a text's ticks, a generic one also without what it is of."""
+    found = set(re.findall(r"`([^`]+)`", text))
+    return found | set(re.findall(r"\w+", " ".join(found)))
+
+
+def section(differences, title):
+    return differences.partition(f"\n## {title}\n")[2].partition("\n## ")[0]
+
+
 def wrong_rows(differences, crates, anchor_of):
-    """What is wrong with the rows of the index, and how many rows, alike names and links there are."""
-    told, known, wrong, alike = told_in(differences, anchor_of), {}, [], 0
+    """What is wrong with the rows of the index, and how many rows, alike names, other public names of ours and links there are. A
+    name that the page gives has to be there, or be named as lacking; a public name of ours has to be in the row of its type, in a
+    row that this links to, or among what is added."""
+    told, known, wrong, alike, others = told_in(differences, anchor_of), {}, [], 0, 0
     page = differences.partition(INDEX)[2]
+    lacking = words(section(differences, "What is left out") + section(differences, "What the toolchain can't have"))
+    added = lacking | words(section(differences, "What is added"))
     rows = [row for row in re.findall(r"(?m)^\| (.*) \|$", page) if not row.startswith("upstream |")]
     for row in rows:
         cells = [cell.strip() for cell in row.split(" | ")] if row.count(" | ") == 3 else re.split(r" ?\| ?", row)
@@ -93,6 +114,7 @@ def wrong_rows(differences, crates, anchor_of):
             wrong.append(f"a row of {len(cells)} cells: {row[:60]}")
             continue
         names, here, same = (re.findall(r"`([^`]+)`", cell) for cell in cells[:3])
+        linked = words(" ".join(told.get(anchor, {}).get(label, "") for label, anchor in LINK.findall(cells[3])))
         crate, _, other = here[0].partition("::") if here else ("", "", "")
         if crate and crate not in known:
             known[crate] = items_of(f"{crates}/{crate}")
@@ -103,7 +125,26 @@ def wrong_rows(differences, crates, anchor_of):
         if not (same or cells[2] in ("alike", "-")) or not (same or cells[2] == "alike" or cells[3]):
             wrong.append(f"nothing is said of {cells[0][:60]}")
         alike += len(same) or (len(names) if cells[2] == "alike" else 0)
-    links = re.findall(r"\[((?:`[^`]*`|[^]`])*)\]\(#([\w-]+)\)", page)
+        # names that differ: there, or named as lacking
+        there = items.union(*(had.get(name, ()) for name in ours))
+        differ = re.findall(r"`([^`]+)`", LINK.sub("", cells[3])) if ours else []
+        wrong.extend(f"{ours[0]} of {crate} has no {name}, and nothing says so" for name in differ
+                     if name not in there | {each.partition("<")[0] for each in there} | linked | lacking)
+        # names of ours: in the row, in one that it links to, or added
+        more = {name for each in ours for name in had.get(each, ()) if name not in DERIVED}
+        wrong.extend(f"nothing tells of {name} of {ours[0]}" for name in sorted(more)
+                     if not {name, name.partition("<")[0]} & (set(same) | set(differ) | words(cells[3]) | linked | added))
+        others += len(more - set(same))
+        known.setdefault("missing", set()).update(names if not crate else ())
+    everything = set()
+    for path in sorted(glob.glob(f"{crates}/*/src/lib.rt")):
+        crate = path.split("/")[-3]
+        items, had = known[crate] if crate in known else items_of(f"{crates}/{crate}")
+        wrong.extend(f"{name} is named as lacking, and {crate} has it" for name in sorted(items & known["missing"]))
+        everything |= {crate} | items.union(*(had[name] for name in items if name in had))
+    wrong.extend(f"{name} is named as added, and no library has it"
+                 for name in sorted(set(re.findall(r"`(\w+)`", section(differences, "What is added"))) - everything))
+    links = LINK.findall(page)
     wrong.extend(f"no row {label} under {anchor}" for label, anchor in links
                  if label not in told.get(anchor, ()) and label != "what holds everywhere")
-    return wrong, (len(rows), alike, len(links))
+    return wrong, (len(rows), alike, others, len(links))
