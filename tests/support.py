@@ -238,16 +238,20 @@ def program_for_all():
     return os.path.abspath("program")
 
 
-def on_small_disk(size, script, env=None):
-    """Runs a script of the shell in the current folder, where the folder `small` is a disk of this
-    size; nobody else sees it, and it goes away with the script. None where it can't be made."""
+def with_mounts(script, env=None):
+    """Runs a script of the shell in the current folder with mounts of its own: nobody else sees them, and
+    they go away with it. It ends with 77 where they can't be made. None then, and where none can be."""
     if not shutil.which("unshare") or not shutil.which("mount"):
         return None
-    os.makedirs("small", exist_ok=True)
     spaces = ["unshare", "--mount"] if os.geteuid() == 0 else ["unshare", "--user", "--map-root-user", "--mount"]
-    whole = f"mount -t tmpfs -o size={size} tmpfs small || exit 77\n{script}"
-    ran = run([*spaces, "bash", "-c", whole], env)
+    ran = run([*spaces, "bash", "-c", script], env)
     return None if ran.status == 77 or "unshare failed" in ran.err else ran
+
+
+def on_small_disk(size, script, env=None):
+    """The same, where the folder `small` is a disk of this size."""
+    os.makedirs("small", exist_ok=True)
+    return with_mounts(f"mount -t tmpfs -o size={size} tmpfs small || exit 77\n{script}", env)
 
 
 def shim(name):
