@@ -53,8 +53,8 @@ put_first before xs ys now f only part = put_part before (xs ++ ys) now f only (
 
 -- a text that was put whole, and a part of another one after it
 pub first_put : (before text mid ys now : List ℕ) → mid ≡ before ++ text → AddsPrefix mid ys now → IsPutFirst before text now
-first_put before text mid ys now whole part = (take part.0 ys, part.1 ∙ ap (λ (zs : List ℕ). zs ++ take part.0 ys) whole)
+first_put before text mid ys now whole part = record { more = take part.0 ys; whole = part.1 ∙ ap (λ (zs : List ℕ). zs ++ take part.0 ys) whole }
 
 -- more after it
 pub first_more : (before text mid more now : List ℕ) → IsPutFirst before text mid → now ≡ mid ++ more → IsPutFirst before text now
-first_more before text mid more now h is = (h.0 ++ more, is ∙ ap (λ (zs : List ℕ). zs ++ more) h.1 ∙ append_assoc (before ++ text) h.0 more)
+first_more before text mid more now h is = record { more = h.more ++ more; whole = is ∙ ap (λ (zs : List ℕ). zs ++ more) h.whole ∙ append_assoc (before ++ text) h.more more }

@@ -63,8 +63,9 @@ pub record IsPutBy (before text : List ℕ) (reason : Option RunFault) (now : Li
   pub whole : IsWhole reason → now ≡ before ++ text
 
 -- a text was put whole, and more may stand after it
-abbrev pub IsPutFirst : List ℕ → List ℕ → List ℕ → Type 0
-IsPutFirst before text now = (more : List ℕ) × (now ≡ (before ++ text) ++ more)
+pub record IsPutFirst (before text now : List ℕ) : Type 0 where
+  pub more : List ℕ
+  pub whole : now ≡ (before ++ text) ++ more
 
 -- a line was put: a part of it from the front, and all of it where the output's count of faults
 -- stayed

@@ -29,4 +29,4 @@ pub returns-clause-shown : goal.returns-clause-shown
 returns-clause-shown g c = inr (λ told. (c.in_ok-print.ensures.out told).whole)
 
 pub returns-clause-shown_err : goal.returns-clause-shown_err
-returns-clause-shown_err g c = inr (λ told. first_put _ _ _ _ _ (c.in_ok-print.ensures.err told).whole (c.fix.ensures.fixed.put told).part)
+returns-clause-shown_err g c = inr (λ told. first_put (g.E.Sink.holds c.args.err.now) _ (g.E.Sink.holds c.print.new.err) _ (g.E.Sink.holds c.fix.new.err) (c.in_ok-print.ensures.err told).whole (c.fix.ensures.fixed.put told).part)
