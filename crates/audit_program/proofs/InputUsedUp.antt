@@ -21,7 +21,7 @@ same_input a b is = ap (λ (h : Host). h.input) is
 created : (path bytes : List ℕ) (a b : Host) (r : Result Unit RunFault) → Creates path bytes a b r → b.input ≡ a.input
 created path bytes a b (Ok done) h = ap (λ (x : Host). x.input) h.1
 created path bytes a b (Err f) (inl same) = same_input a b same
-created path bytes a b (Err f) (inr some) = ap (λ (x : Host). x.input) some.2
+created path bytes a b (Err f) (inr some) = ap (λ (x : Host). x.input) some.1.1
 
 -- what is made of an audit leaves the input, but for a registry
 made_left : (remedy : Remedy) (m : Making) (r : Result Made RunFault) → IsMade remedy m r → (MakesRegistry remedy → ⊥) → m.files_tell → m.host_now.input ≡ m.host.input
