@@ -7,8 +7,9 @@ ghost use Rattle.tame_cache.specs.FailedCalls.{AddsFailed, AddsFailedBut, Failed
 ghost use Rattle.tame_cache.specs.Faults.{HasDiskCause};
 ghost use Rattle.tame_cache.specs.Folders.{MakesOnly};
 ghost use Rattle.tame_cache.specs.declared.disk.DiskCall.TheVariants as DiskCall;
-ghost use Rattle.edge_twins.specs.Recordings.{AddsNotes, IsPassed, done_text, first_text, note, peek_text, read_text, stopped, write_text};
+ghost use Rattle.edge_twins.specs.Recordings.{AddsNotes, IsPassed, done_text, note, peek_text, read_text, stopped, write_text};
 
+use crate::notes::{file_text, push_note, text_of_first};
 use crate::standing::{digits, push_bytes};
 use std::alloc::{AllocError, Global};
 use tame_cache::{CacheDisk, DiskFault, DiskReadFault, Peek};
@@ -31,38 +32,6 @@ pub struct Recorder<'a, D: CacheDisk + Drop> {
     /// How many calls are let through; those behind them fail.
     left: u64,
     faults: u64,
-}
-
-/// A file that was read, as a text.
-fn file_text(alloc: Global, bytes: &[u8]) -> Result<String, AllocError> {
-    let mut text = String::new(alloc);
-    push_bytes(alloc, &mut text, bytes)?;
-    Ok(text)
-}
-
-/// What a file begins with, as a text.
-fn text_of_first(alloc: Global, first: Peek) -> Result<String, AllocError>
-    ensures { IfOk result (λ text. string_bytes text ≡ first_text first) }
-{
-    match first {
-        Peek::Absent => String::from_str(alloc, "absent"),
-        Peek::Empty => String::from_str(alloc, "empty"),
-        Peek::Byte(byte) => format!(in alloc; "byte {byte}"),
-    }
-}
-
-/// Adds a note.
-fn push_note(notes: &mut String, text: &str) -> Result<(), AllocError>
-    ensures part { AddsPrefix (string_bytes notes.old) (note text.now) (string_bytes notes.new) }
-    ensures whole { OnOk result (string_bytes notes.new ≡ string_bytes notes.old ++ note text.now) }
-{
-    if notes.push_str(text).is_err() {
-        return Err(AllocError);
-    }
-    if notes.push_str("; ").is_err() {
-        return Err(AllocError);
-    }
-    Ok(())
 }
 
 impl<'a, D: CacheDisk + Drop> Recorder<'a, D> {
@@ -116,6 +85,7 @@ impl<'a, D: CacheDisk + Drop> Recorder<'a, D> {
         ensures disk { self.new.disk ≡ self.old.disk }
         ensures left { self.new.left ≡ self.old.left }
         ensures faults { self.new.faults ≡ self.old.faults }
+        ensures told { self.new.told ≡ self.old.told }
         ensures noted { IfOk text (λ t. AddsPrefix (string_bytes self.old.notes)
             (note (string_bytes t)) (string_bytes self.new.notes)) }
         ensures added { IfOk text (λ t. AddsNotes (note (string_bytes t))
@@ -155,6 +125,7 @@ impl<'a, D: CacheDisk + Drop> Recorder<'a, D> {
         ensures later { self.old.faults ≤ self.new.faults }
         ensures disk { self.new.disk ≡ self.old.disk }
         ensures left { self.new.left ≡ self.old.left }
+        ensures told { self.new.told ≡ self.old.told }
         ensures added { AddsNotes (note (codes "fault"))
             (string_bytes self.old.notes) (string_bytes self.new.notes)
             self.old.whole self.new.whole }
@@ -171,6 +142,7 @@ impl<'a, D: CacheDisk + Drop> Recorder<'a, D> {
         ensures left { self.new.left ≡ self.old.left - 1 }
         ensures quiet { OnOk result (self.new.faults ≡ self.old.faults) }
         ensures disk { self.new.disk ≡ self.old.disk }
+        ensures told { self.new.told ≡ self.old.told }
         ensures added { IfOk text (λ t. AddsNotes (note (string_bytes t) ++ stopped result)
             (string_bytes self.old.notes) (string_bytes self.new.notes)
             self.old.whole self.new.whole) }
@@ -191,6 +163,7 @@ impl<'a, D: CacheDisk + Drop> Recorder<'a, D> {
         ensures quiet { OnOk result (self.new.faults ≡ self.old.faults) }
         ensures disk { self.new.disk ≡ self.old.disk }
         ensures left { self.new.left ≡ self.old.left }
+        ensures told { self.new.told ≡ self.old.told }
         ensures added { AddsNotes (note (done_text result))
             (string_bytes self.old.notes) (string_bytes self.new.notes)
             self.old.whole self.new.whole }
@@ -212,6 +185,23 @@ impl<'a, D: CacheDisk + Drop> Recorder<'a, D> {
         let mut text = String::new(self.alloc);
         push_bytes(self.alloc, &mut text, piece)?;
         Ok(text)
+    }
+
+    /// Begins a write. Keeps how its piece is told.
+    fn begin_write(&mut self, path: &str, at: u64, piece: &[u8]) -> Result<(), DiskFault>
+        ensures cause { HasDiskCause self.old.faults self.new.faults result }
+        ensures through { IsOk result ↔ (0 < self.old.left) }
+        ensures left { self.new.left ≡ self.old.left - 1 }
+        ensures quiet { OnOk result (self.new.faults ≡ self.old.faults) }
+        ensures disk { self.new.disk ≡ self.old.disk }
+        ensures added { AddsNotes
+            (note (write_text path.now at (string_bytes self.new.told)) ++ stopped result)
+            (string_bytes self.old.notes) (string_bytes self.new.notes)
+            self.old.whole self.new.whole }
+    {
+        self.keep(self.piece(piece));
+        let text = format!(in self.alloc; "write {path} {at} {}", self.told);
+        self.call(text)
     }
 }
 
@@ -341,9 +331,7 @@ impl<'a, D: CacheDisk + Drop> CacheDisk for Recorder<'a, D> {
         ensures passed { IsPassed self.old.left self.new.left self.old.disk self.new.disk
             (HasDiskCause (D.faults self.old.disk) (D.faults self.new.disk) result) }
     {
-        self.keep(self.piece(piece));
-        let text = format!(in self.alloc; "write {path} {at} {}", self.told);
-        self.call(text)?;
+        self.begin_write(path, at, piece)?;
         let done = self.disk.write_at(path, at, piece);
         self.end(done)
     }
