@@ -123,7 +123,7 @@ fn with_record<D: CacheDisk + Drop>(
     text: &str,
     disk: &Recorder<'_, D>,
 ) -> io::Result<String> {
-    Ok(format!(in alloc; "{text}; {}{} faults", disk.record(), disk.disk_faults())?)
+    Ok(format!(in alloc; "{text}; {}{} faults", disk.record()?, disk.disk_faults())?)
 }
 
 impl<'a> Audits<'a> {

@@ -27,6 +27,7 @@ mod host_calls;
 mod hosts;
 mod known;
 mod making;
+mod notes;
 mod places;
 mod play;
 mod playing;

@@ -45,7 +45,7 @@ fn tell_calls(
     let file = disk.disk.read(alloc, FILE);
     let file = whole_text(alloc, file)?;
     println!(rt; "{} in all", disk.disk_faults())?;
-    println!(rt; "{}the file: {file}", disk.record())
+    println!(rt; "{}the file: {file}", disk.record()?)
 }
 
 /// Tells the calls: all let through, two of them, and all on a disk that fails.

@@ -19,6 +19,15 @@ pub fn said(alloc: Global, word: &str) -> io::Result<String> {
     Ok(String::from_str(alloc, word)?)
 }
 
+/// Bytes as digits.
+pub fn digits(alloc: Global, bytes: &[u8]) -> Result<String, AllocError> {
+    let mut text = String::new(alloc);
+    for byte in bytes {
+        text.push_str(format!(in alloc; "{byte:02x}")?.as_str())?;
+    }
+    Ok(text)
+}
+
 /// Adds bytes to a text, each as a character; more than a hundred by their number and a hash.
 pub fn push_bytes(alloc: Global, text: &mut String, bytes: &[u8]) -> Result<(), AllocError> {
     if bytes.len() > 100 {
