@@ -61,7 +61,7 @@ def spoken(blocks, head):
 
 
 def options(manual):
-    titles = {"front": "In front of audit", "audit": "Behind audit", "fix": "Behind fix", "bin": "Behind bin"}
+    titles = {"front": "Before audit", "audit": "After audit", "fix": "After fix", "bin": "After bin"}
     text = ".SH OPTIONS\n"
     for place, title in titles.items():
         text += f".SS {title}\n"
@@ -78,7 +78,7 @@ def page(manual):
     parts.append(".SH NAME\ncargo\\-audit \\- audit a Cargo.lock for vulnerable and yanked packages\n.SH SYNOPSIS\n")
     usage = usage_of(manual.blocks)
     parts.append("\n.br\n".join(words(line) for line, _ in usage) + "\n")
-    parts.append(f".SH DESCRIPTION\n{plain(spoken(manual.blocks, 'Looks up'))}\n")
+    parts.append(f".SH DESCRIPTION\n{plain(spoken(manual.blocks, 'Checks each'))}\n")
     parts.append(".SH COMMANDS\n" + "".join(entry(words(line), text) for line, text in usage))
     parts.append(options(manual))
     for title, head, bold in (("EXIT STATUS", "Exit status:", False), ("ENVIRONMENT", "Environment:", True), ("FILES", "Files:", True)):

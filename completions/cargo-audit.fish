@@ -73,7 +73,7 @@ for program in cargo-audit cargo
     complete -c $program -n '__cargo_audit_is first audit none' -s h -l help -d 'print the help'
     complete -c $program -n '__cargo_audit_is first audit none' -s V -l version -d 'print the version'
     complete -c $program -n '__cargo_audit_is fix' -s f -l file -r -F -d 'the lockfile'
-    complete -c $program -n '__cargo_audit_is fix' -l dry-run -d 'pass --dry-run on to cargo'
+    complete -c $program -n '__cargo_audit_is fix' -l dry-run -d 'the updates would be started with --dry-run'
     complete -c $program -n '__cargo_audit_is fix' -s h -l help -d 'print the help'
     complete -c $program -n '__cargo_audit_is bin' -l max-binary-size -x -d 'bytes that a file may have, 0 for any number'
     complete -c $program -n '__cargo_audit_is bin' -l audit-data-size-limit -x -d 'bytes that its lockfile may have'

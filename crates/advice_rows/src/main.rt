@@ -1,7 +1,7 @@
-//! Rows of advice: each line of the input is a case or a step, which is answered by what it tells.
+//! Rows of advice: each line of the input is a case or a step; the answer is what it reports.
 //! A line `== SECTION` begins the rows of a table, of which nothing stays for the next:
 //!
-//! - `words`: words, settings, and settings under words;
+//! - `words`: arguments, settings, and settings under arguments;
 //! - `advisories`: requirements, advisories, what they hit, and reports of small databases;
 //! - `reports`: printed reports and status lines;
 //! - `trees`: the inverse dependency trees of lockfiles.

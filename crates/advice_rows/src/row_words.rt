@@ -1,11 +1,11 @@
-//! What the words of a row stand for.
+//! What the words of a row mean.
 use audit_advisory::{DenyOption, Informational, OutputFormat, Severity, WarningKind};
 use audit_report::Found;
 use row_fixtures::{Row, RowFault};
 use std::alloc::Global;
 use tame_names::{Items, Text};
 
-/// The words that commas part; none for `-`.
+/// The words between commas; none for `-`.
 pub fn listed(alloc: Global, row: &mut Row<'_>) -> Result<Items<Text>, RowFault> {
     let mut texts = Items::new(alloc);
     let word = row.word();
@@ -38,7 +38,7 @@ pub fn denied(alloc: Global, row: &mut Row<'_>) -> Result<Items<DenyOption>, Row
     Ok(options)
 }
 
-/// The places that a word lists; none for `-`.
+/// The indices that a word lists; none for `-`.
 pub fn places(alloc: Global, row: &mut Row<'_>) -> Result<Items<usize>, RowFault> {
     let mut places = Items::new(alloc);
     for place in row.numbers(alloc)?.as_slice() {
@@ -47,12 +47,12 @@ pub fn places(alloc: Global, row: &mut Row<'_>) -> Result<Items<usize>, RowFault
     Ok(places)
 }
 
-/// A place.
+/// An index.
 pub fn place(row: &mut Row<'_>) -> Result<usize, RowFault> {
     Ok(row.number()? as usize)
 }
 
-/// A place; nothing for `-`.
+/// An index; nothing for `-`.
 pub fn place_or_none(alloc: Global, row: &mut Row<'_>) -> Result<Option<usize>, RowFault> {
     let places = places(alloc, row)?;
     match places.as_slice().first() {
@@ -93,7 +93,7 @@ pub fn format(row: &mut Row<'_>) -> Result<OutputFormat, RowFault> {
     }
 }
 
-/// What a binary tells of its packages.
+/// What a binary reports of its packages.
 pub fn found(row: &mut Row<'_>) -> Result<Found, RowFault> {
     match row.word() {
         "complete" => Ok(Found::Complete),

@@ -1,5 +1,5 @@
 //! What the rows of advisories, reports and trees work on. `LINE` is the rest of a line, in which
-//! `\n`, `\t`, `\\` and `\xHH` are escapes; `-` stands for nothing, and commas part lists:
+//! `\n`, `\t`, `\\` and `\xHH` are escapes; `-` means nothing, and commas part lists:
 //!
 //! - `clear`: no advisory and no lockfile;
 //! - `advisory`: an advisory begins, `lock`: the lockfile begins, `| LINE`: the next line of it;
@@ -21,7 +21,7 @@ pub struct Laid {
     pub report: Report,
 }
 
-/// The texts that were laid, and what was made.
+/// The text of the rows so far, and what was made.
 #[derive(Drop)]
 pub struct Stage {
     pub texts: LaidTexts,
@@ -48,7 +48,7 @@ pub fn without_newline(lines: String) -> String {
     lines
 }
 
-/// The report under settings, of which the packages at these places are yanked.
+/// The report under settings, of which the packages with these indices are yanked.
 fn report_under(
     alloc: Global,
     database: &Database,
@@ -96,7 +96,7 @@ fn laid_with(
     }
 }
 
-/// The same on the lockfile of a text.
+/// The same on the lockfile in a string.
 fn laid_of(
     alloc: Global,
     database: Database,
@@ -134,7 +134,7 @@ impl Stage {
         Ok(String::new(alloc))
     }
 
-    /// What was laid, if it was.
+    /// What was made, if it was.
     pub fn laid(&mut self) -> Result<&mut Laid, RowFault> {
         match &mut self.laid {
             Some(laid) => Ok(laid),

@@ -14,7 +14,7 @@ use std::io::ErrorKind;
 use std::{fs, io};
 use tame_names::{Items, Sink, SinkFault};
 
-/// Counts what is put.
+/// Counts what is written.
 #[derive(Drop)]
 struct CountSink {
     lines: u64,
@@ -50,7 +50,7 @@ fn of_fault(fault: RowFault) -> io::Error {
     }
 }
 
-/// The database of a text of advisories, each but the first behind a line `==`.
+/// The database of advisories in a string, each but the first after a line `==`.
 fn database_of(alloc: Global, text: &str) -> Result<Database, RowFault> {
     let mut advisories: Items<Advisory> = Items::new(alloc);
     for text in text.split("\n==\n") {
@@ -107,7 +107,7 @@ fn print_found(rt: &HostRuntime, database: &Database, path: &str, times: u64) ->
 }
 
 /// `reports ADVISORIES LOCKFILE N`: N reports of the advisories of one file, each but the first
-/// behind a line `==`, on a lockfile, and what each finds.
+/// after a line `==`, on a lockfile, and what each finds.
 pub fn count_reports(
     rt: &HostRuntime,
     database: Option<String>,

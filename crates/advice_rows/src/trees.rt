@@ -1,14 +1,14 @@
-//! Rows of inverse dependency trees. Beside the steps of `Stage`:
+//! Rows of inverse dependency trees. As well as the steps of `Stage`:
 //!
-//! - `trees FAILING`: the tree of each package of the lockfile, in its order; in each the puts with
-//!   these numbers fail.
+//! - `trees FAILING`: the tree of each package of the lockfile, in its order; in each the writes
+//!   with these numbers fail.
 use crate::stage::{Stage, without_newline};
 use audit_lock::{Lockfile, LockfileFault, RenderFault, Tree};
 use row_fixtures::{Row, RowFault};
 use std::alloc::{AllocError, Global};
 use tame_names::{Items, MemSink, Sink, utf8_text};
 
-/// Whether a tree is rendered whole; if not, a put failed.
+/// Whether a tree is rendered whole; if not, a write failed.
 pub fn is_rendered<S: Sink>(
     alloc: Global,
     lockfile: &Lockfile,
@@ -26,7 +26,7 @@ pub fn is_rendered<S: Sink>(
     }
 }
 
-/// Adds what was rendered, or how many bytes of it where a put failed.
+/// Adds what was rendered, or how many bytes of it if a write failed.
 fn push_rendered(out: &mut String, is_whole: bool, bytes: &[u8]) -> Result<(), AllocError> {
     if is_whole {
         out.push_str(utf8_text(bytes).unwrap_or("no text\n"))
@@ -36,7 +36,7 @@ fn push_rendered(out: &mut String, is_whole: bool, bytes: &[u8]) -> Result<(), A
     }
 }
 
-/// Adds a tree that is put into an output.
+/// Adds a tree that is written to an output.
 fn push_put(
     alloc: Global,
     out: &mut String,
@@ -48,7 +48,7 @@ fn push_put(
     Ok(push_rendered(out, is_whole, sink.bytes())?)
 }
 
-/// Adds a tree, of which the puts with these numbers fail.
+/// Adds a tree, of which the writes with these numbers fail.
 fn push_tree(
     alloc: Global,
     out: &mut String,
@@ -81,7 +81,7 @@ fn trees(alloc: Global, stage: &mut Stage, mut row: Row<'_>) -> Result<String, R
     }
 }
 
-/// The answer of a row, which is nothing where the step tells nothing.
+/// The answer of a row, which is nothing if the step answers nothing.
 pub fn answer(alloc: Global, stage: &mut Stage, row: Row<'_>) -> Result<String, RowFault> {
     let mut words = row;
     match words.word() {

@@ -154,7 +154,7 @@ scan_by given more host answers = record {
 tell_all : (tells : Telling) → AllTell tells → TellAll (tells_of tells)
 tell_all tells t = record { files = t.files; decoder = t.decoder; wire = t.wire; disk = t.disk }
 
--- what a run that audited has put, from the entry of its audits
+-- what a run that audited has printed, from the entry of its audits
 record IsScan (tells : Telling) (command : AuditCommand) (more : BinCommand) (given : AskedForBinaries) (host : Host) (answers : DecoderAnswers) (before entry now : World) (end : ℕ) (b : BinariesAudit) : Type 0 where
   pub answered : AreBinaries (tells_of tells) (scan_by given more host answers) (outside_of (entry_of before entry)) (outside_of now) more.binary_paths b.answers
   pub calm : IsCalm (outside_of (entry_of before entry)) (outside_of now)

@@ -46,7 +46,7 @@ pub asked_one : (task : Task) (host : Host) (before now now_too : List Started) 
     → StartedBy (task_generates task host) before now s more → StartedBy (task_generates task host) before now_too t more_too → EndAlike now now_too → task_asked task host s ≡ task_asked task host t
 asked_one task host before now now_too s t more more_too one two end = same_asked (task_generates task host) task host before now now_too s t more more_too refl one two end
 
--- and the same was started, where the same is behind it
+-- and the same was started, if the same follows it
 same_starts : (b : Bool) (before now now_too : List Started) (s t : ℤ) (more : List Started) → StartedBy b before now s more → StartedBy b before now_too t more → EndAlike now now_too → now ≡ now_too
 same_starts false before now now_too s t more one two end = one ∙ sym two
 same_starts true before now now_too s t more one two end =
@@ -141,7 +141,7 @@ ones_agree tells tells_too task before now before_too now_too outcome outcome_to
 ones_agree tells tells_too task before now before_too now_too outcome outcome_too tell tell_too quiet quiet_too begin end ask calls calls_too (inr (inr h)) (inr (inr k)) =
     done_agree tells tells_too task before now before_too now_too outcome outcome_too tell tell_too quiet quiet_too begin end ask calls calls_too h k
 
--- where the server isn't asked the cache stays
+-- if the server isn't asked the cache stays
 unchanged_is : (tells : Telling) (task : Task) (same : Uncalled) (before now : World) (outcome : Outcome) → AllTell tells → IsRun tells (Ok (job.Lockfile task)) same before now outcome → IsUnchanged task before now
 unchanged_is tells task same before now outcome tell run given gives =
     λ other q. (run.leaves.calls tell.files given.config (asked_settles task before.host given gives)).unchanged other tell.disk q

@@ -1,4 +1,4 @@
--- Runs that put a text alone agree.
+-- Runs that only print text agree.
 use Rattle.std.proofs.Common.{◌≡◌, ◌≢◌, ℕ, List, [], ◌++◌, Option, Some, None, Ok, Err, refl, sym, ap, subst, ◌∙◌, append-nil}
 use Rattle.std.specs.Prelude.{IfSome}
 use Rattle.tame_names.specs.Standing.{Host}
@@ -25,7 +25,7 @@ pub not_some : {T : Type 0} (o : Option T) → IfSome o (λ x. ⊥) → o ≡ No
 not_some None h = refl
 not_some (Some x) h = absurd h
 
--- a run that puts this on out and this on err, and nothing else
+-- a run that prints this on standard output and this on standard error, and nothing else
 pub record PutsOnly (text line : List ℕ) (o : Option RunFault) (end : ℕ) (before now : World) (outcome : Outcome) : Type 0 where
   pub out : now.out ≡ before.out ++ text
   pub err : now.err ≡ before.err ++ line
@@ -34,7 +34,7 @@ pub record PutsOnly (text line : List ℕ) (o : Option RunFault) (end : ℕ) (be
   pub fault : outcome.fault ≡ o
   pub status : outcome.status ≡ end
 
--- its causes are those of a put
+-- its causes are those of printing
 printing : (before now : World) (o : Option RunFault) → HasCauses (λ reason. IsPrintFault reason) before now o → HasCauses IsPrintFault before now o
 printing before now o h = record { cause = h.cause; print_rose = h.print_rose; file_rose = h.file_rose; crate_rose = h.crate_rose; store_rose = h.store_rose; start_rose = h.start_rose }
 
@@ -96,7 +96,7 @@ generate_end tells n same before now outcome told run quiet =
     text_end tells (Ok (job.Generate n)) same before now outcome told run quiet audited (not_some outcome.binaries run.audits.binaries) (printing before now outcome.fault run.causes)
     ((of_none outcome.audited _ audited run.without_lockfile).started told.files told.runner)
 
--- ---- words that break a rule
+-- ---- arguments that break a rule
 
 usage_only : (place : ℕ) (o : Option RunFault) → o ≢ None → IfSome o (IsUsage (words_fault.Usage place)) → o ≢ Some fault.NoMemory → o ≡ Some (fault.Usage place)
 usage_only place None some h more = absurd (some refl)

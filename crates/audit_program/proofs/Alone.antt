@@ -48,7 +48,7 @@ no_other : {X : Type 0} (o : Option RunFault) → o ≡ Some fault.NoMemory → 
 no_other o is (inl none) = cc (is, none)
 no_other o is (inr print) = cc (is, print)
 
--- ---- where memory ran out at once
+-- ---- if out of memory at once
 
 memory_cause : (told : Type 0) (asking : Asking) (host : Host) → CauseOf told asking host fault.NoMemory
 memory_cause told (Ok (job.Lockfile task)) host = tt
@@ -124,7 +124,7 @@ memory_run tells asking same before err err_faults outcome quiet fails ended =
       leaves = leaves_nothing tells asking same before before.out before.out_faults err err_faults quiet;
     }
 
--- ---- where the words break a rule
+-- ---- if the arguments break a rule
 
 pub usage_run : (tells : Telling) (place : ℕ) (same : Uncalled) (before : World) (err : List ℕ) (err_faults : ℕ) (outcome : Outcome) → IsUncalled same → IsFault outcome (fault.Usage place)
     → (tells.err → IsEnded [] before.err [] outcome.fault err before.err_faults err_faults)
@@ -173,9 +173,9 @@ usage_run tells place same before err err_faults outcome quiet fails ended =
       leaves = leaves_nothing tells (Err (words_fault.Usage place)) same before before.out before.out_faults err err_faults quiet;
     }
 
--- ---- where a text is printed
+-- ---- if text is printed
 
--- help, the version and made packages have no other cause than that of a put, no call that fails, and
+-- help, the version and made packages have no other cause than that of printing, no call that fails, and
 -- nothing that is started
 pub record IsPlain (tells : Telling) (asking : Asking) (before : World) : Type 0 where
   pub cause : (f : RunFault) → IsPrintFault f → CauseOf tells.files asking before.host f
@@ -240,7 +240,7 @@ plain_run tells asking same before out out_faults err err_faults outcome quiet p
 
 -- ---- made packages
 
--- the words that ask for them
+-- the arguments that ask for them
 pub generated_by : (r : Result Command WordsFault) (n : ℕ) → asking_by r ≡ Ok (job.Generate n) → r ≡ Ok (command.Generate n)
 generated_by (Ok (command.Generate m)) n is = let same : m ≡ n = cc (is) in ap (λ (x : ℕ). Ok (command.Generate x)) same
 generated_by (Ok command.Help) n is = cc (is)
@@ -254,7 +254,7 @@ generated_by (Ok (command.WriteBaseline audit path)) n is = cc (is)
 generated_by (Ok (command.Vendor audit more)) n is = cc (is)
 generated_by (Err reason) n is = cc (is)
 
--- ---- of a text
+-- ---- of text
 
 pub help_plain : (tells : Telling) (before : World) → IsPlain tells (Ok job.Help) before
 help_plain tells before = record { cause = λ f only. only; start = λ o. refl; calls = λ o. refl; place = refl; usage = λ broken is. cc (is) }
@@ -265,7 +265,7 @@ version_plain tells before = record { cause = λ f only. only; start = λ o. ref
 pub generate_plain : (tells : Telling) (n : ℕ) (before : World) → IsPlain tells (Ok (job.Generate n)) before
 generate_plain tells n before = record { cause = λ f only. only; start = λ o. refl; calls = λ o. refl; place = refl; usage = λ broken is. cc (is) }
 
--- a run of words that break a rule ends with its fault, or for want of memory
+-- a run of arguments that break a rule ends with its fault, or out of memory
 pub broken_run : (tells : Telling) (place : ℕ) (same : Uncalled) (before : World) (err : List ℕ) (err_faults : ℕ) (outcome : Outcome) → IsUncalled same
     → outcome.audited ≡ None → outcome.binaries ≡ None → outcome.generated ≡ None → outcome.plan ≡ None
     → ((f : RunFault) → outcome.fault ≡ Some f → outcome.status ≡ fault_status f)

@@ -31,7 +31,7 @@ use Rattle.audit_program.specs.declared.tasks.Task.{Task}
 use Rattle.audit_program.proofs.FaultCases.{ends_with}
 use Rattle.tame_names.specs.Counts.{CountRoseBy}
 
--- where all is accepted, the first part is, and the rest goes on with it
+-- if all is accepted, the first part is, and the rest goes on with it
 part : {A B : Type 0} (p : Result A Refused) (next : A → Result B Refused) (b : B) → go_on p next ≡ Ok b → (a : A) × (p ≡ Ok a) × (next a ≡ Ok b)
 part (Ok a) next b is = (a, refl, is)
 part (Err e) next b is = absurd (cc)
@@ -46,7 +46,7 @@ texts_config host config named place given is =
     let last = text.2 in
     cc (last)
 
--- a text is a lockfile, or there is a reason why it is none
+-- a string is a lockfile, or there is a reason why it is none
 pub lockfile_or_fault : {A : Type 0} (r : Result (List Package) LockfileFault) → ((packages : List Package) → r ≡ Ok packages → A) → ((reason : LockfileFault) → r ≡ Err reason → A) → A
 lockfile_or_fault (Ok packages) good bad = good packages refl
 lockfile_or_fault (Err reason) good bad = bad reason refl

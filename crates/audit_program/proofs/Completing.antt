@@ -1,4 +1,4 @@
--- A run over a host that has all that is asked for, and of which no call fails, has no fault but want of memory.
+-- A run over a host that has all that is asked for, and of which no call fails, has no fault but out of memory.
 use Rattle.std.proofs.Common.{◌≡◌, ◌⊎◌, ◌<◌, inl, inr, ℕ, List, Option, Some, None, Ok, Err, IsTrue, refl, arith}
 use Rattle.std.specs.Prelude.{IfSome, pos}
 use Rattle.tame_names.specs.Counts.{CountRose, CountRoseBy, CountStayed}
@@ -27,7 +27,7 @@ neither a b c d out err (inr rose) = not_both c d err rose
 none_failed : (failed before now : ℕ) → 0 < failed → CountStayed before now → CountRoseBy failed before now → ⊥
 none_failed failed before now some quiet rose = let same = quiet.0 in let low = quiet.1 in omega (arith, some, same, low, rose)
 
--- what a fault tells of a count that rose
+-- what a fault says of a count that rose
 record HasRose (before now : World) (o : Option RunFault) : Type 0 where
   pub print : o ≡ Some fault.Print → CountRose before.out_faults now.out_faults ⊎ CountRose before.err_faults now.err_faults
   pub file : (path : List ℕ) → o ≡ Some (fault.File path) → CountRose before.file_faults now.file_faults
@@ -96,7 +96,7 @@ binaries_complete told command host given before now (Some fault.Print) gives he
 binaries_complete told command host given before now (Some (fault.File path)) gives here cause rose quiet = absurd (not_both before.file_faults now.file_faults quiet.files (rose.file path refl))
 binaries_complete told command host given before now (Some (fault.Start failed)) gives here cause rose quiet = not_read (fault.Start failed) cause.asked cause.is cause.only refl
 
--- of made packages, and where a text alone is printed
+-- of made packages, and of a run that only prints text
 print_complete : (before now : World) (o : Option RunFault) → IfSome o IsPrintFault → HasRose before now o → AllStayed before now → IsComplete o
 print_complete before now None only rose quiet = tt
 print_complete before now (Some fault.NoMemory) only rose quiet = tt
@@ -115,7 +115,7 @@ print_complete before now (Some (fault.Lockfile reason)) only rose quiet = absur
 print_complete before now (Some (fault.Generate status)) only rose quiet = absurd only
 print_complete before now (Some (fault.Start failed)) only rose quiet = absurd only
 
--- ---- of any words
+-- ---- of any arguments
 
 pub all_complete : (told : Type 0) (asking : Asking) (before now : World) (o : Option RunFault) → told → HasCauses (CauseOf told asking before.host) before now o → IsReady asking before.host
     → AllStayed before now → IsComplete o

@@ -80,14 +80,14 @@ abbrev pub AskTask : Telling → Telling → Task → World → World → World 
 AskTask tells tells_too task before now before_too now_too =
     (given : Asked) → task_asked task before.host (pos 0) ≡ Ok given → AuditAlike task.remedy (checks_of given.config) tells tells_too before now before_too now_too
 
--- where the server isn't asked the cache stays
+-- if the server isn't asked the cache stays
 abbrev pub IsUnchanged : Task → World → World → Type 0
 IsUnchanged task before now = (given : Asked) → task_asked task before.host (pos 0) ≡ Ok given → (checks_of given.config ≡ Online → ⊥) → (q : List ℕ) → now.cache q ≡ before.cache q
 
 abbrev auditor_for : Asked → Auditor
 auditor_for given = auditor_of given.config given.advisories
 
--- they say the same, from their beginnings to where they left the outside
+-- they say the same, from their beginnings to the moments when they left the outside
 checks_case : (tells tells_too : Telling) (given : Asked) (before now before_too now_too : World) (left left_too : Moment) (a a2 : Audited) (c : Checks) → checks_of given.config ≡ c → AllTell tells → AllTell tells_too
     → CheckAlike c tells tells_too before now before_too now_too → now.exchanges ≡ left.exchanges → now_too.exchanges ≡ left_too.exchanges
     → IsAuditOf (auditor_for given) tells.wire tells.disk (moment_of before) left given.text a
@@ -230,7 +230,7 @@ reason_is : (e : VendorFault) (reason : RunFault) → (Some (fault.Vendor e) ≡
 reason_is e reason (inl is) = cc (is)
 reason_is e reason (inr is) = cc (is)
 
--- where nothing could be made for a registry, nothing was
+-- if nothing could be made for a registry, nothing was
 unmade_it : (advisories : List Advisory) (a : Audited) (it : Result Made RunFault) (e : VendorFault) (status : ℕ) (plan : Option (List PlanItem)) → IsTrue (is_said e) → IsEndBy advisories a it (ending (Some (fault.Vendor e)) status plan) → it ≡ Err (fault.Vendor e)
 unmade_it advisories a (Ok w) e status plan said h = absurd h.made
 unmade_it advisories a (Err reason) e status plan said h = ap (λ (r : RunFault). Err r) (sym (reason_is e reason h.unmade))

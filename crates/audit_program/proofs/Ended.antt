@@ -1,4 +1,4 @@
--- The line of a fault behind what was put.
+-- The line of a fault after what was printed.
 use Rattle.std.proofs.Common.{◌≡◌, ◌⊎◌, ◌≤◌, inl, inr, ℕ, List, [], ◌++◌, take, ap, ◌∙◌, append_assoc, Option, Some, None, Result, Ok, Err, sym, subst, arith}
 use Rattle.std.specs.Prelude.{OnOk, IfErr}
 use Rattle.tame_names.specs.Counts.{CountStayed, CountRose}
@@ -12,7 +12,7 @@ use Rattle.audit_remedies.proofs.Putting.{first_more}
 pub not_both : (before now : ℕ) → CountStayed before now → CountRose before now → ⊥
 not_both before now quiet rose = let same = quiet.0 in let low = quiet.1 in omega (arith, same, low, rose)
 
--- a line that was put as an answer tells
+-- a line that was printed as the answer says
 pub line_put : {T E : Type 0} (r : Result T E) (before line now : List ℕ) (faults faults_now : ℕ) → OnOk r (now ≡ before ++ line) → AddsPrefix before line now
     → IfErr r (λ e. CountRose faults faults_now) → IsLinePut before line now faults faults_now
 line_put (Ok x) before line now faults faults_now whole part failed = record { part = part; whole = λ quiet. whole }
@@ -31,7 +31,7 @@ ended_from place before text None now a b c low high h = h
 ended_from place before text (Some f) now a b c low high h =
     (h.0, h.1, record { part = h.2.part; whole = λ quiet. h.2.whole (narrow a b c low high quiet) })
 
--- the line of a fault that doesn't tell the lockfile's place is the same for any place
+-- the line of a fault that doesn't report the lockfile's path is the same for any path
 pub ended_by : (a b before text now : List ℕ) (f : RunFault) (o : Option RunFault) (m n : ℕ) → fault_line a f ≡ fault_line b f → (o ≡ Some f) ⊎ (o ≡ Some fault.NoMemory)
     → IsEnded a before text o now m n → IsEnded b before text o now m n
 ended_by a b before text now f o m n line (inl is) h =
@@ -44,7 +44,7 @@ ended_by a b before text now f o m n line (inr is) h =
     let Q : Option RunFault → Type 0 = λ x. IsEnded b before text x now m n in
     subst Q (sym is) (subst P is h)
 
--- behind what was put there is at most the line
+-- after what was printed there is at most the line
 ended_more : (place mid : List ℕ) (o : Option RunFault) (now : List ℕ) (f g : ℕ) → IsEnded place mid [] o now f g → (more : List ℕ) × (now ≡ mid ++ more)
 ended_more place mid None now f g h = (take h.part.0 [], h.part.1)
 ended_more place mid (Some reason) now f g h =
@@ -52,7 +52,7 @@ ended_more place mid (Some reason) now f g h =
     let line : List ℕ = take h.2.part.0 (fault_line place reason) in
     (none ++ line, h.2.part.1 ∙ ap (λ (zs : List ℕ). zs ++ line) h.1.part.1 ∙ append_assoc mid none line)
 
--- a text that was put whole before a step was started still stands once the line is put
+-- text that was printed in full before a step was started is still there once the line is printed
 pub shown_more : (S T : Type 0) (before text mid now place : List ℕ) (o : Option RunFault) (f g : ℕ) → S ⊎ (T → IsPutFirst before text mid) → (T → IsEnded place mid [] o now f g)
     → S ⊎ (T → IsPutFirst before text now)
 shown_more S T before text mid now place o f g (inl same) ended = inl same

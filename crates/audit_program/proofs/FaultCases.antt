@@ -21,7 +21,7 @@ use Rattle.vendor_registry.specs.declared.faults.VendorFault.{VendorFault}
 use Rattle.vendor_registry.specs.declared.faults.VendorFault.TheVariants as vendor_fault
 use Rattle.audit_remedies.proofs.FaultCases.{print_case}
 
--- a run that fails with a fault ends with it, or for want of memory
+-- a run that fails with a fault ends with it, or out of memory
 pub ends_with : (P : RunFault → Type 0) (o : Option RunFault) (f : RunFault) → (o ≡ Some f) ⊎ (o ≡ Some fault.NoMemory) → P f → P fault.NoMemory → IfSome o P
 ends_with P o f (inl is) mine memory = let Q : Option RunFault → Type 0 = λ x. IfSome x P in subst Q (sym is) mine
 ends_with P o f (inr is) mine memory = let Q : Option RunFault → Type 0 = λ x. IfSome x P in subst Q (sym is) memory
@@ -134,7 +134,7 @@ making_case P remedy fault.Print only file vendor memory = absurd only
 making_case P remedy (fault.Generate status) only file vendor memory = absurd only
 making_case P remedy (fault.Start failed) only file vendor memory = absurd only
 
--- the fault that a run ends with is the one that it failed with, but for want of memory
+-- the fault that a run ends with is the one that it failed with, unless it is out of memory
 pub same_fault : (f other : RunFault) (o : Option RunFault) → (o ≡ Some f) ⊎ (o ≡ Some fault.NoMemory) → o ≡ Some other → (fault.NoMemory ≡ other → ⊥) → f ≡ other
 same_fault f other o (inl mine) is differ = cc (mine, is)
 same_fault f other o (inr memory) is differ = absurd (differ (cc (memory, is)))
@@ -230,7 +230,7 @@ pub print_caused : (told : Type 0) (command : AuditCommand) (host : Host) (o : O
 print_caused told command host None only = tt
 print_caused told command host (Some f) only = let P : RunFault → Type 0 = λ e. BinariesCause told command host e in print_case P f only tt tt
 
--- they aren't all answered where memory ran out alone
+-- only if out of memory, they aren't all answered
 pub unfinished : {B X : Type 0} (b : Option B) (o : Option RunFault) → IfSome o IsPrintFault → b ≡ None → ((o ≡ None) ⊎ (o ≡ Some fault.Print) → IsSome b) → o ≢ Some fault.NoMemory → X
 unfinished (Some x) o only none has other = cc (none)
 unfinished None None only none has other = let no = has (inl refl) in cc (no)

@@ -28,7 +28,7 @@ use Rattle.audit_program.specs.declared.tasks.Task.{Task}
 use Rattle.audit_program.proofs.FaultCases.{ends_with, finish_case, has_fault, making_case, memory_no_print, same_fault}
 use Rattle.audit_program.proofs.Nones.{all_some, if_none}
 
--- it ends with this fault, or for want of memory
+-- it ends with this fault, or out of memory
 abbrev pub IsEndOf : RunFault → Option RunFault → Type 0
 IsEndOf f o = (o ≡ Some f) ⊎ (o ≡ Some fault.NoMemory)
 
@@ -69,7 +69,7 @@ failed_ends it outcome f end status = record {
   usage = λ broken is. not_err _ _ _ refl is;
 }
 
--- ---- where the audit failed
+-- ---- if the audit failed
 
 audit_case : (P : RunFault → Type 0) (f : RunFault) → IsAuditFault f → ((r : LockfileFault) → r ≢ lockfile_fault.NoMemory → P (fault.Lockfile r)) → P fault.NoMemory → P f
 audit_case P (fault.Lockfile r) only lockfile memory = lockfile r only
@@ -87,7 +87,7 @@ audit_case P fault.Print only lockfile memory = absurd only
 audit_case P (fault.Generate status) only lockfile memory = absurd only
 audit_case P (fault.Start failed) only lockfile memory = absurd only
 
--- it neither succeeded nor couldn't be put
+-- it neither succeeded nor failed in printing
 no_end : {X : Type 0} (o : Option RunFault) (f : RunFault) → IsEndOf f o → IfSome o IsAuditFault → (o ≡ None) ⊎ (o ≡ Some fault.Print) → X
 no_end o f end so (inl none) = has_fault f o end none
 no_end o f end so (inr print) = absurd (of_fault IsAuditFault o fault.Print so print)
@@ -117,7 +117,7 @@ unaudited_causes task given before now o f end only asked =
       start_rose = λ failed is. absurd (of_fault IsAuditFault o (fault.Start failed) so is);
     }
 
--- the text is no lockfile, or memory ran out
+-- the text is no lockfile, or it is out of memory
 pub audit_asked : (task : Task) (given : Asked) (f : RunFault) → IsAuditFault f → ((r : LockfileFault) → f ≡ fault.Lockfile r → locked given.text ≡ Err r) → IsAskedFault task given f
 audit_asked task given (fault.Lockfile r) only refused = (only, refused r refl)
 audit_asked task given fault.NoMemory only refused = tt
@@ -143,7 +143,7 @@ audit_adds (Baseline path) calls f only = refl
 audit_adds (WriteBaseline path) calls f only = let P : RunFault → Type 0 = λ e. AddsFileCalls path calls calls (Some e) in audit_case P f only (λ r other. refl) (inl refl)
 audit_adds (Vendor more) calls f only = let P : RunFault → Type 0 = λ e. AddsRegistryCalls calls calls (Some e) in audit_case P f only (λ r other. refl) (inl refl)
 
--- where memory was left, the text is no lockfile
+-- if memory was left, the text is no lockfile
 pub audit_refused : {X : Type 0} (o : Option RunFault) (f : RunFault) → IsEndOf f o → IsAuditFault f → ((r : LockfileFault) → f ≡ fault.Lockfile r → X) → o ≢ Some fault.NoMemory → X
 audit_refused o f (inr memory) only refused other = absurd (other memory)
 audit_refused o (fault.Lockfile r) (inl is) only refused other = refused r refl
@@ -161,7 +161,7 @@ audit_refused o fault.Print (inl is) only refused other = absurd only
 audit_refused o (fault.Generate status) (inl is) only refused other = absurd only
 audit_refused o (fault.Start failed) (inl is) only refused other = absurd only
 
--- ---- where nothing could be made
+-- ---- if nothing could be made
 
 pub unmade_causes : (task : Task) (given : Asked) (before now : World) (o : Option RunFault) (f : RunFault) → IsEndOf f o → IsMakingFault task.remedy f
     → ((path : List ℕ) → f ≡ fault.File path → CountRose before.file_faults now.file_faults)
@@ -180,7 +180,7 @@ unmade_causes task given before now o f end only file crate store =
       start_rose = λ failed is. absurd (of_fault (IsMakingFault task.remedy) o (fault.Start failed) so is);
     }
 
--- ---- where it couldn't be finished
+-- ---- if it couldn't be finished
 
 pub unfinished_causes : (task : Task) (given : Asked) (before now : World) (o : Option RunFault) (f : RunFault) → IsEndOf f o → IsFinishFault f
     → (f ≡ fault.Print → CountRose before.out_faults now.out_faults ⊎ CountRose before.err_faults now.err_faults)
@@ -198,7 +198,7 @@ unfinished_causes task given before now o f end only print start =
       start_rose = λ failed is. start failed (same_fault f (fault.Start failed) o end is (memory_no_start failed));
     }
 
--- ---- where it only prints
+-- ---- if it only prints
 
 pub print_causes : (before now : World) (o : Option RunFault) (f : RunFault) → IsEndOf f o → IsPrintFault f
     → (f ≡ fault.Print → CountRose before.out_faults now.out_faults ⊎ CountRose before.err_faults now.err_faults) → HasCauses IsPrintFault before now o
@@ -213,7 +213,7 @@ print_causes before now o f end only print =
       start_rose = λ failed is. absurd (of_fault IsPrintFault o (fault.Start failed) so is);
     }
 
--- where memory ran out it neither succeeded nor couldn't be put
+-- if out of memory, it neither succeeded nor failed in printing
 pub no_answer : {X : Type 0} (o : Option RunFault) → IsEndOf fault.NoMemory o → (o ≡ None) ⊎ (o ≡ Some fault.Print) → X
 no_answer o (inl is) (inl none) = cc
 no_answer o (inl is) (inr failed) = cc

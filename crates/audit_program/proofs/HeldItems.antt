@@ -29,7 +29,7 @@ some_none items is = cc
 same_items : (items others : List PlanItem) → Some items ≡ Some others → items ≡ others
 same_items items others is = cc
 
--- where there is a plan it was made, and the cache only read since
+-- if there is a plan it was made, and the cache only read since
 abbrev IsOfPlan : Making → List PlanItem → Type 0
 IsOfPlan m items =
     IsPlanBy m.disk_tells m.advisories m.audited m.left.files m.left.disk_faults m.ended.disk_faults items

@@ -88,7 +88,7 @@ same_status s x y is = rw is refl
 not_both : (s : ℕ) → s ≡ 304 → s ≡ 200 → ⊥
 not_both s a b = omega (arith, a, b)
 
--- it says what came, and nothing is pending of it where nothing was
+-- it says what came, and nothing is pending of it if nothing was
 record IsCome (came : Option WireAnswer) (old new : List Step) : Type 0 where
   pub says : file_answer (reads new) ≡ answer_of (file_answer (reads old)) came
   pub alone : IsAlone old → IsAlone new

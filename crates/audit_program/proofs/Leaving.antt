@@ -36,7 +36,7 @@ all_binaries P (Err reason) f = tt
 pub host_stays : (reads : Type 0) (host : Host) → StaysButInput reads host host
 host_stays reads host = record { stands = refl; environment = refl; current = refl; input = λ other. refl }
 
--- of a moment, another one that differs in the outputs alone
+-- from a moment, another one that differs in the outputs alone
 abbrev pub printed : World → List ℕ → ℕ → List ℕ → ℕ → World
 printed before out out_faults err err_faults =
     record before { out = out; out_faults = out_faults; err = err; err_faults = err_faults }

@@ -32,7 +32,7 @@ StockSame files files_too packages =
     (place : ℕ) (p : Package) → slice_get packages place ≡ Some p → is_default p ≡ true → (q : List ℕ) → path p.name ≡ Some q
     → file_records crates_io_index (reads (files (index_file q))) ≡ file_records crates_io_index (reads (files_too (index_file q)))
 
--- so it is where they read the same
+-- so it is if they read the same
 pub read_stock : (files files_too : Disk) (packages : List Package) → ((q : List ℕ) → reads (files q) ≡ reads (files_too q)) → StockSame files files_too packages
 read_stock files files_too packages same place p at default q named = ap (λ (f : File). file_records crates_io_index f) (same (index_file q))
 
@@ -146,7 +146,7 @@ left_same old new old_too new_too es fs ts us ps qs h k alike quiet quiet_too pa
 
 -- ---- the exchange of a path and its turn
 
--- of lists that stand side by side, both have the path or none
+-- of lists that pair up one by one, both have the path or none
 pub turn_there : {X : Type 0} (old new : Disk) (q : List ℕ) (es : List Exchange) (ts : List Turn) (e : Exchange) → TurnsNameAndLeave old new es ts → exchange_of q es ≡ Some e → ((t : Turn) → turn_of q ts ≡ Some t → X) → X
 turn_there old new q [] [] e h is f = cc (is)
 turn_there old new q [] (t ∷ ts) e h is f = absurd h

@@ -91,13 +91,13 @@ memory_told (Baseline path) before now f h = h
 memory_told (WriteBaseline path) before now f h = file_told path before now f h
 memory_told (Vendor more) before now f h = registry_told before now f h
 
--- a run that fails so ends with this fault, or for want of memory
+-- a run that fails so ends with this fault, or out of memory
 pub making_told : (remedy : Remedy) (before now : List FailedCall) (f : RunFault) (o : Option RunFault) → (o ≡ Some f) ⊎ (o ≡ Some fault.NoMemory) → AddsMakingCalls remedy before now (Some f)
     → AddsMakingCalls remedy before now o
 making_told remedy before now f o (inl is) h = let P : Option RunFault → Type 0 = λ x. AddsMakingCalls remedy before now x in subst P (sym is) h
 making_told remedy before now f o (inr is) h = let P : Option RunFault → Type 0 = λ x. AddsMakingCalls remedy before now x in subst P (sym is) (memory_told remedy before now f h)
 
--- behind what was made no call fails
+-- after what was made no call fails
 none_case : (remedy : Remedy) (before now : List FailedCall) → AddsMakingCalls remedy before now None → now ≡ before
 none_case Report before now h = h
 none_case (Fix dry_run) before now h = h
@@ -120,7 +120,7 @@ pub finishing_told : (remedy : Remedy) (before now : List FailedCall) (f : RunFa
     → AddsMakingCalls remedy before now None → AddsMakingCalls remedy before now o
 finishing_told remedy before now f o end only h = making_told remedy before now f o end (late_case remedy before now f only (none_case remedy before now h))
 
--- ---- nothing is started where it couldn't be made
+-- ---- nothing is started if it couldn't be made
 
 pub unmade_failed : (remedy : Remedy) (f : RunFault) → IsMakingFault remedy f → FailedBy [] (Some f)
 unmade_failed remedy f only =

@@ -153,7 +153,7 @@ pub record IsLineSame (w x : Made) : Type 0 where
   pub packages : mine.packages ≡ other.packages
   pub bytes : mine.bytes ≡ other.bytes
 
--- the same is shown of what was made, and the same stands on the host
+-- the same is shown of what was made, and the same is on the host
 pub record MadeSame (w x : Made) (now now_too : Host) : Type 0 where
   pub shown : (w ≡ x) ⊎ IsLineSame w x
   pub stands : now.stands ≡ now_too.stands
@@ -242,7 +242,7 @@ unmade_same (Vendor more) T D T_too D_too advisories known a a2 left ended left_
     refused_same (stock_in more m) (stock_in more m2) a.lockfile a2.lockfile more.to (checks_same more m m2 said same reads_as) same now now_too left.disk_faults ended.disk_faults left_too.disk_faults ended_too.disk_faults
     e g t d t_too d_too agreed agreed_too h.0.1 k.0.1
 
--- and not where one was made
+-- and not if one was made
 pub made_unmade : {X : Type 0} (remedy : Remedy) (T D T_too D_too : Type 0) (advisories : List Advisory) (known : Option (List Finding)) (a a2 : Audited) (left ended left_too ended_too : Moment) (host now host_too now_too : Host) (w : Made) (g : VendorFault) → T → D → T_too → D_too
     → IsTrue (is_said g) → SaysSame a a2 → host.stands ≡ host_too.stands → ReadsAs remedy left left_too a.lockfile
     → IsMade remedy (making T D advisories known a left ended host now) (Ok w) → IsMade remedy (making T_too D_too advisories known a2 left_too ended_too host_too now_too) (Err (fault.Vendor g)) → X

@@ -10,7 +10,7 @@ pub if_none_then : {T : Type 0} (o : Option T) (P Q : Type 0) → (P → Q) → 
 if_none_then None P Q f h = f h
 if_none_then (Some x) P Q f h = tt
 
--- where it is none, what is so of none
+-- if it is none, what is so of none
 pub if_none_by : {T : Type 0} (o : Option T) (P : Type 0) → (o ≡ None → P) → IfNone o P
 if_none_by None P f = f refl
 if_none_by (Some x) P f = tt

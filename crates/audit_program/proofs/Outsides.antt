@@ -1,4 +1,4 @@
--- Runs that don't call the decoder, or the runner: what is said of a run without one is so beside any.
+-- Runs that don't call the decoder, or the runner: what is said of a run without one is so with any.
 use Rattle.std.proofs.Common.{◌≡◌, ◌⊎◌, inl, inr, Ok}
 use Rattle.audit_settings.specs.declared.commands.AuditCommand.{AuditCommand}
 use Rattle.audit_words.specs.declared.commands.BinCommand.{BinCommand}

@@ -95,7 +95,7 @@ source_same told too settings advisories files files_too p false o u t s same so
 source_same told too settings advisories files files_too p true o u t s same so su h k =
     path_same told too settings advisories crates_io_cache.index files files_too p (cache_file_of crates_io_cache.path p.name) o u t s (same refl) so su h k
 
--- ---- each place has a package
+-- ---- each position has a package
 
 get_at : {A : Type 0} (front : List A) (x : A) (xs : List A) → slice_get (front ++ x ∷ xs) (length front) ≡ Some x
 get_at [] x xs = refl
@@ -166,7 +166,7 @@ items_same P Q packages (x ∷ xs) (y ∷ ys) f same some so su h k =
 
 -- ---- the plans
 
--- a package's source is that of the default registry by both words for it
+-- a package's source is that of the default registry by both definitions of it
 default_same : (s : Option (List ℕ)) → is_default_source s ≡ is_from_default s
 default_same None = refl
 default_same (Some source) = refl

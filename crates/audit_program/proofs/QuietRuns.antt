@@ -14,7 +14,7 @@ use Rattle.audit_program.specs.Causes.{HasCauses}
 use Rattle.audit_program.specs.Worlds.{World}
 use Rattle.audit_program.proofs.Ended.{not_both}
 
--- ---- what was put
+-- ---- what was printed
 
 pub prefix_none : (before now : List ℕ) → AddsPrefix before [] now → now ≡ before
 prefix_none before now h = h.1 ∙ ap (λ (xs : List ℕ). before ++ xs) (take-nil h.0) ∙ append-nil before

@@ -7,7 +7,7 @@ use Rattle.tame_sparse.specs.declared.network.Exchange.{Exchange}
 use Rattle.audit_core.specs.Turns.{StaysKept}
 use Rattle.audit_core.proofs.SentLemmas.{sent_after}
 
--- a disk that stayed kept does so where no file changed since
+-- a disk that stayed kept does so if no file changed since
 pub kept_then_read : (before now : List Exchange) (old mid new : Disk) → StaysKept before now old mid → ((q : List ℕ) → new q ≡ mid q) → StaysKept before now old new
 kept_then_read before now old mid new h same = record {
   kept = λ m added is honest kept. keeps_then m crates_io_index [] old mid new (h.kept m added is honest kept) (λ k. keeps_same m crates_io_index [] mid new same k);

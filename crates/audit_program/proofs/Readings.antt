@@ -65,7 +65,7 @@ all_added tells scan began ended (path ∷ paths) [] told h = absurd h
 all_added tells scan began ended (path ∷ paths) (a ∷ answers) told h =
     more path paths began.failed h.0.failed ended.failed (by_answer path a began.failed h.0.failed (h.1.counted.failed told)) (all_added tells scan h.0 ended paths answers told h.2)
 
--- where memory ran out
+-- if out of memory
 next_same : (tells : Tells) (scan : Scan) (began ended : Outside) (paths : List (List ℕ)) → tells.files → IsNextBegun tells scan began ended paths → ended.failed ≡ began.failed
 next_same tells scan began ended [] told h = let P : Outside → Type 0 = λ x. x.failed ≡ began.failed in subst P (sym h) refl
 next_same tells scan began ended (path ∷ paths) told (inl h) = let P : Outside → Type 0 = λ x. x.failed ≡ began.failed in subst P (sym h) refl
@@ -111,7 +111,7 @@ by_asking command paths host before now (ask.Generate status) h = h
 by_asking command paths host before now ask.Start h = h
 by_asking command paths host before now ask.NoMemory h = inr (of_none paths before now h)
 
--- the same where memory ran out behind it
+-- the same if it is out of memory after that
 behind_asking : (command : AuditCommand) (paths : List (List ℕ)) (host : Host) (before now : List FailedCall) (e : AskFault) → AddsBy (IsForBinariesCall command host) before now e
     → AddsBinCalls command paths host before now (Some run_fault.NoMemory)
 behind_asking command paths host before now (ask.Settings reason) h = inr (of_none paths before now h)

@@ -1,4 +1,4 @@
--- Audits of one text that say the same.
+-- Audits of one lockfile's text that say the same.
 use Rattle.std.proofs.Common.{◌≡◌, inl, inr, ◌≤◌, ◌<◌, ℕ, List, [], ◌∷◌, ◌++◌, Bool, true, false, cond, Option, Some, None, refl, sym, ap, ◌∙◌, subst, arith}
 use Rattle.std.specs.Prelude.{IsSomeAnd, bytes_eq, ◌-◌, ◌^◌}
 use Rattle.tame_names.specs.Counts.{CountRose, CountStayed}
@@ -32,7 +32,7 @@ use Rattle.upgrade_plan.specs.HeldPlans.{IsHonestServing}
 use Rattle.audit_core.proofs.Agreeing.{audits_agree}
 use Rattle.audit_core.proofs.Exchanged.{cancel}
 
--- ---- what is said where wire and disk tell
+-- ---- what is said if wire and disk are told
 
 some_and : {T : Type 0} (P Q : T → Type 0) (o : Option T) → ((x : T) → P x → Q x) → IsSomeAnd o P → IsSomeAnd o Q
 some_and P Q None f h = absurd h
@@ -145,7 +145,7 @@ quiet_turns auditor wire disk began ended text a h stayed =
 
 -- ---- verdicts by the cache alone
 
--- what a file says, where it could be read
+-- what a file says, if it could be read
 pub file_verdict : (file : File) (o : Option Turn) (version : List ℕ) (v : Verdict) → ((t : Turn) → o ≡ Some t → CountRose t.disk_asked t.disk_after → ⊥) → IsSomeAnd o (λ t. Unit {0} → IsFileVerdict file t version v)
     → v ≡ verdict_by (file_answer file) version
 file_verdict file None version v quiet is = absurd is
@@ -190,7 +190,7 @@ pub record SaysSame (a b : Audited) : Type 0 where
 pub same_but_turns : (a b : Audited) → SaysSame a b → record a { turns = b.turns } ≡ b
 same_but_turns a b h = λ i. record { lockfile = h.lockfile i; report = h.report i; verdicts = h.verdicts i; turns = b.turns; exit = h.exit i }
 
--- two audits of one text by one auditor with the same verdicts say the same
+-- two audits of one lockfile's text by one auditor with the same verdicts say the same
 pub says_same : (auditor : Auditor) (wire disk wire_too disk_too : Type 0) (b e b2 e2 : Moment) (text : List ℕ) (a a2 : Audited) → IsAuditOf auditor wire disk b e text a → IsAuditOf auditor wire_too disk_too b2 e2 text a2
     → (a.lockfile ≡ a2.lockfile → a.verdicts ≡ a2.verdicts) → SaysSame a a2
 says_same auditor wire disk wire_too disk_too b e b2 e2 text a a2 h k verdicts_by =
@@ -200,7 +200,7 @@ says_same auditor wire disk wire_too disk_too b e b2 e2 text a a2 h k verdicts_b
     let exit : a.exit ≡ a2.exit = h.exit ∙ ap (λ (r : Report). audit_exit auditor r) report ∙ sym k.exit in
     record { lockfile = packages; verdicts = verdicts; report = report; exit = exit }
 
--- where checks are off
+-- if checks are off
 pub off_same : (auditor : Auditor) (wire disk wire_too disk_too : Type 0) (b e b2 e2 : Moment) (text : List ℕ) (a a2 : Audited) → auditor.checks ≡ Off
     → IsAuditOf auditor wire disk b e text a → IsAuditOf auditor wire_too disk_too b2 e2 text a2 → SaysSame a a2
 off_same auditor wire disk wire_too disk_too b e b2 e2 text a a2 off h k =

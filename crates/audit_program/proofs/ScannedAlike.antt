@@ -254,7 +254,7 @@ serves_then wire disk began mid es xs is kept s = record {
 
 -- ---- one after the other
 
--- what each has to begin with
+-- what each must begin with
 pub record IsAsking (tells : Tells) (began ended : Outside) (added : List Exchange) : Type 0 where
   pub serves : IsHonestServing tells.wire tells.disk began.moment added
   pub follow : ended.moment.exchanges ≡ began.moment.exchanges ++ added
@@ -361,7 +361,7 @@ scans_online tells too scan began ended began_too ended_too (p ∷ ps) (answer.A
           parts.6 parts_too.6 split.1 h.2 k.2,
     )
 
--- where checks are off
+-- if checks are off
 pub scans_off : (tells too : Tells) (scan : Scan) (began ended began_too ended_too : Outside) (paths : List (List ℕ)) (answers answers_too : List BinaryAnswer) → TellAll tells → TellAll too
     → scan.auditor.checks ≡ Off → IsCalm began ended → IsCalm began_too ended_too → AreBinaries tells scan began ended paths answers → AreBinaries too scan began_too ended_too paths answers_too → AllSaidAlike answers answers_too
 scans_off tells too scan began ended began_too ended_too [] [] [] t s off calm calm_too h k = tt

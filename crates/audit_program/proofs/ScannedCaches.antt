@@ -91,7 +91,7 @@ same_parts [] (f ∷ fs) xs ys same h = cc (same)
 same_parts (e ∷ es) [] xs ys same h = cc (same)
 same_parts (e ∷ es) (f ∷ fs) xs ys same h = let more = same_parts es fs xs ys (cc (same)) h.1 in ((h.0, more.0), more.1)
 
--- the exchanges of the first audit, and those behind it
+-- the exchanges of the first audit, and those after it
 record HasParts (tells : Tells) (scan : Scan) (began mid ended : Outside) (added : List Exchange) (packages : List Package) : Type 0 where
   pub own : List Exchange
   pub rest : List Exchange

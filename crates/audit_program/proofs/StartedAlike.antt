@@ -7,7 +7,7 @@ use Rattle.audit_fix.specs.Steps.{started}
 use Rattle.audit_fix.specs.declared.plans.FixStep.{FixStep}
 use Rattle.audit_program.specs.AgreeingRuns.{EndAlike}
 
--- behind the same starts
+-- after the same starts
 pub alike_behind : (xs ys zs : List Started) → EndAlike (xs ++ ys) (xs ++ zs) → EndAlike ys zs
 alike_behind [] ys zs h = h
 alike_behind (x ∷ xs) ys zs h = alike_behind xs ys zs (h.1 refl)

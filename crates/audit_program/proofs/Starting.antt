@@ -16,7 +16,7 @@ use Rattle.audit_remedies.specs.Faults.{by_ask}
 use Rattle.audit_program.specs.declared.tasks.Task.{Task}
 use Rattle.audit_program.proofs.FaultCases.{not_read}
 
--- ---- where asking failed
+-- ---- if asking failed
 
 fault_case : (before now : List Started) (e : AskFault) → StartsAtMost before now → RunStarts {T = Asked} before now (Err e) → StartsUnaudited before now (Some (by_ask e))
 fault_case before now (ask.Settings reason) most h = h
@@ -36,7 +36,7 @@ failed_starts true before now e o (inl is) most h = let P : Option RunFault → 
 failed_starts true before now e o (inr is) most h = let P : Option RunFault → Type 0 = λ x. StartsUnaudited before now x in subst P (sym is) most
 failed_starts false before now e o is most h = h
 
--- ---- where asking was accepted, and nothing was audited
+-- ---- if asking was accepted, and nothing was audited
 
 given_starts : (b : Bool) (before now : List Started) (task : Task) (given : Asked) (o : Option RunFault) → RunStartsWhere b before now (Ok given) → StartsAtMost before now → IfSome o (IsAskedFault task given)
     → ((n : ℕ) → o ≡ Some (fault.Start n) → ⊥) → StartsWhere b before now o
@@ -65,7 +65,7 @@ unaudited_starts None b before mid now task given o h most cause some same =
     let P : List Started → Type 0 = λ x. StartsWhere b before x o in
     subst P (sym same) (given_starts b before mid task given o h most cause none)
 
--- one start failed where asking ended so
+-- one start failed if asking ended so
 one_failed : (e : AskFault) (failed : ℕ) → by_ask e ≡ fault.Start failed → failed ≡ 1
 one_failed (ask.Settings reason) failed is = cc (is)
 one_failed (ask.Missing path) failed is = cc (is)
@@ -93,7 +93,7 @@ none_started told command host o n cause ended =
     let refuses = subst P ended cause in
     not_read (fault.Start n) refuses.asked refuses.is refuses.only refl
 
--- nor where memory ran out at once
+-- nor if it is out of memory at once
 pub memory_starts : (b : Bool) (before : List Started) (o : Option RunFault) → (o ≡ Some fault.NoMemory) ⊎ (o ≡ Some fault.NoMemory) → StartsWhere b before before o
 memory_starts false before o end = refl
 memory_starts true before o (inl is) = let P : Option RunFault → Type 0 = λ x. StartsUnaudited before before x in subst P (sym is) (inl refl)

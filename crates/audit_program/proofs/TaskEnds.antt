@@ -1,4 +1,4 @@
--- How a run ends that was to audit a lockfile: refused by what the host has, by the lockfile's text, or with the audit.
+-- How a run ends that must audit a lockfile: refused by what the host has, by the lockfile's text, or with the audit.
 use Rattle.std.proofs.Common.{◌≡◌, ◌≢◌, ◌⊎◌, inl, inr, ℕ, ℤ, List, [], ◌∷◌, ◌++◌, Bool, true, false, Option, Some, None, Ok, Err, IsTrue, refl, sym, ap, subst, ◌∙◌, append-nil}
 use Rattle.std.specs.Prelude.{pos, codes, decimal, IfSome, IsSome}
 use Rattle.std.specs.Fmt.{signed_decimal}
@@ -46,7 +46,7 @@ use Rattle.audit_program.proofs.Nones.{of_none}
 use Rattle.audit_program.proofs.QuietRuns.{ended_fault, no_file_failed, no_put_failed, none_failed, prefix_none}
 use Rattle.audit_program.proofs.VendoredAlike.{is_said}
 
--- ---- a refusal decides the line that tells it
+-- ---- a refusal decides the line that reports it
 
 abbrev refusal_words : Refusal → List ℕ
 refusal_words no_settings.no_toml = codes "invalid TOML"
@@ -144,7 +144,7 @@ early_lockfile (Vendor more) reason = refl
 
 -- ---- starts
 
--- the start that generates a lockfile, where one is generated, with this status, and these behind it
+-- the start that generates a lockfile, if one is generated, with this status, and these after it
 abbrev pub StartedBy : Bool → List Started → List Started → ℤ → List Started → Type 0
 StartedBy true before now status more = now ≡ before ++ generating (Some status) ∷ more
 StartedBy false before now status more = now ≡ before ++ more

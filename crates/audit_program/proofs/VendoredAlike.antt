@@ -1,4 +1,4 @@
--- Registries of the same packages, over caches with the same records and hosts on which the same stands.
+-- Registries of the same packages, over caches with the same records and hosts that hold the same.
 use Rattle.std.proofs.Common.{◌≡◌, ◌⊎◌, inl, inr, ℕ, ◌+◌, ◌-◌, ◌^◌, min, List, [], ◌∷◌, length, IsTrue, Bool, true, false, Option, Some, None, Result, Ok, Err, refl, sym, ap, ◌∙◌, subst}
 use Rattle.std.specs.Prelude.{IsOk, slice_get}
 use Rattle.std.specs.List.{AllByRecursion}
@@ -105,7 +105,7 @@ stocks_same F G host there crates packages stock same =
     (each_looked (λ place p. checked (crates_io_stock F host crates) place p ≡ checked (crates_io_stock G there crates) place p) packages 0 (looked packages) pairs.default pairs.order
     (λ place p at default. one_files F G host crates place p (stock place p at default) ∙ one_host G host there crates place p same))
 
--- ---- hosts on which the same stands
+-- ---- hosts that hold the same
 
 after_same : (cs : List HostChange) (h k : Host) → h.stands ≡ k.stands → (after cs h).stands ≡ (after cs k).stands
 after_same [] h k same = same
@@ -160,9 +160,9 @@ registry_same h k folder same =
     ap (λ (s : List ℕ → Standing). local.and_then (λ entries. local.and_then (λ done. Ok index) (validated h index)) (folder_at index (s index))) same
     ∙ ap (λ (r : Result Unit LocalRefusal). local.and_then (λ entries. local.and_then (λ done. Ok index) r) (folder_at index (k.stands index))) (validated_same h k index same)
 
--- ---- why none is made, by what is there
+-- ---- why none is created, by what is there
 
--- a refusal that no failed call and no want of memory gives
+-- a refusal that comes neither from a failed call nor from out of memory
 abbrev pub is_said : VendorFault → Bool
 is_said (fault.Store at) = false
 is_said (fault.File at) = false
@@ -301,7 +301,7 @@ module _ (stock other : Stock) (packages packages_too : List Package) (to : List
   so_same now now_too e g (inr (inr (inr h))) (inr (inr (inr k))) =
       (ap vendor_words h.one ∙ sym (ap vendor_words k.one), built_same now now_too h.cs k.cs (both_ok _ _ h.cs k.cs checks h.are k.are) h.made k.made)
 
-  -- a registry that was made excludes each of them
+  -- a registry that was created excludes each of them
   made_so : {F D : Type 0} (now now_too : Host) (n n_now : ℕ) (w : Vendored) (g : VendorFault) → F → D → IsRegistryMade (vendoring F D stock packages to now n n_now) w → IsSo other packages_too to now_too g → ⊥
   made_so now now_too n n_now w g f d h (inl k) = let built = h.built f d in never_both _ _ g built.0 (sym checks) k.0 built.1
   made_so now now_too n n_now w g f d h (inr (inl k)) = never_free other.host.stands stock.host.stands to g (sym stands) k.there (h.free f)

@@ -1,4 +1,4 @@
--- Two runs of the same words over outsides that are alike (this project).
+-- Two runs of the same arguments over outsides that are alike (this project).
 use Rattle.std.specs.Prelude.{◌≡◌, ◌≢◌, ◌⊎◌, ◌++◌, ℕ, pos, List, [], ◌∷◌, Option, Some, None, IsSomeAnd, Ok}
 use Rattle.std.specs.List.{AllByRecursion}
 use Rattle.tame_names.specs.Counts.{CountStayed}
@@ -28,7 +28,7 @@ use Rattle.audit_program.specs.declared.tasks.Job.TheVariants as job
 
 -- ---- of one run
 
--- all that is outside tells what it holds
+-- all that is outside is told
 pub record AllTell (tells : Telling) : Type 0 where
   pub files : tells.files
   pub decoder : tells.decoder
@@ -56,7 +56,7 @@ pub record BeginAlike (a b : World) : Type 0 where
 
 -- ---- what is alike meanwhile
 
--- as long as the same was started, and ended alike, the next start ends alike where its words are
+-- as long as the same was started, and ended alike, the next start ends alike if its arguments are
 -- the same
 abbrev pub EndAlike : List Started → List Started → Type 0
 EndAlike [] ts = Unit {0}
@@ -116,7 +116,7 @@ pub record AreStockedAlike (tells tells_too : Telling) (before now before_too no
   pub served : AreServedAlike tells tells_too before now before_too now_too
   pub left : (AreConfirmed served.added × AreConfirmed served.added_too) ⊎ ReadAlike now now_too
 
--- the same where the cache is read after the audit too, for a plan or a registry
+-- the same if the cache is read after the audit too, for a plan or a registry
 abbrev pub StockAlike : Checks → Telling → Telling → World → World → World → World → Type 0
 StockAlike Online tells tells_too before now before_too now_too =
     AreStockedAlike tells tells_too before now before_too now_too
@@ -144,15 +144,15 @@ AskAlike (Ok (job.Binaries command more)) tells tells_too before now before_too 
     → CheckAlike (checks_of given.config) tells tells_too before now before_too now_too
 AskAlike _ tells tells_too before now before_too now_too = Unit {0}
 
--- ---- what is the same behind them
+-- ---- what is the same after them
 
--- no faults, or two that are told alike
+-- no faults, or two that are reported alike
 abbrev pub ToldAlike : Option RunFault → Option RunFault → Type 0
 ToldAlike None None = Unit {0}
 ToldAlike (Some f) (Some g) = (place : List ℕ) → fault_line place f ≡ fault_line place g
 ToldAlike _ _ = ⊥
 
--- the outputs, the status and the fault's line, what was started, and what stands on the host
+-- the outputs, the status and the fault's line, what was started, and what is on the host
 pub record AgreeBehind (a b : World) (o p : Outcome) : Type 0 where
   pub out : a.out ≡ b.out
   pub err : a.err ≡ b.err

@@ -22,7 +22,7 @@ use Rattle.audit_program.specs.Worlds.{Telling, World, outside_of}
 abbrev pub tells_of : Telling → Tells
 tells_of t = record { files = t.files; decoder = t.decoder; wire = t.wire; disk = t.disk }
 
--- by an auditor of the settings and advisories that were asked for, within the limits of the words
+-- by an auditor of the settings and advisories that were asked for, within the arguments' limits
 abbrev pub scan_of : AskedForBinaries → BinCommand → World → Scan
 scan_of given more entry = record {
   auditor = auditor_of given.config given.advisories;
@@ -33,15 +33,15 @@ scan_of given more entry = record {
 
 -- ---- the run
 
--- the text for out, and that for err
+-- the text for standard output, and that for standard error
 abbrev pub bin_output : AuditCommand → BinCommand → AskedForBinaries → BinariesAudit → Output
 bin_output command more given b =
     binaries_output command.verdicts
     (shown_by given.config given.database given.advisories) more.binary_paths b.answers
 
--- once they have what they asked for: there is one answer for each path of the words, in order,
+-- once they have what they asked for: there is one answer for each path of the arguments, in order,
 -- each audit by an auditor of the settings and advisories that were asked for, from the moment
--- where the one before ended; and their output was put
+-- when the one before ended; and their output was printed
 pub record IsGivenBinariesRun (tells : Telling) (command : AuditCommand) (more : BinCommand)
     (given : AskedForBinaries) (before now : World) (end : Ending) (b : BinariesAudit)
     : Type 0 where
@@ -56,9 +56,8 @@ pub record IsGivenBinariesRun (tells : Telling) (command : AuditCommand) (more :
       now.err before.err_faults now.err_faults
   pub status : end.fault ≡ None → end.status ≡ summary_status b.summary
 
--- from asking to the entry of the audits: the host gives what was asked, what it has stays where it
--- is told, and no call failed that it tells; its count of faults doesn't fall, and all else is what
--- it was
+-- from asking to the entry of the audits: if the host is told, it gives what was asked, what it has
+-- stays, and no call failed; its count of faults doesn't fall, and all else is what it was
 pub record IsAskedFor (tells : Telling) (command : AuditCommand) (given : AskedForBinaries)
     (before entry : World) : Type 0 where
   pub gives : tells.files → asked_for_binaries command before.host ≡ Ok given
@@ -75,8 +74,8 @@ pub record AreBinariesRun (tells : Telling) (command : AuditCommand) (more : Bin
   pub asked : IsAskedFor tells command given before entry
   pub run : IsGivenBinariesRun tells command more given entry now end b
 
--- where memory ran out: what the host has gave what was asked, and a part
--- of the paths was answered, from the front, and the next one may have been begun
+-- if out of memory: what the host has gave what was asked, and a part
+-- of the paths was answered, from the first on, and the next one may have been begun
 pub record ArePartlyRun (tells : Telling) (command : AuditCommand) (more : BinCommand)
     (before now : World) : Type 0 where
   pub given : AskedForBinaries

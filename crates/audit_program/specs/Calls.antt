@@ -18,8 +18,8 @@ use Rattle.audit_remedies.specs.Calls.{AddsOne, AddsMakingCalls}
 
 -- ---- failed calls in asking
 
--- a fault of the files added one call to the failed ones, which may end a run with its path; where
--- memory ran out one may have been added; any other answer added none
+-- a fault of the files added one call to the failed ones, which may end a run with its path; if out
+-- of memory, one may have been added; any other answer added none
 abbrev pub AddsRunCall : (List ℕ → FailedCall → Type 0) → List FailedCall → List FailedCall
     → Option RunFault → Type 0
 AddsRunCall may before now (Some (fault.File path)) =
@@ -29,8 +29,8 @@ AddsRunCall may before now _ = now ≡ before
 
 -- ---- failed readings of binaries
 
--- a fault of the files comes in asking; where memory ran out, a call may have failed in asking, or
--- readings of binaries; and readings where the run ended with its output, or with a part of it
+-- a fault of the files comes in asking; if out of memory, a call may have failed in asking, or
+-- readings of binaries; and readings if the run ended with its output, or with a part of it
 abbrev pub AddsBinCalls : AuditCommand → List (List ℕ) → Host → List FailedCall
     → List FailedCall → Option RunFault → Type 0
 AddsBinCalls command paths host before now (Some (fault.File path)) =
@@ -63,9 +63,9 @@ AddsCalls _ host before now reason = now ≡ before
 
 -- ---- starts
 
--- without an audit, where a lockfile is generated: the start that generates it, as it ended; where
--- a call on the files failed it may have been made or not, and where memory ran out too, and may
--- have ended in any way
+-- without an audit, if a lockfile is generated: the start that generates it, as it ended; if a call
+-- on the files failed, or out of memory, it may have been made or not; out of memory it may have
+-- ended in any way
 abbrev pub StartsUnaudited : List Started → List Started → Option RunFault → Type 0
 StartsUnaudited before now (Some (fault.Generate status)) = AddsStart (Some status) before now
 StartsUnaudited before now (Some (fault.Start failed)) = AddsStart None before now

@@ -28,7 +28,7 @@ use Rattle.audit_program.specs.declared.tasks.Task.{Task}
 
 -- ---- in an audit of a lockfile
 
--- what was asked has a text that is no lockfile, for this reason
+-- what was asked has text that is no lockfile, for this reason
 pub record HasNoLockfile (told : Type 0) (task : Task) (host : Host) (reason : LockfileFault)
     : Type 0 where
   pub given : Asked
@@ -36,8 +36,8 @@ pub record HasNoLockfile (told : Type 0) (task : Task) (host : Host) (reason : L
   pub lockfile : locked given.text ≡ Err reason
   pub no_memory : reason ≢ lockfile_fault.NoMemory
 
--- what is asked of the host isn't given, for this reason, which what the host has gives, where it
--- decides it
+-- what is asked of the host isn't given, for this reason; if what the host has decides it, the
+-- reason follows from that
 pub record Refuses (told : Type 0) (task : Task) (host : Host) (reason : RunFault)
     : Type 0 where
   pub asked : AskFault
@@ -72,15 +72,15 @@ BinariesCause told command host fault.Print = Unit {0}
 BinariesCause told command host fault.NoMemory = Unit {0}
 BinariesCause told command host reason = RefusesBinaries told command host reason
 
--- ---- of any words
+-- ---- of any arguments
 
--- the rule that the words break
+-- the rule that the arguments break
 abbrev pub IsUsage : WordsFault → RunFault → Type 0
 IsUsage (words_fault.Usage place) (fault.Usage told) = told ≡ place
 IsUsage reason fault.NoMemory = Unit {0}
 IsUsage reason _ = ⊥
 
--- by what is asked for; help, the version and made packages fail by their put alone
+-- by what is asked for; help, the version and made packages can only fail in printing
 abbrev pub CauseOf : Type 0 → Asking → Host → RunFault → Type 0
 CauseOf told (Ok (job.Lockfile task)) host reason = TaskCause told task host reason
 CauseOf told (Ok (job.Binaries command more)) host reason = BinariesCause told command host reason
@@ -89,7 +89,7 @@ CauseOf told (Err broken) host reason = IsUsage broken reason
 
 -- ---- the cause, and the counts that rose
 
--- the fault has this cause; and the counts rose that it tells
+-- the fault has this cause; and the counts rose that it reports
 pub record HasCauses (Cause : RunFault → Type 0) (before now : World)
     (reason : Option RunFault) : Type 0 where
   pub cause : IfSome reason Cause
@@ -115,7 +115,7 @@ pub record Accepts (asking : Asking) (host : Host) (given : Asked) (packages : L
 
 -- ---- kinds of faults
 
--- the faults of an audit of a text
+-- the faults of an audit of a lockfile's text
 abbrev pub IsAuditFault : RunFault → Type 0
 IsAuditFault (fault.Lockfile reason) = reason ≢ lockfile_fault.NoMemory
 IsAuditFault fault.NoMemory = Unit {0}

@@ -1,4 +1,4 @@
--- When a run has no fault but want of memory, or that a registry couldn't be made (this project).
+-- When a run has no fault but out of memory, or that a registry couldn't be created (this project).
 use Rattle.std.specs.Prelude.{◌≡◌, ◌≤◌, ℤ, List, Option, Some, None, Ok}
 use Rattle.tame_names.specs.Counts.{CountStayed}
 use Rattle.tame_names.specs.Standing.{Host}
@@ -45,7 +45,7 @@ pub record CountsGrow (before now : World) : Type 0 where
   pub out : before.out_faults ≤ now.out_faults
   pub err : before.err_faults ≤ now.err_faults
 
--- a run ended without a fault, for want of memory, or without the registry that it was to make
+-- a run ended without a fault, out of memory, or without the registry that it was to create
 abbrev pub IsComplete : Option RunFault → Type 0
 IsComplete None = Unit {0}
 IsComplete (Some fault.NoMemory) = Unit {0}

@@ -29,8 +29,8 @@ use Rattle.audit_remedies.specs.declared.faults.RunFault.TheVariants as fault
 use Rattle.audit_program.specs.declared.tasks.Job.TheVariants as job
 use Rattle.audit_program.specs.declared.tasks.Task.{Task}
 
--- without an audit all is as asking left it, but for the fault's line; and the wire and the cache
--- too but for want of memory
+-- without an audit all is as asking left it, but for the fault's line; and unless it is out of
+-- memory, the wire and the cache too
 pub record IsLeft (tells : Telling) (place : List ℕ) (same : Uncalled) (before now : World)
     (reason : Option RunFault) : Type 0 where
   pub files : tells.files → now.host ≡ before.host
@@ -61,7 +61,7 @@ pub record IsTaskOf (tells : Telling) (task : Task) (given : Asked) (same : Unca
   pub unwritten : tells.files → (WritesFiles task.remedy → ⊥) → now.host ≡ before.host
   pub unaudited : IfNone outcome.audited
       (IsLeft tells (task_place task) same before now outcome.fault)
-  -- where the text is no lockfile, nothing is asked of the wire and the cache
+  -- if the text is no lockfile, nothing is asked of the wire and the cache
   pub refused : (f : LockfileFault) → locked given.text ≡ Err f → same.wire × same.disk
   pub kept : tells.wire → tells.disk
       → StaysKept before.exchanges now.exchanges before.cache now.cache

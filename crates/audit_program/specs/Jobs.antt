@@ -1,4 +1,4 @@
--- What the words ask for, by what a run needs for it (this project, after cargo-audit).
+-- What the arguments ask for, by what a run needs for it (this project, after cargo-audit).
 use Rattle.std.specs.Prelude.{ℕ, List, Result, Ok, Err}
 use Rattle.std.specs.Option.{option_or}
 use Rattle.audit_settings.specs.declared.commands.AuditCommand.{AuditCommand}
@@ -14,7 +14,7 @@ use Rattle.audit_remedies.specs.declared.remedies.Remedy.{Remedy}
 use Rattle.audit_remedies.specs.declared.remedies.Remedy.TheVariants.{Report, Fix, Plan, Baseline, WriteBaseline, Vendor}
 use Rattle.audit_program.specs.declared.tasks.Task.{Task}
 
--- the audit that `fix` makes: a lockfile that is named behind it stands for that of `audit`
+-- the audit that `fix` makes: a lockfile that is named after it replaces that of `audit`
 abbrev pub fix_task : AuditCommand → FixCommand → Task
 fix_task audit more = record {
   command = record audit { file = option_or more.file audit.file };
@@ -24,7 +24,7 @@ fix_task audit more = record {
 abbrev pub lockfile_job : AuditCommand → Remedy → Job
 lockfile_job audit remedy = job.Lockfile (record { command = audit; remedy = remedy })
 
--- a text, made packages, or audits of binaries; any other command asks for the audit of a lockfile,
+-- text, made packages, or audits of binaries; any other command asks for the audit of a lockfile,
 -- and for what is done with it
 abbrev pub job_of : Command → Job
 job_of command.Help = job.Help
@@ -38,7 +38,7 @@ job_of (command.Baseline audit path) = lockfile_job audit (Baseline path)
 job_of (command.WriteBaseline audit path) = lockfile_job audit (WriteBaseline path)
 job_of (command.Vendor audit more) = lockfile_job audit (Vendor more)
 
--- what is asked for, or the rule that the words break
+-- what is asked for, or the rule that the arguments break
 abbrev pub Asking : Type 0
 Asking = Result Job WordsFault
 
@@ -56,7 +56,7 @@ abbrev pub OfTask : (Task → Type 0) → Asking → Type 0
 OfTask P (Ok (job.Lockfile task)) = P task
 OfTask P _ = ⊥
 
--- where it is the audit of a lockfile, this is so of it
+-- if it is the audit of a lockfile, this is so of it
 abbrev pub IfTask : (Task → Type 0) → Asking → Type 0
 IfTask P (Ok (job.Lockfile task)) = P task
 IfTask P _ = Unit {0}
@@ -69,7 +69,7 @@ OfBinaries P _ = ⊥
 abbrev pub AsksBinaries : Asking → Type 0
 AsksBinaries asking = OfBinaries (λ command more. Unit {0}) asking
 
--- where it is audits of binaries, this is so of them
+-- if it is audits of binaries, this is so of them
 abbrev pub IfBinaries : (AuditCommand → BinCommand → Type 0) → Asking → Type 0
 IfBinaries P (Ok (job.Binaries command more)) = P command more
 IfBinaries P _ = Unit {0}

@@ -15,7 +15,7 @@ abbrev pub AreAlone : List (List ℕ) → Disk → Type 0
 AreAlone paths disk = (p : List ℕ) → IsTrue (is_among p paths) → IsAlone (disk (index_file p))
 
 -- from a disk on: runs and audits that left the files of these paths, as those do that ask for none
--- of them, and crashes of such ones; where the last of them began, and what is now
+-- of them, and crashes of such ones: when the last of them began, and what is now
 pub data IsBetween (paths : List (List ℕ)) (start : Disk) : Disk → Disk → Type 0 where
   begins : IsBetween paths start start start
   calls : (began now next : Disk) → IsBetween paths start began now → LeavesFiles paths now next

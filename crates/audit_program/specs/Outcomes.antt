@@ -18,14 +18,14 @@ HasAsked (Ok (job.Binaries command more)) outcome = IsSome outcome.binaries
 HasAsked (Ok (job.Generate n)) outcome = IsSome outcome.generated
 HasAsked _ outcome = Unit {0}
 
--- it comes before any audit; the file of a baseline is made behind it
+-- it comes before any audit; the file of a baseline is created after it
 abbrev pub IsEarlyBy : Asking → RunFault → Type 0
 IsEarlyBy (Ok (job.Lockfile task)) reason = IsEarly task.remedy reason
 IsEarlyBy _ reason = IsTrue (is_early reason)
 
--- a run without a fault has what was asked for, and so has one where a put failed; a registry that
--- couldn't be made leaves the audit; an early fault leaves no audit; and there is no plan without
--- the audit of a lockfile
+-- a run without a fault has what was asked for, and so has one if printing failed; if a registry
+-- couldn't be created, the audit is left; an early fault leaves no audit; and there is no plan
+-- without the audit of a lockfile
 pub record HasAudits (asking : Asking) (outcome : Outcome) : Type 0 where
   pub has : (outcome.fault ≡ None) ⊎ (outcome.fault ≡ Some run_fault.Print)
       → HasAsked asking outcome
@@ -35,8 +35,8 @@ pub record HasAudits (asking : Asking) (outcome : Outcome) : Type 0 where
       → (outcome.audited ≡ None) × (outcome.binaries ≡ None))
   pub no_plan : IfNone outcome.audited (outcome.plan ≡ None)
 
--- the status is that of the fault, and 0 where help, the version or the lines for made packages are
--- printed; words that break a rule end with a fault, which is that of the rule or want of memory
+-- the status is that of the fault, and 0 if help, the version or the lines for made packages are
+-- printed; arguments that break a rule end with a fault, which is that of the rule or out of memory
 -- (`CauseOf`)
 pub record EndsBy (asking : Asking) (outcome : Outcome) : Type 0 where
   pub status : (f : RunFault) → outcome.fault ≡ Some f → outcome.status ≡ fault_status f
@@ -44,8 +44,8 @@ pub record EndsBy (asking : Asking) (outcome : Outcome) : Type 0 where
       → IfNone outcome.audited (IfNone outcome.binaries (outcome.status ≡ 0))
   pub usage : (broken : WordsFault) → asking ≡ Err broken → outcome.fault ≢ None
 
--- a text is put, and nothing is done but that: the run ends without a fault, with a put that
--- failed, or for want of memory
+-- text is printed, and nothing is done but that: the run ends without a fault, because printing
+-- failed, or out of memory
 pub record PutsAlone (out_tells err_tells : Type 0) (text out out_now : List ℕ)
     (out_faults out_faults_now : ℕ) (err err_now : List ℕ) (err_faults err_faults_now : ℕ)
     (outcome : Outcome) : Type 0 where

@@ -38,9 +38,9 @@ uncalled_since F P R W D before now =
     uncalled (now.files ≡ before.files) (now.decoder ≡ before.decoder)
     (now.runner ≡ before.runner) (now.wire ≡ before.wire) (now.disk ≡ before.disk)
 
--- runs, whatever their words ask for, and audits that a caller of the library makes, whose exchanges
--- are honest for a map, crashes, and between them changes by others of anything but the cache: where
--- the last of them began, and what is now
+-- runs, whatever their arguments ask for, and audits that a caller of the library makes, whose
+-- exchanges are honest for a map, crashes, and between them changes by others of anything but the
+-- cache: when the last of them began, and what is now
 pub data RunHistory (F P R W D : Type 0) (tells : Telling) (m : ServerMap)
     : World → World → Type 0 where
   begins : (world : World) → IsUnbelieved crates_io_index [] world.cache
@@ -68,7 +68,7 @@ AsksBinariesOnline asking host = OfBinaries
 
 -- ---- offline
 
--- the exchanges of the runs and audits of a history, the first in front
+-- the exchanges of the runs and audits of a history, the first of them first
 abbrev pub exchanges_in_runs : (F P R W D : Type 0) (tells : Telling) (m : ServerMap)
     (began now : World) → RunHistory F P R W D tells m began now → List Exchange
 exchanges_in_runs F P R W D tells m began now (begins world unbelieved) = []

@@ -33,15 +33,15 @@ shown_by config database advisories = record {
   advisories = advisories;
 }
 
--- the text for out, and that for err without the lines of `fix`, by what was made of the audit
+-- the text for `out`, and that for `err` without the lines of `fix`, by what was made of the audit
 abbrev pub task_output : Task → Asked → Audited → Result Made RunFault → Output
 task_output task given audited it =
     output_by (output_of task.command.verdicts
     (shown_by given.config given.database given.advisories) given.place audited) audited it
 
 -- once it has what it asked for: the audit is that by an auditor of the settings and advisories
--- that were asked for, of the lockfile's text; then what is to be made of it was made, as the audit
--- left the cache; its output was put, and then the lines of `fix`, whose steps were started
+-- that were asked for, of the lockfile's text; then what must be made of it was made, as the audit
+-- left the cache; its output was printed, and then the lines of `fix`, whose steps were started
 pub record IsGivenRun (tells : Telling) (task : Task) (given : Asked) (before now : World)
     (end : Ending) (audited : Audited) : Type 0 where
   pub left : Moment
@@ -59,7 +59,7 @@ pub record IsGivenRun (tells : Telling) (task : Task) (given : Asked) (before no
       ((task_output task given audited it).err
       ++ lines_by task.command.verdicts given.advisories audited it statuses)
       end.fault now.err before.err_faults now.err_faults
-  -- where a step was started, the whole text for out stands there, and so does that for err
+  -- if a step was started, the whole text was printed, on standard output and on standard error
   pub shown : (now.starts ≡ before.starts)
       ⊎ (tells.out → now.out ≡ before.out ++ (task_output task given audited it).out)
   pub shown_err : (now.starts ≡ before.starts)
@@ -67,7 +67,7 @@ pub record IsGivenRun (tells : Telling) (task : Task) (given : Asked) (before no
   pub is_end : IsEndBy given.advisories audited it end
 
 -- the audit of a task: what the host has gives what was asked, of which nothing but standard input
--- is used up, and all of it if the lockfile is there; the steps stand behind the start that
+-- is used up, and all of it if the lockfile is there; the steps come after the start that
 -- generates a lockfile
 pub record IsTaskRun (tells : Telling) (task : Task) (before now : World) (end : Ending)
     (audited : Audited) : Type 0 where
@@ -78,7 +78,7 @@ pub record IsTaskRun (tells : Telling) (task : Task) (before now : World) (end :
   pub used_up : tells.files → IsUsedUp (task_place task) there
   pub generated : List Started
   pub at_most : tells.runner → StartsAtMost before.starts generated
-  -- it stands there where a lockfile was to be generated, and ended with 0
+  -- it is there if a lockfile was to be generated, and ended with 0
   pub is_generated : tells.files → tells.runner → RunStartsWhere {T = Unit {0}}
       (task_generates task before.host) before.starts generated (Ok tt)
   pub run : IsGivenRun tells task given (record before { host = there; starts = generated }) now

@@ -17,7 +17,7 @@ use Rattle.audit_remedies.specs.Remedies.{baseline_path}
 
 -- ---- what it asks for
 
--- what it asks of its host, or the first refusal; where a lockfile is to be generated, by the
+-- what it asks of its host, or the first refusal; if a lockfile must be generated, by the
 -- status that its start ends with
 abbrev pub task_asked : Task → Host → ℤ → Result Asked Refused
 task_asked task host status = asked task.command (baseline_path task.remedy) host status
@@ -27,8 +27,8 @@ abbrev pub IsTaskCall : Task → Host → List ℕ → FailedCall → Type 0
 IsTaskCall task host told call =
     IsAskedCall task.command (baseline_path task.remedy) host told call
 
--- the same with what was started until then: nothing before the lockfile's place is known, and
--- behind it the start that generates a lockfile, where one has to be generated
+-- the same with what was started until then: nothing before the lockfile's path is known, and
+-- after that the start that generates a lockfile, if one must be generated
 abbrev pub IsOrderedTaskCall : Task → Host → List Started → List Started → List ℕ → FailedCall
     → Type 0
 IsOrderedTaskCall task host before now told call =
@@ -38,7 +38,7 @@ IsOrderedTaskCall task host before now told call =
 abbrev pub task_generates : Task → Host → Bool
 task_generates task host = generates task.command host (settled task.command host)
 
--- the lockfile's path by the words
+-- the lockfile's path by the arguments
 abbrev pub task_place : Task → List ℕ
 task_place task = place_of task.command.file
 

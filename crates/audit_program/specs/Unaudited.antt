@@ -24,7 +24,7 @@ plain_text (Ok (job.Generate n)) = summary_for n
 plain_text _ = []
 
 -- without an audit of a lockfile: at most the start that generates one, as it ended, and one start
--- failed where that is the fault; and what the host has stays, but for standard input where it is
+-- failed if that is the fault; and what the host has stays, but for standard input if it is
 -- the lockfile
 pub record IsWithoutLockfile (tells : Telling) (asking : Asking) (before now : World)
     (reason : Option RunFault) : Type 0 where
@@ -34,9 +34,9 @@ pub record IsWithoutLockfile (tells : Telling) (asking : Asking) (before now : W
   pub one_start : (failed : ℕ) → reason ≡ Some (fault.Start failed) → failed ≡ 1
   pub files : tells.files → StaysButInput (IsInput (asking_place asking)) before.host now.host
 
--- neither a lockfile nor binaries were audited: the text that is asked for is put, as the lines for
--- made packages are, and the fault's line; but for want of memory wire and cache weren't called,
--- and nothing was decoded
+-- neither a lockfile nor binaries were audited: the text that is asked for is printed, as are the
+-- lines for made packages, and the fault's line; unless out of memory, wire and cache weren't
+-- called, and nothing was decoded
 pub record IsWithoutAudit (tells : Telling) (asking : Asking) (same : Uncalled) (before now : World)
     (reason : Option RunFault) : Type 0 where
   pub out : tells.out → IsPutBy before.out (plain_text asking) reason now.out
@@ -46,14 +46,14 @@ pub record IsWithoutAudit (tells : Telling) (asking : Asking) (same : Uncalled) 
 
 -- ---- calls on the host that failed
 
--- it was one of asking; the runner tells what was started before it
+-- it was one of asking; the runner says what was started before it
 pub record HasFailedAsking (told : Type 0) (task : Task) (before now : World)
     (reason : Option RunFault) : Type 0 where
   pub call : AddsRunCall (IsTaskCall task before.host) before.failed now.failed reason
   pub ordered : told → AddsRunCall (IsOrderedTaskCall task before.host before.starts now.starts)
       before.failed now.failed reason
 
--- which failed, by what is asked for; where that is the audit of a lockfile and none was made, it
+-- which failed, by what is asked for; if that is the audit of a lockfile and none was made, it
 -- was one of asking
 pub record HasFailedCalls (told : Type 0) (asking : Asking) (before now : World)
     (outcome : Outcome) : Type 0 where

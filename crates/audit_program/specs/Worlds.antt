@@ -59,7 +59,7 @@ world exchanges wire_faults cache folders disk_faults disk_failed host failed fi
       err_faults = err_faults;
     }
 
--- which of them tell what they hold: objects in memory do, real ones don't
+-- which of them are told: objects in memory are, real ones aren't
 pub record Telling : Type 1 where
   pub files : Type 0
   pub decoder : Type 0

@@ -18,7 +18,7 @@ use tame_cache::CacheDisk;
 use tame_names::FileLock;
 use tame_sparse::Wire;
 
-/// The audit of a text.
+/// The audit of a lockfile's text.
 pub fn audit<W: Wire, D: CacheDisk>(
     alloc: Global,
     auditor: &Auditor,

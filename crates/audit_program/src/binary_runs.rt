@@ -19,7 +19,7 @@ use tame_cache::CacheDisk;
 use tame_names::{FileLock, Files, Sink};
 use tame_sparse::Wire;
 
-/// Audits the binaries at the paths of the words, and prints the audits.
+/// Audits the binaries at the paths of the arguments, and prints the audits.
 fn run_asked<F: Files, P: Decoder, W: Wire, D: CacheDisk, O: Sink, E: Sink>(
     alloc: Global,
     command: &AuditCommand,

@@ -17,7 +17,7 @@ use tame_names::{Files, Sink};
 use tame_sparse::Wire;
 
 /// If a run has the audit of a lockfile that it read from standard input, nothing is left of the
-/// input, whatever was done with the audit. Of a run that makes a registry nothing is said.
+/// input, whatever was done with the audit. If a run creates a registry, the disk must be told too.
 pub fn nothing_is_left_of_the_input<
     F: Files,
     P: Decoder,
@@ -35,5 +35,5 @@ pub fn nothing_is_left_of_the_input<
         (uncalled (files_now ≡ files) (decoder_now ≡ decoder) (runner_now ≡ runner)
         (wire_now ≡ wire) (disk_now ≡ disk)) before now outcome
         → F.tells → outcome.audited ≡ Some audited → IsInput (task_place task)
-        → (MakesRegistry task.remedy → ⊥) → now.host.input ≡ [] }
+        → (MakesRegistry task.remedy → D.tells) → now.host.input ≡ [] }
 {}

@@ -40,7 +40,7 @@ use tame_cache::CacheDisk;
 use tame_names::{Files, Sink};
 use tame_sparse::Wire;
 
-/// The headline, of a run. Where the words ask for an audit with online checks, over a server that
+/// The headline, of a run. If the arguments ask for an audit with online checks, over a server that
 /// was honest and on a disk that was kept for what it held, the audit that the run has judges each
 /// package of the default registry by what the server held when asked.
 pub fn runs_match_the_server<
@@ -109,8 +109,8 @@ pub fn runs_in_histories_keep<
         → IsKept m crates_io_index [] now.cache }
 {}
 
-/// The headline of a run in such a history, which asks nothing of the cache: where its exchanges
-/// are honest for the same map, the audit of a lockfile judges each package by what the server held
+/// The headline of a run in such a history, which asks nothing of the cache: if its exchanges are
+/// honest for the same map, the audit of a lockfile judges each package by what the server held
 /// when asked, and so do the audits of binaries.
 pub fn runs_in_histories_match_the_server<
     F: Files,
@@ -193,9 +193,9 @@ pub fn offline_runs_in_histories_remember<
         b.answers }
 {}
 
-/// The plan of a run tells what the server held when the run asked it. Where versions were checked
+/// The plan of a run says what the server held when the run asked it. If versions were checked
 /// online over an honest server, on a disk that was kept for what it held, each item is by the
-/// records of the lines of the body that was held in the exchange of its path: so it is where no
+/// records of the lines of the body that was held in the exchange of its path, provided that no
 /// call on the disk failed in the path's turn, and the answer was 304, or 200 with a plain body.
 pub fn plans_of_runs_tell_what_the_server_held<
     F: Files,
@@ -222,7 +222,7 @@ pub fn plans_of_runs_tell_what_the_server_held<
 {}
 
 /// The same in a history of runs, which asks nothing of the cache: the plan of a run whose exchanges
-/// are honest for the map of the history tells what the server held when the run asked it.
+/// are honest for the map of the history says what the server held when the run asked it.
 pub fn plans_of_runs_in_histories_tell_what_the_server_held<
     F: Files,
     P: Decoder,
@@ -248,7 +248,7 @@ pub fn plans_of_runs_in_histories_tell_what_the_server_held<
         → ArePlannedByHeld given.advisories audited added items }
 {}
 
-/// An offline run says what the last online run of its packages saw. Where each answer of the
+/// An offline run says what the last online run of its packages saw. If each answer of the
 /// online run was not-modified or is stored, no call on the disk failed in either, and nothing was
 /// pending of the packages' files before it, an offline audit of the same packages has the same
 /// verdicts, whatever runs that left these files, and crashes of such runs, came between; for every
@@ -286,9 +286,9 @@ pub fn offline_runs_say_what_online_runs_saw<
         → again.lockfile ≡ audited.lockfile → again.verdicts ≡ audited.verdicts }
 {}
 
-/// A run can't make up a fault. Where the host gives all that is asked for, and no call on its
-/// files, no start and no output failed, it ends without a fault but want of memory, or that a
-/// registry couldn't be made.
+/// A run can't make up a fault. If the host gives all that is asked for, and no call on its files,
+/// no start and no output failed, its only fault may be out of memory, or that a registry couldn't
+/// be created.
 pub fn runs_are_complete<F: Files, P: Decoder, R: Runner, W: Wire, D: CacheDisk, O: Sink, E: Sink>()
     ensures { (files files_now : F) (decoder decoder_now : P) (runner runner_now : R)
         (wire wire_now : W) (disk disk_now : D) (asking : Asking) (before now : World)
@@ -300,8 +300,8 @@ pub fn runs_are_complete<F: Files, P: Decoder, R: Runner, W: Wire, D: CacheDisk,
         → IsComplete outcome.fault }
 {}
 
-/// Help, the version, made packages and words that break a rule need nothing but the outputs: no
-/// other call is made.
+/// Help, the version, made packages and arguments that break a rule need nothing but the outputs:
+/// no other call is made.
 pub fn texts_need_no_host<
     F: Files,
     P: Decoder,
@@ -322,7 +322,7 @@ pub fn texts_need_no_host<
         × (wire_now ≡ wire) × (disk_now ≡ disk) }
 {}
 
-/// Where what the host has gives no lockfile, nothing is asked of the wire and the cache.
+/// If what the host has gives no lockfile, nothing is asked of the wire and the cache.
 pub fn nothing_is_asked_without_a_lockfile<
     F: Files,
     P: Decoder,
@@ -344,7 +344,7 @@ pub fn nothing_is_asked_without_a_lockfile<
         → (wire_now ≡ wire) × (disk_now ≡ disk) }
 {}
 
-/// Where checks are off, neither wire nor disk is called, but for a plan and a registry, which read
+/// If checks are off, neither wire nor disk is called, except for a plan and a registry, which read
 /// the cache.
 pub fn nothing_is_called_where_checks_are_off<
     F: Files,
@@ -365,13 +365,13 @@ pub fn nothing_is_called_where_checks_are_off<
         → (AsksWith ReadsCache asking → ⊥) → (wire_now ≡ wire) × (disk_now ≡ disk) }
 {}
 
-/// Two runs agree: the contract determines what a run does. Two runs of the same words, over hosts
-/// that are equal, where all that is outside tells what it holds, starts end alike, both servers
-/// were honest and answered alike, or all answered the same over caches that read the same, no
-/// other call failed and memory sufficed, put the same on out and err, end with the same status and
-/// with faults that are told alike, start the same programs, and leave the same files. Of a plan or
-/// a registry over honest servers each answer was 304 or 200 with a plain body, or both audits left
-/// caches that read the same.
+/// Two runs agree: the contract determines what a run does. The premises: the same arguments, equal
+/// hosts; all that is outside is told; starts end alike; both servers were honest and answered
+/// alike, or all answered the same over caches that read the same; no other call failed and memory
+/// sufficed. Then they print the same on `out` and `err`, end with the same status and with faults
+/// that are reported alike, start the same programs, and leave the same files. For a plan or a
+/// registry over honest servers each answer must be 304 or 200 with a plain body, or both audits
+/// leave caches that read the same.
 pub fn runs_agree<F: Files, P: Decoder, R: Runner, W: Wire, D: CacheDisk, O: Sink, E: Sink>()
     ensures { (files files_now files_too files_now_too : F)
         (decoder decoder_now decoder_too decoder_now_too : P)

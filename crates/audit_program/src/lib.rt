@@ -1,11 +1,11 @@
-//! The program: from its words, the host, and a server's answers to what is printed, a status and
-//! an updated cache.
+//! The program: from its arguments, the host, and a server's answers to what is printed, a status
+//! and an updated cache.
 //!
-//! Promises: the audits are those of the words and of what the host has; out and err gain exactly
-//! their output; the steps of `fix` were started in order; what is made of an audit is exactly
-//! that of its definition; each fault has its cause and its line.
-//! Stands on every crate below it, and on no real host: files, decoder, runner, wire, disk and
-//! sinks are traits.
+//! Promises: the audits are those of the arguments and of what the host has; `out` and `err` gain
+//! exactly their output; the steps of `fix` were started in order; what is made of an audit is
+//! exactly that of its definition; each fault has its cause and its line.
+//! Uses every crate below it, and no real host: files, decoder, runner, wire, disk and sinks are
+//! traits.
 //!
 //! ```ignore
 //! let outcome = run(

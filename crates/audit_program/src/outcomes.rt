@@ -15,19 +15,19 @@ use upgrade_plan::PlanItem;
 /// How a run ended.
 #[derive(Drop)]
 pub struct Outcome {
-    /// The status that the process should end with: 2 for a fault, or 3 for want of memory; else
+    /// The status that the process should end with: 2 for a fault, or 3 for out of memory; else
     /// that of the audit, of what was made of it, of `fix` or of the audits of binaries, and 0
-    /// where words ask for a text alone.
+    /// if the arguments ask only for text.
     pub status: u8,
-    /// The audit of a lockfile, where one was made.
+    /// The audit of a lockfile, if one was made.
     pub audited: Option<Audited>,
-    /// The audits of binaries, where they were made.
+    /// The audits of binaries, if they were made.
     pub binaries: Option<BinariesAudit>,
-    /// The two audits of made packages, where they were made.
+    /// The two audits of made packages, if they were made.
     pub generated: Option<Generated>,
-    /// The plan that was made of the audit, where one was asked for.
+    /// The plan that was made of the audit, if one was asked for.
     pub plan: Option<Items<PlanItem>>,
-    /// Why the run failed; none where it didn't.
+    /// Why the run failed; none if it didn't.
     pub fault: Option<RunFault>,
 }
 
@@ -100,8 +100,8 @@ fn try_put<E: Sink>(err: &mut E, line: &[u8])
     let _ = put_counted(err, line);
 }
 
-/// Puts the line of a fault; where no memory is left to make it, the fault is another one, and its
-/// line is put.
+/// Prints the line of a fault; if no memory is left to make it, the fault is another one, and the
+/// line of that is printed.
 fn put_line<E: Sink>(alloc: Global, err: &mut E, place: &str, fault: RunFault) -> RunFault
     ensures fault { (result ≡ fault) ⊎ (result ≡ RunFault.NoMemory) }
     ensures line { E.tells → IsLinePut (E.holds err.old) (fault_line place.now result)
@@ -120,8 +120,8 @@ fn put_line<E: Sink>(alloc: Global, err: &mut E, place: &str, fault: RunFault) -
     }
 }
 
-/// The end of a run with a fault, whose line is put, and of which nothing else is left: what it had
-/// made until then its caller adds. The path is that of the lockfile, for a fault that tells it.
+/// The end of a run with a fault, whose line is printed; nothing else is left of it: its caller
+/// adds what the run made until then. The path is the lockfile's, for a fault that reports it.
 pub fn failed<E: Sink>(alloc: Global, err: &mut E, place: &str, fault: RunFault) -> Outcome
     ensures fault { (result.fault ≡ Some fault) ⊎ (result.fault ≡ Some RunFault.NoMemory) }
     ensures audited { result.audited ≡ None }
@@ -129,7 +129,7 @@ pub fn failed<E: Sink>(alloc: Global, err: &mut E, place: &str, fault: RunFault)
     ensures generated { result.generated ≡ None }
     ensures plan { result.plan ≡ None }
     ensures status { (f : RunFault) → result.fault ≡ Some f → result.status ≡ spec.fault_status f }
-    // the line stands behind what was put before
+    // the line comes after what was printed before
     ensures ended { E.tells → (before text : List ℕ)
         → IsPutBy before text (Some fault) (E.holds err.old)
         → IsEnded place.now before text result.fault (E.holds err.new) (E.faults err.old)

@@ -20,7 +20,7 @@ use tame_cache::CacheDisk;
 use tame_names::{FileLock, Files, Sink};
 use tame_sparse::Wire;
 
-/// Prints a text without an audit.
+/// Prints text without an audit.
 fn run_text<O: Sink, E: Sink>(alloc: Global, text: &str, out: &mut O, err: &mut E) -> Outcome
     ensures alone { PutsAlone O.tells E.tells (text.now ++ codes "\n")
         (O.holds out.old) (O.holds out.new) (O.faults out.old) (O.faults out.new)
@@ -33,11 +33,11 @@ fn run_text<O: Sink, E: Sink>(alloc: Global, text: &str, out: &mut O, err: &mut 
     }
 }
 
-/// Runs the command: reads the words, asks the host for settings, advisories and a lockfile or
-/// binaries, audits them, and prints the report or the verdicts; with a baseline it tells what is
-/// new, or writes what was found to a new one; `fix` plans updates and starts them; `plan` tells
-/// which version each vulnerable package may go to; `vendor` makes a local registry; `generate`
-/// audits what it makes; help and the version are printed alone. A fault is told by a line on
+/// Runs the command: reads the arguments, asks the host for settings, advisories and a lockfile or
+/// binaries, audits them, and prints the report or the verdicts; with a baseline it prints what is
+/// new, or writes what was found to a new one; `fix` plans updates and starts them; `plan` prints
+/// which version each vulnerable package may go to; `vendor` creates a local registry; `generate`
+/// audits what it makes; help and the version are printed alone. A fault is reported by a line on
 /// `err`.
 pub fn run<F: Files, P: Decoder, R: Runner, W: Wire, D: CacheDisk, O: Sink, E: Sink>(
     alloc: Global,
@@ -51,7 +51,7 @@ pub fn run<F: Files, P: Decoder, R: Runner, W: Wire, D: CacheDisk, O: Sink, E: S
     out: &mut O,
     err: &mut E,
 ) -> Outcome
-    // a run, by what the words ask for, from what is outside before it to what is outside behind it
+    // a run, by what the arguments ask for, from what is outside before it to what is after it
     ensures { IsRun
         (telling F.tells P.tells R.tells W.tells D.tells O.tells E.tells)
         (asking_of (map string_bytes words.now))

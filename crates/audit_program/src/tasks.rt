@@ -1,4 +1,4 @@
-//! The audits of lockfiles that words ask for, and what is done with them.
+//! The audits of lockfiles that the arguments ask for, and what is done with them.
 ghost use Rattle.std.specs.Prelude.{◌≡◌, ◌≢◌, map, Ok, Err, IfOk, IfErr, option_map, string_bytes};
 ghost use Rattle.audit_words.specs.declared.commands.WordsFault.TheVariants as WordsFault;
 ghost use Rattle.audit_program.specs.Jobs.{asking_of};
@@ -21,7 +21,7 @@ pub struct Task {
 }
 
 impl Task {
-    /// The lockfile's path by the words.
+    /// The lockfile's path by the arguments.
     pub fn place(&self) -> &str
         ensures { result.now ≡ task_place self.now }
     {
@@ -42,7 +42,7 @@ impl Task {
     }
 }
 
-/// The audit that `fix` makes. A lockfile that is named behind it stands for that of `audit`.
+/// The audit that `fix` makes. A lockfile that is named after it replaces that of `audit`.
 fn fix_task(audit: AuditCommand, more: FixCommand) -> Task
     ensures { result ≡ spec.fix_task audit more }
 {
@@ -60,7 +60,7 @@ fn fix_task(audit: AuditCommand, more: FixCommand) -> Task
 /// What a command asks for, by what a run needs for it.
 #[derive(Debug, Drop)]
 pub enum Job {
-    /// The text for help.
+    /// The help text.
     Help,
     /// The version.
     Version,
@@ -91,7 +91,7 @@ fn job_of(command: Command) -> Job
     Job::Lockfile(Task { command, remedy })
 }
 
-/// What the words ask for.
+/// What the arguments ask for.
 pub fn read_job(alloc: Global, words: &[String]) -> Result<Job, WordsFault>
     ensures ok { IfOk result (λ job. asking_of (map string_bytes words.now) ≡ Ok job) }
     ensures refused { IfErr result (λ e. e ≢ WordsFault.NoMemory

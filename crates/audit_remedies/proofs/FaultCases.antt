@@ -6,7 +6,7 @@ use Rattle.audit_remedies.specs.declared.faults.RunFault.TheVariants as fault
 use Rattle.audit_remedies.specs.Faults.{IsPrintFault, by_print}
 use Rattle.audit_remedies.specs.declared.remedies.Remedy.TheVariants.{Baseline, Vendor}
 
--- a fault of printing is that of a put, or want of memory
+-- a fault of printing is that of an output, or out of memory
 pub print_case : (P : RunFault → Type 0) (f : RunFault) → IsPrintFault f → P fault.Print → P fault.NoMemory → P f
 print_case P fault.Print only print memory = print
 print_case P fault.NoMemory only print memory = memory

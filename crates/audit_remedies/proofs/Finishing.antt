@@ -59,7 +59,7 @@ unfailed statuses f only =
 not_whole : (X : Type 0) (f : RunFault) → IsPrintFault f → IsWhole (Some f) → X
 not_whole X f only w = let P : RunFault → Type 0 = λ e. IsWhole (Some e) → X in print_case P f only (λ no. absurd no) (λ no. absurd no) w
 
--- a part of the steps, where a put failed or memory ran out
+-- a part of the steps, if printing failed or it is out of memory
 pub partly_started : (told : Type 0) (steps : List FixStep) (before now : List Started) (f : RunFault) → IsPrintFault f → (told → StartsPart steps before now)
     → AreStarted told steps before now [] (Some f)
 partly_started told steps before now f only part = record {
@@ -83,7 +83,7 @@ pub all_printing : (told : Type 0) (steps : List FixStep) (before now : List Sta
     → length statuses ≡ length steps → (told → StartsEach steps statuses before now) → AreStarted told steps before now statuses (Some f)
 all_printing told steps before now statuses f only is each = all_started told steps before now statuses (Some f) is each (unfailed statuses f only)
 
--- the lines are put once each step has a status
+-- the lines are printed once each step has a status
 same_number : (n : ℕ) → nat_eq n n ≡ true
 same_number n = search (rules, nat_tests)
 
@@ -106,7 +106,7 @@ none_started : (told : Type 0) (before : List Started) (r : Result ℕ RunFault)
 none_started told before (Ok status) only = no_steps told before
 none_started told before (Err f) only = partly_started told [] before before f only (λ here. part_nothing [] before)
 
--- what is put on err is the text alone, where no lines stand behind it
+-- only the text is printed on standard error, if no lines come after it
 pub unfixed_finished : (runner_tells err_tells : Type 0) (f : Finish) (starts : List Started) (text before now : List ℕ) (r : Result ℕ RunFault)
     → steps_of f.it f.advisories f.audited ≡ [] → lines_in f [] ≡ [] → IfErr r IsPrintFault → (err_tells → IsPutBy before text (end_of r) now)
     → IsFinished runner_tells err_tells f starts starts text before now (end_of r)
@@ -119,7 +119,7 @@ unfixed_finished runner_tells err_tells f starts text before now r no_steps no_l
       subst P (sym no_lines) (subst Q (sym (append-nil text)) (put told));
 }
 
--- the same where a run ends with a fault, or for want of memory
+-- the same if a run ends with a fault, or out of memory
 pub started_failed : (told : Type 0) (steps : List FixStep) (before now : List Started) (statuses : List (Option ℤ)) (f : RunFault) (o : Option RunFault) → (o ≡ Some f) ⊎ (o ≡ Some fault.NoMemory)
     → AreStarted told steps before now statuses (Some f) → AreStarted told steps before now statuses o
 started_failed told steps before now statuses f o (inl is) h = let P : Option RunFault → Type 0 = λ x. AreStarted told steps before now statuses x in subst P (sym is) h

@@ -1,4 +1,4 @@
--- A registry that couldn't be made, by the fault that tells it.
+-- A registry that couldn't be created, by the fault that reports it.
 use Rattle.std.proofs.Common.{◌≡◌, ◌≢◌, Err, sym, subst}
 use Rattle.audit_words.specs.declared.commands.VendorCommand.{VendorCommand}
 use Rattle.audit_remedies.specs.declared.faults.RunFault.{RunFault}

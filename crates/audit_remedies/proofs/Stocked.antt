@@ -1,4 +1,4 @@
--- What a registry is made of, by the index that audits ask.
+-- What a registry is created of, by the index that audits ask.
 use Rattle.std.proofs.Common.{◌≡◌, inl, ℕ, List, [], Result, ap, subst, ◌∙◌}
 use Rattle.tame_names.specs.Standing.{Host}
 use Rattle.tame_cache.specs.Disk as disk
@@ -27,7 +27,7 @@ answered_same f d r one other packages folder to now faults faults_now stocks fo
     let Q : List ℕ → Type 0 = λ x. IsVendorAnswer (vendoring f d other packages x now faults faults_now) r in
     subst Q folders (subst P stocks h)
 
--- where memory ran out at once
+-- if it is out of memory at once
 pub memory_refused : (v : Vendoring) → v.now ≡ v.stock.host → IsRegistryRefused v fault.NoMemory
 memory_refused v same = record {
   refused = λ told told_disk no. cc (no);

@@ -15,8 +15,8 @@ abbrev pub AddsOne : (List ℕ → FailedCall → Type 0) → List FailedCall �
 AddsOne may before now =
     (path : List ℕ) × (call : FailedCall) × (now ≡ before ++ call ∷ []) × may path call
 
--- a file couldn't be made at this path, which is told; where memory ran out that may have come
--- before
+-- a file couldn't be created at this path, which is reported; if out of memory, that may have
+-- come before
 abbrev pub AddsFileCalls : List ℕ → List FailedCall → List FailedCall → Option RunFault → Type 0
 AddsFileCalls path before now (Some (fault.File told)) =
     (call : FailedCall) × (now ≡ before ++ call ∷ []) × IsCallOn file_call.Create path told call
@@ -24,7 +24,7 @@ AddsFileCalls path before now (Some fault.NoMemory) =
     (now ≡ before) ⊎ AddsOne (IsCallOn file_call.Create path) before now
 AddsFileCalls path before now _ = now ≡ before
 
--- a call for what is at the path that is told, where a registry couldn't be made for it
+-- a call for what is at the reported path, if a registry couldn't be created for it
 abbrev pub AddsRegistryCalls : List FailedCall → List FailedCall → Option RunFault → Type 0
 AddsRegistryCalls before now (Some (fault.Vendor (vendor_fault.File told))) =
     (call : FailedCall) × (now ≡ before ++ call ∷ []) × IsCallFor told call

@@ -21,7 +21,7 @@ pub record Ending : Type 0 where
 abbrev pub ending : Option RunFault → ℕ → Option (List PlanItem) → Ending
 ending reason status plan = record { fault = reason; status = status; plan = plan }
 
--- the starts that are planned, and the lines of `fix`; none where nothing could be made
+-- the starts that are planned, and the lines of `fix`; none if nothing could be made
 abbrev pub steps_by : List Advisory → Audited → Result Made RunFault → List FixStep
 steps_by advisories audited (Ok it) = steps_of it advisories audited
 steps_by advisories audited (Err reason) = []
@@ -33,9 +33,9 @@ lines_by verdicts advisories audited (Ok it) statuses =
     (remedy_lines verdicts it advisories audited statuses)
 lines_by verdicts advisories audited (Err reason) statuses = []
 
--- the fault with which a run ends that couldn't make what it was to, which is want of memory where
--- none was left to tell it; once it was made, a put failed, steps couldn't be started, or memory
--- ran out; the status of a run that ends without a fault; and the plan that was made
+-- if a run couldn't make what it was to, the fault says why, or is out of memory if no memory was
+-- left for that; once it was made, printing failed, steps couldn't be started, or it is out of
+-- memory; the status of a run that ends without a fault; and the plan that was made
 pub record IsEndBy (advisories : List Advisory) (audited : Audited) (it : Result Made RunFault)
     (end : Ending) : Type 0 where
   pub unmade : IfErr it (λ reason. (end.fault ≡ Some reason) ⊎ (end.fault ≡ Some fault.NoMemory))

@@ -1,4 +1,4 @@
--- The line that tells why a run ended without its output (this project).
+-- The line that says why a run ended without its output (this project).
 use Rattle.std.specs.Prelude.{ℕ, codes, decimal, List, ◌++◌, Some, None}
 use Rattle.std.specs.Fmt.{signed_decimal}
 use Rattle.audit_lock.specs.declared.listed.LockRule.TheVariants as rule
@@ -49,7 +49,7 @@ vendor_words vendor_fault.NoMemory = codes "nomemory" ++ of_package None
 
 -- ---- the line
 
--- why a run ended; a lockfile's fault is told with the lockfile's path
+-- why a run ended; a lockfile's fault is reported with the lockfile's path
 abbrev pub fault_words : List ℕ → RunFault → List ℕ
 fault_words place (fault.Usage n) = codes "bad word at place " ++ decimal n
 fault_words place (fault.Settings reason) = codes "config error: " ++ settings_words reason

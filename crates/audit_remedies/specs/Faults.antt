@@ -10,7 +10,7 @@ use Rattle.std.specs.Prelude.{◌≢◌, ℕ, Bool, true, false, IsTrue}
 use Rattle.audit_remedies.specs.declared.remedies.Remedy.{Remedy}
 use Rattle.audit_remedies.specs.declared.remedies.Remedy.TheVariants.{WriteBaseline}
 
--- of a fault: 3 for want of memory, 2 for any other
+-- the status of a fault: 3 for out of memory, 2 for any other
 abbrev pub fault_status : RunFault → ℕ
 fault_status fault.NoMemory = 3
 fault_status _ = 2
@@ -23,8 +23,8 @@ is_early (fault.Start failed) = false
 is_early fault.NoMemory = false
 is_early _ = true
 
--- the same of what is done with the audit: the file of a baseline is made after it, so a call on it
--- may fail then
+-- the same of what is done with the audit: the file of a baseline is created after it, so a call on
+-- it may fail then
 abbrev pub IsEarly : Remedy → RunFault → Type 0
 IsEarly (WriteBaseline path) (fault.File told) = told ≢ path
 IsEarly remedy reason = IsTrue (is_early reason)
@@ -42,13 +42,13 @@ by_ask (ask.Generate status) = fault.Generate status
 by_ask ask.Start = fault.Start 1
 by_ask ask.NoMemory = fault.NoMemory
 
--- a put failed, or memory ran out
+-- printing failed, or out of memory
 abbrev pub IsPrintFault : RunFault → Type 0
 IsPrintFault fault.Print = Unit {0}
 IsPrintFault fault.NoMemory = Unit {0}
 IsPrintFault _ = ⊥
 
--- something isn't put
+-- something isn't printed
 abbrev pub by_print : PrintFault → RunFault
 by_print print.Put = fault.Print
 by_print print.NoMemory = fault.NoMemory

@@ -1,4 +1,4 @@
--- What is done once an audit of a lockfile stands: its output, and the steps and lines of `fix`
+-- What is done once there is an audit of a lockfile: its output, and the steps and lines of `fix`
 -- (this project).
 use Rattle.std.specs.Prelude.{◌<◌, ◌++◌, ℕ, ℤ, List, Bool, Option, Some, None, Result, Ok, Err}
 use Rattle.audit_advisory.specs.declared.advisories.Advisory.{Advisory}
@@ -15,7 +15,7 @@ abbrev pub end_of : {T : Type 0} → Result T RunFault → Option RunFault
 end_of (Ok a) = None
 end_of (Err reason) = Some reason
 
--- a put failed, steps couldn't be started, or memory ran out
+-- printing failed, steps couldn't be started, or out of memory
 abbrev pub IsFinishFault : RunFault → Type 0
 IsFinishFault fault.Print = Unit {0}
 IsFinishFault (fault.Start failed) = 0 < failed
@@ -33,7 +33,7 @@ abbrev pub lines_in : Finish → List (Option ℤ) → List ℕ
 lines_in f statuses = lines_behind (steps_of f.it f.advisories f.audited) statuses
     (remedy_lines f.verdicts f.it f.advisories f.audited statuses)
 
--- the steps were started, and behind a text on err stand the lines of `fix` by how they ended
+-- the steps were started; on standard error the lines of `fix`, by how they ended, follow the text
 pub record IsFinished (runner_tells err_tells : Type 0) (f : Finish)
     (starts_before starts_now : List Started) (text before now : List ℕ)
     (reason : Option RunFault) : Type 0 where

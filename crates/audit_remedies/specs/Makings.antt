@@ -1,4 +1,4 @@
--- What a run makes of an audit before anything is put: a plan, the findings that a baseline
+-- What a run makes of an audit before anything is printed: a plan, the findings that a baseline
 -- doesn't list, a baseline, or a local registry (this project).
 use Rattle.std.specs.Prelude.{◌≡◌, ◌≢◌, ◌≤◌, ℕ, List, [], unwrap_or, Option, Some, None, Result, Ok, Err}
 use Rattle.tame_names.specs.Changes.{Creates}
@@ -29,9 +29,9 @@ use Rattle.audit_remedies.specs.declared.makings.Made.TheVariants as made
 use Rattle.audit_remedies.specs.declared.remedies.Remedy.{Remedy}
 use Rattle.audit_remedies.specs.declared.remedies.Remedy.TheVariants.{Report, Fix, Plan, Baseline, WriteBaseline, Vendor}
 
--- what there is to make something of: what files and disk tell, the advisories, the baseline that
--- was asked for, the audit; the moment at which the audit left the outside, and the one behind what
--- was made; what the host had, and has
+-- what there is to make something of: whether files and disk are told, the advisories, the baseline
+-- that was asked for, the audit; the moment at which the audit left the outside, and the one after
+-- what was made; what the host had, and has
 pub record Making : Type 1 where
   pub files_tell : Type 0
   pub disk_tells : Type 0
@@ -108,8 +108,8 @@ abbrev pub done_of : Result Made RunFault → Result Unit RunFault
 done_of (Ok it) = Ok tt
 done_of (Err reason) = Err reason
 
--- a file with the lines of the audit's baseline was made at this path; or after a fault, which is
--- told with this path, nothing or a part of them from the front
+-- a file with the lines of the audit's baseline was created at this path; or after a fault, which
+-- is reported with this path, nothing or a part of them from the first on
 abbrev pub IsFileMade : List ℕ → Making → Result Made RunFault → Type 0
 IsFileMade path m r =
     m.files_tell → Creates path (written (listed (making_findings m))) m.host m.host_now (done_of r)
@@ -122,8 +122,8 @@ IsToldOf path _ = ⊥
 
 -- ---- a registry
 
--- what a registry of the audit's packages is made of: the cache as the audit left it, and a folder
--- of crate files
+-- what a registry of the audit's packages is created of: the cache as the audit left it, and a
+-- folder of crate files
 abbrev pub crates_io_stock : Disk → Host → List ℕ → Stock
 crates_io_stock files host crates = record {
   files = λ q. reads (files q);
@@ -136,13 +136,13 @@ crates_io_stock files host crates = record {
 abbrev pub stock_in : VendorCommand → Making → Stock
 stock_in more m = crates_io_stock m.left.files m.host more.crates
 
--- how it is made of them: from the cache as the audit left it, in the folder of the words
+-- how it is created of them: from the cache as the audit left it, in the folder of the arguments
 abbrev pub vendoring_in : VendorCommand → Making → Vendoring
 vendoring_in more m =
     vendoring m.files_tell m.disk_tells (stock_in more m) m.audited.lockfile more.to m.host_now
     m.left.disk_faults m.ended.disk_faults
 
--- it was made; or there is none for a reason; or memory ran out
+-- it was created; or there is none for a reason; or it is out of memory
 abbrev pub IsVendorMade : VendorCommand → Making → Result Made RunFault → Type 0
 IsVendorMade more m (Ok (made.Vendored v)) = IsRegistryMade (vendoring_in more m) v
 IsVendorMade more m (Err (fault.Vendor reason)) =
@@ -153,7 +153,7 @@ IsVendorMade more m _ = ⊥
 
 -- ---- by what is to be done
 
--- nothing but what is to be printed is made for a report or for `fix`
+-- for a report or for `fix` nothing is made but what is to be printed
 abbrev pub IsMade : Remedy → Making → Result Made RunFault → Type 0
 IsMade Report m r = (r ≡ Ok made.Report) × IsUncalled m × IsUnwritten m
 IsMade (Fix dry_run) m r = (r ≡ Ok (made.Fix dry_run)) × IsUncalled m × IsUnwritten m
@@ -162,7 +162,7 @@ IsMade (Baseline path) m r = IsGateMade m r × IsUncalled m × IsUnwritten m
 IsMade (WriteBaseline path) m r = IsToldOf path r × IsUncalled m × IsFileMade path m r
 IsMade (Vendor more) m r = IsVendorMade more m r × IsReadOnly m
 
--- the plan, where one was made
+-- the plan, if one was made
 abbrev pub plan_in : Result Made RunFault → Option (List PlanItem)
 plan_in (Ok (made.Planned items)) = Some items
 plan_in _ = None
@@ -180,7 +180,7 @@ IsMakingFault remedy (fault.Vendor reason) =
     MakesRegistry remedy × (reason ≢ vendor_fault.NoMemory)
 IsMakingFault remedy reason = ⊥
 
--- the fault that tells a refusal of a registry; want of memory has one of its own
+-- the fault that reports a refusal of a registry; out of memory has one of its own
 abbrev pub IsVendorEnd : VendorFault → RunFault → Type 0
 IsVendorEnd vendor_fault.NoMemory end = end ≡ fault.NoMemory
 IsVendorEnd reason end = (end ≡ fault.Vendor reason) × (reason ≢ vendor_fault.NoMemory)

@@ -1,4 +1,4 @@
--- What is put on the two outputs, by what was made of an audit and by how a run ends (this
+-- What is printed on the two outputs, by what was made of an audit and by how a run ends (this
 -- project).
 use Rattle.std.specs.Prelude.{◌≡◌, ◌++◌, ℕ, ℤ, codes, decimal, nat_eq, List, [], length, Bool, Option, Some, None, if◌then◌else◌, Result, Ok, Err}
 use Rattle.tame_names.specs.Counts.{CountStayed}
@@ -25,8 +25,8 @@ vendored_line v =
 abbrev pub on_out : List ℕ → Output
 on_out text = record { out = text; err = [] }
 
--- in place of what an audit puts: the lines of a plan, those of the findings that a baseline
--- doesn't list, nothing of a baseline that was written, and the line of a registry
+-- instead of an audit's output: the lines of a plan, those of the findings that a baseline doesn't
+-- list, nothing of a baseline that was written, and the line of a registry
 abbrev pub made_output : Output → Audited → Made → Output
 made_output output audited made.Report = output
 made_output output audited (made.Fix dry_run) = output
@@ -35,18 +35,18 @@ made_output output audited (made.Unlisted found) = on_out (written found)
 made_output output audited made.Written = on_out []
 made_output output audited (made.Vendored v) = on_out (vendored_line v)
 
--- nothing is put where it couldn't be made
+-- nothing is printed if it couldn't be made
 abbrev pub output_by : Output → Audited → Result Made RunFault → Output
 output_by output audited (Ok it) = made_output output audited it
 output_by output audited (Err reason) = on_out []
 
--- by the statuses that its steps ended with, none beside the lines of verdicts
+-- by the statuses that its steps ended with; none if the lines of verdicts are printed
 abbrev pub remedy_lines : Bool → Made → List Advisory → Audited → List (Option ℤ) → List ℕ
 remedy_lines verdicts (made.Fix dry_run) advisories audited statuses = if verdicts then []
     else fix_lines dry_run advisories audited.lockfile audited.report.vulnerabilities statuses
 remedy_lines verdicts it advisories audited statuses = []
 
--- they begin once each step was started: where there isn't a status for each, there are none
+-- they begin once each step was started: if there isn't a status for each, there are none
 abbrev pub lines_behind : List FixStep → List (Option ℤ) → List ℕ → List ℕ
 lines_behind steps statuses lines =
     if nat_eq (length statuses) (length steps) then lines else []
@@ -57,23 +57,23 @@ IsWhole None = Unit {0}
 IsWhole (Some (fault.Start failed)) = Unit {0}
 IsWhole (Some _) = ⊥
 
--- a part of a text was put from the front, and all of it where all was done
+-- a part of the text was printed, from its beginning, and all of it if all was done
 pub record IsPutBy (before text : List ℕ) (reason : Option RunFault) (now : List ℕ) : Type 0 where
   pub part : AddsPrefix before text now
   pub whole : IsWhole reason → now ≡ before ++ text
 
--- a text was put whole, and more may stand after it
+-- all of the text was printed, and more may come after it
 pub record IsPutFirst (before text now : List ℕ) : Type 0 where
   pub more : List ℕ
   pub whole : now ≡ (before ++ text) ++ more
 
--- a line was put: a part of it from the front, and all of it where the output's count of faults
--- stayed
+-- the line was printed: a part of it, from its beginning, and all of it if the output's count of
+-- faults stayed
 pub record IsLinePut (before line now : List ℕ) (faults faults_now : ℕ) : Type 0 where
   pub part : AddsPrefix before line now
   pub whole : CountStayed faults faults_now → now ≡ before ++ line
 
--- the fault's line stands behind what was put
+-- the fault's line comes after what was printed
 abbrev pub IsEnded : List ℕ → List ℕ → List ℕ → Option RunFault → List ℕ → ℕ → ℕ → Type 0
 IsEnded place before text None now faults faults_now = IsPutBy before text None now
 IsEnded place before text (Some reason) now faults faults_now =

@@ -20,7 +20,7 @@ WritesFiles (WriteBaseline path) = Unit {0}
 WritesFiles (Vendor more) = Unit {0}
 WritesFiles _ = ⊥
 
--- a registry is made
+-- a registry is created
 abbrev pub MakesRegistry : Remedy → Type 0
 MakesRegistry (Vendor more) = Unit {0}
 MakesRegistry _ = ⊥

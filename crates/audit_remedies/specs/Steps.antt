@@ -7,14 +7,14 @@ use Rattle.audit_fix.specs.Steps.{StartsEach, StartsPart, failed_starts}
 use Rattle.audit_fix.specs.declared.plans.FixStep.{FixStep}
 use Rattle.audit_remedies.specs.Outputs.{IsWhole}
 
--- a run without a fault has none that failed; that some couldn't be started tells how many
+-- in a run without a fault none failed; the fault that some couldn't be started says how many
 pub record FailedBy (statuses : List (Option ℤ)) (reason : Option RunFault) : Type 0 where
   pub none : reason ≡ None → failed_starts statuses ≡ 0
   pub some : (failed : ℕ) → reason ≡ Some (fault.Start failed)
       → (failed ≡ failed_starts statuses) × (0 < failed)
 
--- the starts grew by steps from the front, in order, each once; these are their statuses where
--- there is one for each, which is so where all was done
+-- the starts grew by steps from the first on, in order, each once; these are their statuses if
+-- there is one for each, and there is if all was done
 pub record AreStarted (told : Type 0) (steps : List FixStep) (before now : List Started)
     (statuses : List (Option ℤ)) (reason : Option RunFault) : Type 0 where
   pub part : told → StartsPart steps before now

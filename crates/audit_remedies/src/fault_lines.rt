@@ -1,4 +1,4 @@
-//! The line that tells why a run ended without its output.
+//! The line that says why a run ended without its output.
 ghost use Rattle.std.specs.Prelude.{◌≡◌, ◌++◌, codes, decimal, IfOk, OnOk, string_bytes};
 ghost use Rattle.std.specs.Fmt.{signed_decimal};
 ghost use Rattle.audit_output.specs.LockfileWords.{lockfile_words, of_package};
@@ -13,7 +13,7 @@ use audit_settings::SettingsFault;
 use std::alloc::{AllocError, Global};
 use vendor_registry::VendorFault;
 
-/// What is told of a lockfile that couldn't be generated, in front of cargo's status.
+/// What is said of a lockfile that couldn't be generated, before cargo's status.
 const GENERATED: &str = "non-zero exit status running `cargo update --workspace`: ";
 
 fn push_signed(alloc: Global, out: &mut String, number: &i32) -> Result<(), AllocError>
@@ -82,7 +82,7 @@ fn push_started(alloc: Global, out: &mut String, failed: u64) -> Result<(), Allo
     out.push_str(" programs couldn't be started")
 }
 
-/// A text with a status behind it.
+/// A string with a status after it.
 fn push_ended(alloc: Global, out: &mut String, text: &str, status: &i32) -> Result<(), AllocError>
     ensures { OnOk result (string_bytes out.new
         ≡ string_bytes out.old ++ (text.now ++ signed_decimal status.now)) }
@@ -178,7 +178,7 @@ fn push_fault(
     }
 }
 
-/// The line that tells a fault; that of a lockfile names the lockfile's path.
+/// The line that reports a fault; that of a lockfile names the lockfile's path.
 pub fn fault_line(alloc: Global, place: &str, fault: &RunFault) -> Result<String, AllocError>
     ensures { IfOk result (λ line. string_bytes line ≡ spec.fault_line place.now fault.now) }
 {

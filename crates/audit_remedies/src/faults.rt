@@ -10,10 +10,10 @@ use audit_settings::SettingsFault;
 use tame_names::{NoMemory, Text};
 use vendor_registry::VendorFault;
 
-/// Why a run ended without its output. No reason that a fault holds is want of memory.
+/// Why a run ended without its output. The reason that a fault holds is never out of memory.
 #[derive(Debug, Drop)]
 pub enum RunFault {
-    /// The word at this place, counted from 0, is wrong or missing.
+    /// The argument at this position, counted from 0, is wrong or missing.
     Usage { place: usize },
     /// The file of settings is refused, for this reason.
     Settings(SettingsFault),
@@ -23,7 +23,7 @@ pub enum RunFault {
     NotUtf8 { path: Text },
     /// The file has this number of bytes, which is too many.
     TooLarge { path: Text, len: u64 },
-    /// A call on the path failed; `cargo home` where the folder of cargo's home was asked for.
+    /// A call on the path failed; `cargo home` if the folder of cargo's home was asked for.
     File { path: Text },
     /// The text is no lockfile, for this reason.
     Lockfile(LockfileFault),
@@ -31,7 +31,7 @@ pub enum RunFault {
     Advisory { n: usize, fault: AdvisoryFault },
     /// This line of the baseline, counted from 0, is no finding.
     Baseline { line: u64 },
-    /// No registry was made of the audit's packages, or it wasn't finished, for this reason.
+    /// No registry of the audit's packages was created, or it wasn't finished, for this reason.
     Vendor(VendorFault),
     /// The output failed.
     Print,
@@ -39,7 +39,7 @@ pub enum RunFault {
     Generate { status: i32 },
     /// This number of programs couldn't be started.
     Start { failed: u64 },
-    /// Memory ran out.
+    /// Out of memory.
     NoMemory,
 }
 

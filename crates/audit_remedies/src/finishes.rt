@@ -1,4 +1,4 @@
-//! What is put and started once an audit stands and what was to be made of it was made.
+//! What is printed and started after an audit, once what was to be made of it was made.
 ghost use Rattle.std.specs.Prelude.{◌≡◌, ◌≤◌, ◌⊎◌, ◌++◌, ℕ, List, Ok, Err, IfOk, IfErr, OnOk, string_bytes};
 ghost use Rattle.tame_names.specs.Counts.{CountRose, CountRoseBy};
 ghost use Rattle.known_findings.specs.Baselines.{written};
@@ -53,7 +53,7 @@ fn put_findings<O: Sink>(alloc: Global, found: &[Finding], out: &mut O) -> Resul
     }
 }
 
-/// The line that tells of a registry.
+/// The line that reports a registry.
 fn registry_line(alloc: Global, made: &Vendored) -> Result<String, AllocError>
     ensures { IfOk result (λ line. string_bytes line ≡ vendored_line made.now) }
 {
@@ -65,7 +65,7 @@ fn registry_line(alloc: Global, made: &Vendored) -> Result<String, AllocError>
     Ok(out)
 }
 
-/// Puts the line that tells of a registry.
+/// Prints the line that reports a registry.
 fn put_registry<O: Sink>(alloc: Global, made: &Vendored, out: &mut O) -> Result<(), PrintFault>
     ensures put { O.tells → IsPut (O.holds out.old) (vendored_line made.now) (O.holds out.new)
         result }
@@ -78,8 +78,8 @@ fn put_registry<O: Sink>(alloc: Global, made: &Vendored, out: &mut O) -> Result<
     }
 }
 
-/// Puts the output of an audit, and under `fix` starts its steps and puts its lines; or where
-/// something was made of it, puts the output of that alone. Answers the status.
+/// Prints the output of an audit; under `fix`, then starts its steps and prints its lines. If
+/// something was made of the audit, prints the output of that alone. Answers the status.
 pub fn finish<R: Runner, O: Sink, E: Sink>(
     alloc: Global,
     verdicts: bool,

@@ -17,8 +17,8 @@ use audit_output::{PrintFault, Sheet, print, put_text};
 use std::alloc::Global;
 use tame_names::Sink;
 
-/// Puts the lines of `fix`, by the statuses that its steps ended with; none beside the lines of
-/// verdicts.
+/// Prints the lines of `fix`, by the statuses that its steps ended with; none if the lines of
+/// verdicts are printed.
 fn put_lines<E: Sink>(
     alloc: Global,
     dry_run: bool,
@@ -43,7 +43,7 @@ fn put_lines<E: Sink>(
     }
 }
 
-/// The status of `fix` where so many of its steps couldn't be started: none may have failed.
+/// The status of `fix`, by how many of its steps couldn't be started, which may be none.
 fn fix_ended(sheet: &Sheet<'_>, plan: &FixPlan, dry_run: bool, failed: u64) -> Result<u8, RunFault>
     requires plan { plan.now ≡ fix_plan_of dry_run sheet.now.auditor.now.database
         sheet.now.audited.now }
@@ -59,8 +59,8 @@ fn fix_ended(sheet: &Sheet<'_>, plan: &FixPlan, dry_run: bool, failed: u64) -> R
     Ok(fix_status(sheet.audited, plan, dry_run, 0))
 }
 
-/// Plans what to do about the vulnerabilities of an audit, starts each step, and puts the lines of
-/// `fix`. `Start` where steps couldn't be started.
+/// Plans what to do about the vulnerabilities of an audit, starts each step, and prints the lines
+/// of `fix`. `Start` if steps couldn't be started.
 fn fix<R: Runner, E: Sink>(
     alloc: Global,
     dry_run: bool,
@@ -94,8 +94,8 @@ fn fix<R: Runner, E: Sink>(
     fix_ended(sheet, &plan, dry_run, failed_starts(statuses.as_slice()))
 }
 
-/// Puts the output of an audit, and then starts the steps of `fix` and puts its lines. Answers the
-/// status.
+/// Prints the output of an audit, and then starts the steps of `fix` and prints its lines. Answers
+/// the status.
 pub fn print_and_fix<R: Runner, O: Sink, E: Sink>(
     alloc: Global,
     dry_run: bool,

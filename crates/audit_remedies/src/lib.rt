@@ -1,12 +1,12 @@
-//! What is done with the audit of a lockfile: it is reported, updates are started, a plan, a gate
-//! by a baseline, a baseline or a local registry is made of it; and why a run fails, with the line
-//! that tells it.
+//! What is done with the audit of a lockfile: it is reported, updates are started, or a plan, a
+//! gate by a baseline, a baseline or a local registry is made of it; and why a run fails, with the
+//! line that reports it.
 //!
-//! Promises: what is made is exactly that of its definition, or nothing for a reason; out and err
-//! gain exactly its output; the steps of `fix` are started in order, each once; a fault has its
-//! cause and its line.
-//! Stands on the crates of plans, baselines, registries and `fix`, and on no real host: files,
-//! runner, disk and sinks are traits.
+//! Promises: what is made is exactly that of its definition, or nothing for a reason; `out` and
+//! `err` gain exactly its output; the steps of `fix` are started in order, each once; a fault has
+//! its cause and its line.
+//! Uses the crates of plans, baselines, registries and `fix`, and no real host: files, runner, disk
+//! and sinks are traits.
 //!
 //! ```ignore
 //! let made = make(alloc, &Remedy::Plan, &None, &auditor, &audited, &mut files, &lock, &mut disk)?;

@@ -1,4 +1,4 @@
-//! What is made of an audit before anything is put.
+//! What is made of an audit before anything is printed.
 ghost use Rattle.std.specs.Prelude.{◌≡◌, ◌≤◌, ℕ, List, [], unwrap_or, Ok, Err, IfOk, IfErr};
 ghost use Rattle.tame_names.specs.Changes.{Creates};
 ghost use Rattle.tame_names.specs.Counts.{CountRose};
@@ -36,8 +36,8 @@ use vendor_registry::{VendorFault, Vendored, vendor};
 pub enum Made {
     /// Nothing: the audit itself is printed.
     Report,
-    /// Nothing: the audit itself is printed, and updates are started; in a dry run cargo is told to
-    /// change nothing.
+    /// Nothing: the audit itself is printed, and updates are started; in a dry run cargo is asked
+    /// to change nothing.
     Fix { dry_run: bool },
     /// A plan for the vulnerable packages.
     Planned(Items<PlanItem>),
@@ -50,7 +50,7 @@ pub enum Made {
 }
 
 impl Made {
-    /// The plan, where this is one.
+    /// The plan, if this is one.
     pub fn into_plan(self) -> Option<Items<PlanItem>>
         ensures { result ≡ spec.plan_in (Ok self) }
     {
@@ -104,7 +104,7 @@ fn unlisted(
     }
 }
 
-/// Writes an audit's baseline to a file, which is made. `File` where that failed.
+/// Writes an audit's baseline to a file, which is created. `File` if that failed.
 fn write_baseline<F: Files>(
     alloc: Global,
     auditor: &Auditor,
@@ -185,9 +185,9 @@ fn vendor_fault(reason: VendorFault) -> RunFault
 
 // ---- what is to be made
 
-/// Makes of an audit what is to be made before anything is put: a plan, the findings that a
-/// baseline doesn't list, a baseline or a registry. A file that can't be made is `File`, a refusal
-/// of a registry `Vendor`.
+/// Makes of an audit what must be made before anything is printed: a plan, the findings that a
+/// baseline doesn't list, a baseline or a registry. `File` if a file can't be created, `Vendor` if
+/// a registry is refused.
 pub fn make<F: Files, D: CacheDisk>(
     alloc: Global,
     remedy: &Remedy,

@@ -8,14 +8,14 @@ use tame_names::Text;
 pub enum Remedy {
     /// What was found is reported.
     Report,
-    /// Updates are planned and started as well; in a dry run cargo is told to change nothing.
+    /// Updates are planned and started as well; in a dry run cargo is asked to change nothing.
     Fix { dry_run: bool },
-    /// For each vulnerable package the version that it may go to is told, in place of a report.
+    /// The version that each vulnerable package may go to is printed instead of a report.
     Plan,
-    /// What the baseline in the file at this path doesn't list is told, in place of a report.
+    /// What the baseline in the file at this path doesn't list is printed instead of a report.
     Baseline(Text),
     /// What was found is written as a baseline to a file at this path.
     WriteBaseline(Text),
-    /// A local registry is made of the packages.
+    /// A local registry of the packages is created.
     Vendor(VendorCommand),
 }

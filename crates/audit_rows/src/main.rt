@@ -1,9 +1,9 @@
-//! Rows of audits: each line of the input is a case or a step, which is answered by what it tells.
+//! Rows of audits: each line of the input is a case or a step; the answer is what it reports.
 //! A line `== SECTION` begins the rows of a table, of which nothing stays for the next:
 //!
 //! - `binaries`: audits of binaries, with reads and decodings that fail;
 //! - `fixes`: plans, their starts by runners in memory, and errors by their kinds;
-//! - `runs`: whole runs of the command over memory, with calls, puts, starts and decodings that
+//! - `runs`: whole runs of the command over memory, with calls, writes, starts and decodings that
 //!   fail, and crashes.
 #![tactic(auto)]
 

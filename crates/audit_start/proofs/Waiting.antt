@@ -6,7 +6,7 @@ use Rattle.tame_names.specs.declared.host.LockTakeFault.TheVariants as take_faul
 use Rattle.tame_names.specs.declared.locks.LockState.{LockState}
 use Rattle.tame_location.specs.Locks.{GoesOn, IsLockedWaiting, IsTaken, IsWaiting, LockMoment, Waits}
 
--- what follows a try, where all that the callback may say is so
+-- what follows a try, if all that the callback may say is so
 goes_wider : (says wider : Option ℕ → Type 0) (path : List ℕ) (exclusive : Bool) (why : Option LockTakeFault) (m n : LockMoment) (r : Result Unit LockError) → ((a : Option ℕ) → says a → wider a)
     → GoesOn ((a : Option ℕ) × says a × Waits a path exclusive m n r) why m n r → GoesOn ((a : Option ℕ) × wider a × Waits a path exclusive m n r) why m n r
 goes_wider says wider path exclusive None m n r all h = h

@@ -46,7 +46,7 @@ IsHolder taken (Together all) =
 -- what was done under a lock that excludes: of two runs that hold it at once, both share it. A run
 -- takes it alone if nobody holds it, and shares it if nobody holds it alone. What a run finds in the
 -- cache as it takes the lock is what is there; what it leaves is there as it gives the lock back.
--- All else that is outside may have changed by then. A crash ends all runs. Here: where the last
+-- All else that is outside may have changed by then. A crash ends all runs. Here: when the last
 -- run began, what is outside now, and who holds the lock
 pub data LockHistory (F P R W D : Type 0) (past : D → Disk) (tells : Telling) (m : ServerMap)
     : World → World → Holders → Type 0 where

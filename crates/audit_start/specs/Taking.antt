@@ -14,7 +14,7 @@ use Rattle.tame_location.specs.Locks.{IsLockedAtOnce, IsLockedWaiting, LockMomen
 abbrev pub waiting_line : List ℕ
 waiting_line = codes "Blocking waiting for file lock on cache folder\n"
 
--- what the error stream shows of a taking: nothing was put, or the line was put
+-- what standard error shows of a taking: nothing was printed, or the line was printed
 pub record Shows : Type 1 where
   pub nothing : Type 0
   pub waiting : Type 0
@@ -40,8 +40,8 @@ IsWaitedFor exclusive path before now held = (answer : Result LockState LockErro
     × IsLockedWaiting (λ limit. limit ≡ None) exclusive false path before now answer
     × (held ≡ held_state answer)
 
--- what follows the first try: if another run has the lock, the line is put and the turn waited for;
--- any other answer is the end
+-- what follows the first try: if another run has the lock, the line is printed and the turn waited
+-- for; any other answer is the end
 abbrev pub Follows : Shows → Bool → List ℕ → Result LockState LockError → LockMoment → LockMoment
     → LockState → Type 0
 Follows shown exclusive path (Err error.Contested) before now held =

@@ -93,7 +93,7 @@ impl StartFault {
     }
 }
 
-/// Puts a line, whatever the output answers.
+/// Prints a line, whatever the output answers.
 pub fn put_line<E: Sink>(err: &mut E, line: &[u8])
     ensures line { E.tells → IsLinePut (E.holds err.old) line.now (E.holds err.new)
         (E.faults err.old) (E.faults err.new) }
@@ -102,7 +102,7 @@ pub fn put_line<E: Sink>(err: &mut E, line: &[u8])
     let _ = put_counted(err, line);
 }
 
-/// Ends a program that can't start: puts the line of the fault, and gives the status.
+/// Ends a program that can't start: prints the line of the fault, and gives the status.
 pub fn refuse<E: Sink>(fault: StartFault, err: &mut E) -> u8
     ensures status { result ≡ spec.start_status fault }
     ensures line { E.tells → IsLinePut (E.holds err.old) (spec.start_line fault)

@@ -5,8 +5,8 @@
 //! call for, taken in its order, and nothing else of the host changes; each fault has its status
 //! and its line. Laws: the lock suffices for what the run does with the cache, and runs under such
 //! locks are a history.
-//! Stands on `audit_program` for what arguments ask for, and on `tame_location` for locks. Files
-//! and the error stream are traits; arguments, standard streams and links are the system's.
+//! Uses `audit_program` for what arguments ask for, and `tame_location` for locks. Files and
+//! standard error are traits; arguments, standard streams and links are the system's.
 //!
 //! ```ignore
 //! let start = begin(alloc, arguments, &mut files)?;

@@ -11,9 +11,9 @@ use std::os::fd::AsRawFd;
 /// The number of the last standard stream.
 const LAST_STREAM: i32 = 2;
 
-/// What holds the places of standard streams that are closed, so that no file of an audit gets
-/// their number, and with it what is put on them. It is the root folder, which can be neither read
-/// nor written: a closed stream stays a fault. Hold it as long as the audit runs.
+/// What takes the numbers of standard streams that are closed, so that no file of an audit gets one
+/// of them, and with it what is printed there. It is the root folder, which can be neither read nor
+/// written: a closed stream stays a fault. Hold it as long as the audit runs.
 pub fn closed_streams(rt: &HostRuntime) -> Result<Vec<File>, StartFault>
     ensures { IfErr result (λ e. e ≡ StartFault.NoMemory) }
 {

@@ -1,4 +1,4 @@
--- Behind an option of a baseline no command follows.
+-- After an option of a baseline no command follows.
 use Rattle.std.proofs.Common.{◌≡◌, ℕ, List, true, false, Option, None, Result, Err, refl, ap, ◌∙◌}
 use Rattle.audit_words.specs.Reading.{begun, has_baseline, is_option, read_awaited, read_fresh, read_plain, read_word}
 use Rattle.audit_words.specs.declared.options.Meaning.{Meaning}

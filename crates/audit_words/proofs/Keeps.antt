@@ -1,13 +1,13 @@
--- One word's options: where they leave a draft that isn't quiet, they do the same from a quiet one.
+-- One word's options: if they leave a draft that isn't quiet, they do the same from a quiet one.
 use Rattle.std.proofs.Common.{◌≡◌, ℕ, ◌||◌, ◌⊎◌, inl, inr, List, [], ◌∷◌, ◌++◌, Bool, true, false, cond, Option, Some, None, option_map, Result, Ok, Err, refl, sym, ap, ◌∙◌}
 use Rattle.audit_words.specs.Options.{by_letter, by_long, is_flag, options}
 use Rattle.audit_advisory.specs.Outputs.{deny_option_of, output_format_of}
 use Rattle.audit_words.specs.Values.{color_of, is_empty, joined_value, name_part, number, unless_empty, without_equals}
 use Rattle.audit_words.specs.Reading.{add_listed, allowed, alone, and_then, long_given, or_wrong, read_dashed, read_letters, read_long, repeats, set_flag, set_single, set_value}
 use Rattle.audit_words.specs.declared.options.Flag.{Flag}
-use Rattle.audit_words.specs.declared.options.Flag.TheVariants.{Help, Version, Verbose, NoYanked, NoFetch, Stale, Quiet, Json, Verdicts, DryRun, PathsFollow}
+use Rattle.audit_words.specs.declared.options.Flag.TheVariants.{Help, Version, Quiet}
 use Rattle.audit_words.specs.declared.options.Single.{Single}
-use Rattle.audit_words.specs.declared.options.Single.TheVariants.{Color, Db, File, Url, Format, Baseline, WriteBaseline, FixFile, MaxBinarySize, AuditDataSizeLimit}
+use Rattle.audit_words.specs.declared.options.Single.TheVariants.{Color, Format, MaxBinarySize, AuditDataSizeLimit}
 use Rattle.audit_words.specs.declared.options.Listed.{Listed}
 use Rattle.audit_words.specs.declared.options.Listed.TheVariants.{Deny, Ignore, TargetArch, TargetOs}
 use Rattle.audit_words.specs.declared.options.Meaning.{Meaning}
@@ -19,7 +19,7 @@ use Rattle.audit_words.specs.declared.drafts.Stop.TheVariants as stop
 abbrev pub quiet : Draft → Draft
 quiet d = record d { audit = record d.audit { quiet = true } }
 
--- a step keeps, at a draft: where it ends without quiet it began so, and from the quiet draft it ends in the quiet one
+-- a step keeps, at a draft: if it ends without quiet it began so, and from the quiet draft it ends in the quiet one
 abbrev pub KeepsAt : (Draft → Result Draft Stop) → Draft → Type 0
 KeepsAt f d = (e : Draft) → f d ≡ Ok e → e.audit.quiet ≡ false → (d.audit.quiet ≡ false) × (f (quiet d) ≡ Ok (quiet e))
 
@@ -70,27 +70,15 @@ keeps_then f g kf kg d e h q = then_case f g d kf (kg d) (g d) refl e h q
 keeps_flag : (f : Flag) → Keeps (set_flag f)
 keeps_flag Help = keeps_err stop.Help
 keeps_flag Version = keeps_err stop.Version
-keeps_flag Verbose = keeps_made _ (λ d. refl) (λ d. refl)
-keeps_flag NoYanked = keeps_made _ (λ d. refl) (λ d. refl)
-keeps_flag NoFetch = keeps_made _ (λ d. refl) (λ d. refl)
-keeps_flag Stale = keeps_made _ (λ d. refl) (λ d. refl)
 keeps_flag Quiet = λ d e h q. absurd (not_quiet d e (same_draft (quiet d) e h) q)
-keeps_flag Json = keeps_made _ (λ d. refl) (λ d. refl)
-keeps_flag Verdicts = keeps_made _ (λ d. refl) (λ d. refl)
-keeps_flag DryRun = keeps_made _ (λ d. refl) (λ d. refl)
-keeps_flag PathsFollow = keeps_made _ (λ d. refl) (λ d. refl)
+keeps_flag _ = keeps_made _ (λ d. refl) (λ d. refl)
 
 keeps_single : (s : Single) (v : List ℕ) → Keeps (λ d. or_wrong (set_single s v d))
 keeps_single Color v = keeps_option (color_of v) (λ c d. record d { audit = record d.audit { color = Some c } }) (λ c d. refl) (λ c d. refl)
-keeps_single Db v = keeps_made _ (λ d. refl) (λ d. refl)
-keeps_single File v = keeps_made _ (λ d. refl) (λ d. refl)
-keeps_single Url v = keeps_made _ (λ d. refl) (λ d. refl)
 keeps_single Format v = keeps_option (output_format_of v) (λ f d. record d { audit = record d.audit { output_format = Some f } }) (λ f d. refl) (λ f d. refl)
-keeps_single Baseline v = keeps_made _ (λ d. refl) (λ d. refl)
-keeps_single WriteBaseline v = keeps_made _ (λ d. refl) (λ d. refl)
-keeps_single FixFile v = keeps_made _ (λ d. refl) (λ d. refl)
 keeps_single MaxBinarySize v = keeps_option (number v) (λ n d. record d { bin = record d.bin { max_binary_size = Some n } }) (λ n d. refl) (λ n d. refl)
 keeps_single AuditDataSizeLimit v = keeps_option (number v) (λ n d. record d { bin = record d.bin { audit_data_size_limit = Some n } }) (λ n d. refl) (λ n d. refl)
+keeps_single _ v = keeps_made _ (λ d. refl) (λ d. refl)
 
 keeps_listed : (l : Listed) (v : List ℕ) → Keeps (λ d. or_wrong (add_listed l v d))
 keeps_listed Deny v = keeps_option (deny_option_of v) (λ k d. record d { audit = record d.audit { deny = d.audit.deny ++ k ∷ [] } }) (λ k d. refl) (λ k d. refl)
@@ -112,45 +100,18 @@ keeps_alone (Many l) = keeps_made _ (λ d. refl) (λ d. refl)
 
 -- whether an option repeats doesn't depend on quiet, but for quiet itself
 same_repeats : (m : Meaning) → (m ≡ Alone Quiet → ⊥) → (d : Draft) → repeats m (quiet d) ≡ repeats m d
-same_repeats (Alone Help) other d = refl
-same_repeats (Alone Version) other d = refl
-same_repeats (Alone Verbose) other d = refl
-same_repeats (Alone NoYanked) other d = refl
-same_repeats (Alone NoFetch) other d = refl
-same_repeats (Alone Stale) other d = refl
 same_repeats (Alone Quiet) other d = absurd (other refl)
-same_repeats (Alone Json) other d = refl
-same_repeats (Alone Verdicts) other d = refl
-same_repeats (Alone DryRun) other d = refl
-same_repeats (Alone PathsFollow) other d = refl
 same_repeats (Once Color) other d = refl
-same_repeats (Once Db) other d = refl
-same_repeats (Once File) other d = refl
-same_repeats (Once Url) other d = refl
-same_repeats (Once Format) other d = refl
-same_repeats (Once Baseline) other d = refl
-same_repeats (Once WriteBaseline) other d = refl
-same_repeats (Once FixFile) other d = refl
-same_repeats (Once MaxBinarySize) other d = refl
-same_repeats (Once AuditDataSizeLimit) other d = refl
 same_repeats (Many l) other d = refl
+same_repeats _ other d = refl
 
 is_quiet : (m : Meaning) → (m ≡ Alone Quiet) ⊎ (m ≡ Alone Quiet → ⊥)
 is_quiet (Alone Quiet) = inl refl
-is_quiet (Alone Help) = inr (λ h. cc)
-is_quiet (Alone Version) = inr (λ h. cc)
-is_quiet (Alone Verbose) = inr (λ h. cc)
-is_quiet (Alone NoYanked) = inr (λ h. cc)
-is_quiet (Alone NoFetch) = inr (λ h. cc)
-is_quiet (Alone Stale) = inr (λ h. cc)
-is_quiet (Alone Json) = inr (λ h. cc)
-is_quiet (Alone Verdicts) = inr (λ h. cc)
-is_quiet (Alone DryRun) = inr (λ h. cc)
-is_quiet (Alone PathsFollow) = inr (λ h. cc)
 is_quiet (Once s) = inr (λ h. cc)
 is_quiet (Many l) = inr (λ h. cc)
+is_quiet _ = inr (λ h. cc)
 
--- what goes on behind quiet ends quiet
+-- what goes on after quiet ends quiet
 abbrev Excludes : (Meaning → Draft → Result Draft Stop) → Type 0
 Excludes k = (d e : Draft) → k (Alone Quiet) d ≡ Ok e → e.audit.quiet ≡ false → ⊥
 

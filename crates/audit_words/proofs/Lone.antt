@@ -1,4 +1,4 @@
--- Only one option in place of the report is met: a command with a baseline has no verdicts.
+-- Only one option that replaces the report is met: a command with a baseline has no verdicts.
 use Rattle.std.proofs.Common.{◌≡◌, ℕ, ◌||◌, ◌&&◌, List, [], ◌∷◌, ◌++◌, Bool, true, false, not, cond, Option, Some, None, is_some, option_map, Result, Ok, Err, codes, refl, sym, ap, subst, ◌∙◌, bytes_eq}
 use Rattle.audit_advisory.specs.Outputs.{deny_option_of, output_format_of}
 use Rattle.audit_settings.specs.declared.commands.AuditCommand.{AuditCommand}
@@ -12,9 +12,9 @@ use Rattle.audit_words.proofs.Places.{closed, to_drafted}
 use Rattle.audit_words.specs.declared.options.Phase.{Phase}
 use Rattle.audit_words.specs.declared.options.Phase.TheVariants.{Before, Audit, Fix, Bin, Paths, Plan, Vendor, Generate, Generated}
 use Rattle.audit_words.specs.declared.options.Flag.{Flag}
-use Rattle.audit_words.specs.declared.options.Flag.TheVariants.{Help, Version, Verbose, NoYanked, NoFetch, Stale, Quiet, Json, Verdicts, DryRun, PathsFollow}
+use Rattle.audit_words.specs.declared.options.Flag.TheVariants.{Help, Version, Verdicts}
 use Rattle.audit_words.specs.declared.options.Single.{Single}
-use Rattle.audit_words.specs.declared.options.Single.TheVariants.{Color, Db, File, Url, Format, Baseline, WriteBaseline, FixFile, MaxBinarySize, AuditDataSizeLimit}
+use Rattle.audit_words.specs.declared.options.Single.TheVariants.{Color, Format, Baseline, WriteBaseline, MaxBinarySize, AuditDataSizeLimit}
 use Rattle.audit_words.specs.declared.options.Listed.{Listed}
 use Rattle.audit_words.specs.declared.options.Listed.TheVariants.{Deny, Ignore, TargetArch, TargetOs}
 use Rattle.audit_words.specs.declared.options.Meaning.{Meaning}
@@ -37,7 +37,7 @@ abbrev waits : Option Meaning → Bool
 waits None = false
 waits (Some m) = replaces m
 
--- the same, and where an option in place of the report awaits its value, none was met
+-- the same, and if an option that replaces the report awaits its value, none was met
 abbrev Fit : Draft → Type 0
 Fit d = Lone d × ((waits d.awaited && replaces_report d) ≡ false)
 
@@ -74,18 +74,11 @@ neither false b h = (refl, h)
 flag_still : (f : Flag) (d e : Draft) → Still d → has_flag f d ≡ false → set_flag f d ≡ Ok e → Still e
 flag_still Help d e s new h = cc
 flag_still Version d e s new h = cc
-flag_still Verbose d e s new h = made (record d { verbose = true }) e h s
-flag_still NoYanked d e s new h = made (record d { audit = record d.audit { no_yanked = true } }) e h s
-flag_still NoFetch d e s new h = made (record d { audit = record d.audit { no_fetch = true } }) e h s
-flag_still Stale d e s new h = made (record d { audit = record d.audit { stale = true } }) e h s
-flag_still Quiet d e s new h = made (record d { audit = record d.audit { quiet = true } }) e h s
-flag_still Json d e s new h = made (record d { audit = record d.audit { output_json = true } }) e h s
 flag_still Verdicts d e s new h =
     made (record d { audit = record d.audit { verdicts = true } }) e h ((neither d.audit.verdicts (has_baseline d) new).1, s.1)
-flag_still DryRun d e s new h = made (record d { fix = record d.fix { dry_run = true } }) e h s
-flag_still PathsFollow d e s new h = made (record d { phase = Paths }) e h s
+flag_still _ d e s new h = made _ e h s
 
--- nothing in place of the report was met, where this option is in its place
+-- no option that replaces the report was met, if this one replaces it
 abbrev HasRoom : Meaning → Draft → Type 0
 HasRoom m d = (replaces m && replaces_report d) ≡ false
 
@@ -101,15 +94,12 @@ no_verdicts d b free = ap (λ t. t && b) (neither d.audit.verdicts (has_baseline
 
 single_still : (s : Single) (v : List ℕ) (d e : Draft) → Still d → HasRoom (Once s) d → or_wrong (set_single s v d) ≡ Ok e → Still e
 single_still Color v d e s free h = option_still (color_of v) (λ c. record d { audit = record d.audit { color = Some c } }) e (λ c. s) h
-single_still Db v d e s free h = made (record d { audit = record d.audit { db = Some v } }) e h s
-single_still File v d e s free h = made (record d { audit = record d.audit { file = Some v } }) e h s
-single_still Url v d e s free h = made (record d { audit = record d.audit { url = Some v } }) e h s
 single_still Format v d e s free h = option_still (output_format_of v) (λ f. record d { audit = record d.audit { output_format = Some f } }) e (λ f. s) h
 single_still Baseline v d e s free h = made (record d { baseline = Some v }) e h (no_verdicts d true free, s.1)
 single_still WriteBaseline v d e s free h = made (record d { write_baseline = Some v }) e h (no_verdicts d (is_some d.baseline || true) free, s.1)
-single_still FixFile v d e s free h = made (record d { fix = record d.fix { file = Some v } }) e h s
 single_still MaxBinarySize v d e s free h = option_still (number v) (λ n. record d { bin = record d.bin { max_binary_size = Some n } }) e (λ n. s) h
 single_still AuditDataSizeLimit v d e s free h = option_still (number v) (λ n. record d { bin = record d.bin { audit_data_size_limit = Some n } }) e (λ n. s) h
+single_still _ v d e s free h = made _ e h s
 
 listed_still : (l : Listed) (v : List ℕ) (d e : Draft) → Still d → or_wrong (add_listed l v d) ≡ Ok e → Still e
 listed_still Deny v d e s h = option_still (deny_option_of v) (λ k. record d { audit = record d.audit { deny = d.audit.deny ++ k ∷ [] } }) e (λ k. s) h

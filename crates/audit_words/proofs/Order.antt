@@ -5,8 +5,8 @@ use Rattle.audit_words.specs.Values.{color_of, number, unless_empty}
 use Rattle.audit_words.specs.Reading.{alone, and_then, or_wrong, repeats, set_flag, set_value}
 use Rattle.audit_words.specs.Laws.{is_setting, replaces, set_by}
 use Rattle.audit_words.specs.declared.options.Flag.{Flag}
-use Rattle.audit_words.specs.declared.options.Flag.TheVariants.{Help, Version, Verbose, NoYanked, NoFetch, Stale, Quiet, Json, Verdicts, DryRun, PathsFollow}
-use Rattle.audit_words.specs.declared.options.Single.TheVariants.{Color as OfColor, Db, File, Url, Format, Baseline, WriteBaseline, FixFile, MaxBinarySize, AuditDataSizeLimit}
+use Rattle.audit_words.specs.declared.options.Flag.TheVariants.{Help, Version, Verdicts, PathsFollow}
+use Rattle.audit_words.specs.declared.options.Single.TheVariants.{Color as OfColor, Format, Baseline, WriteBaseline, MaxBinarySize, AuditDataSizeLimit}
 use Rattle.audit_words.specs.declared.options.Listed.TheVariants.{Deny, Ignore, TargetArch, TargetOs}
 use Rattle.audit_words.specs.declared.options.Meaning.{Meaning}
 use Rattle.audit_words.specs.declared.options.Meaning.TheVariants.{Alone, Once, Many}
@@ -43,32 +43,20 @@ set_in_step : (m : Meaning) (v : List ℕ) (d : Draft) → is_setting m ≡ true
 set_in_step (Alone Help) v d h = cc
 set_in_step (Alone Version) v d h = cc
 set_in_step (Alone PathsFollow) v d h = cc
-set_in_step (Alone Verbose) v d h = flag_case _ Verbose d _ refl
-set_in_step (Alone NoYanked) v d h = flag_case _ NoYanked d _ refl
-set_in_step (Alone NoFetch) v d h = flag_case _ NoFetch d _ refl
-set_in_step (Alone Stale) v d h = flag_case _ Stale d _ refl
-set_in_step (Alone Quiet) v d h = flag_case _ Quiet d _ refl
-set_in_step (Alone Json) v d h = flag_case _ Json d _ refl
-set_in_step (Alone Verdicts) v d h = flag_case _ Verdicts d _ refl
-set_in_step (Alone DryRun) v d h = flag_case _ DryRun d _ refl
 set_in_step (Once OfColor) v d h = value_case _ (Once OfColor) v d _ (option_case (color_of v) _ colour_value (λ g. write (Once OfColor) g d) (λ a. refl))
-set_in_step (Once Db) v d h = value_case _ (Once Db) v d _ refl
-set_in_step (Once File) v d h = value_case _ (Once File) v d _ refl
-set_in_step (Once Url) v d h = value_case _ (Once Url) v d _ refl
 set_in_step (Once Format) v d h = value_case _ (Once Format) v d _ (option_case (output_format_of v) _ form_value (λ g. write (Once Format) g d) (λ a. refl))
-set_in_step (Once Baseline) v d h = value_case _ (Once Baseline) v d _ refl
-set_in_step (Once WriteBaseline) v d h = value_case _ (Once WriteBaseline) v d _ refl
-set_in_step (Once FixFile) v d h = value_case _ (Once FixFile) v d _ refl
 set_in_step (Once MaxBinarySize) v d h = value_case _ (Once MaxBinarySize) v d _ (option_case (number v) _ size_value (λ g. write (Once MaxBinarySize) g d) (λ a. refl))
 set_in_step (Once AuditDataSizeLimit) v d h = value_case _ (Once AuditDataSizeLimit) v d _ (option_case (number v) _ size_value (λ g. write (Once AuditDataSizeLimit) g d) (λ a. refl))
 set_in_step (Many Deny) v d h = option_case (deny_option_of v) _ kind_value (λ g. write (Many Deny) g d) (λ a. refl)
 set_in_step (Many Ignore) v d h = option_case (unless_empty v) _ text_value (λ g. write (Many Ignore) g d) (λ a. refl)
 set_in_step (Many TargetArch) v d h = option_case (unless_empty v) _ text_value (λ g. write (Many TargetArch) g d) (λ a. refl)
 set_in_step (Many TargetOs) v d h = option_case (unless_empty v) _ text_value (λ g. write (Many TargetOs) g d) (λ a. refl)
+set_in_step (Alone f) v d h = flag_case _ f d _ refl
+set_in_step (Once o) v d h = value_case _ (Once o) v d _ refl
 
 -- ---- two options
 
--- refused where one of them is, else both written
+-- refused if one of them is, else both written
 abbrev joined : Bool → Option Value → Bool → Option Value → (Value → Value → Draft) → Result Draft Stop
 joined true o s p both = wrong
 joined false None s p both = wrong

@@ -9,7 +9,7 @@ use Rattle.audit_words.proofs.Places.{closed, drafted_append, from_drafted, to_d
 use Rattle.audit_words.specs.declared.options.Phase.{Phase}
 use Rattle.audit_words.specs.declared.options.Phase.TheVariants.{Before, Audit, Fix, Bin, Paths, Plan, Vendor, Generate, Generated}
 use Rattle.audit_words.specs.declared.options.Single.{Single}
-use Rattle.audit_words.specs.declared.options.Single.TheVariants.{Color, Db, File, Url, Format, Baseline, WriteBaseline, FixFile, MaxBinarySize, AuditDataSizeLimit}
+use Rattle.audit_words.specs.declared.options.Single.TheVariants.{Color, Format, MaxBinarySize, AuditDataSizeLimit}
 use Rattle.audit_words.specs.declared.options.Listed.{Listed}
 use Rattle.audit_words.specs.declared.options.Listed.TheVariants.{Deny, Ignore, TargetArch, TargetOs}
 use Rattle.audit_words.specs.declared.options.Meaning.{Meaning}
@@ -21,7 +21,7 @@ use Rattle.audit_words.specs.declared.drafts.Stop.{Stop}
 use Rattle.audit_words.specs.declared.drafts.Stop.TheVariants as stop
 use Rattle.audit_words.proofs.Keeps.{keeps_dashed, keeps_value, ok, quiet, same_draft}
 
--- ---- words, where nothing is generated
+-- ---- words, if nothing is generated
 
 abbrev generates : Phase → Bool
 generates Before = false
@@ -82,7 +82,7 @@ counted_case X None d e h l = cc
 abbrev Step : Type 0
 Step = Draft → Result Draft Stop
 
--- the commands behind `audit`, one after the other
+-- the commands after `audit`, one after the other
 abbrev at_generate : List ℕ → Step
 at_generate word d = cond (bytes_eq word (codes "generate")) (begun_generate (is_bare d.audit) d) (Err stop.Wrong)
 
@@ -166,7 +166,7 @@ well_fresh word d e h l =
     fresh_case (is_option word && has_options d.phase) word d
     (λ is. options_generate_nothing d.phase (last_holds (is_option word) (has_options d.phase) is)) e h l
 
--- ---- a value in the next word leaves the part of the words that is read
+-- ---- a value in the next word leaves the part of the arguments that is read
 
 same_phase : (p : Phase) (d e : Draft) → ok d ≡ Ok e → d.phase ≡ p → e.phase ≡ p
 same_phase p d e h is = sym (ap (λ (x : Draft). x.phase) (same_draft d e h)) ∙ is
@@ -178,15 +178,10 @@ option_phase p (Some a) g e is h = same_phase p (g a) e h (is a)
 
 single_phase : (s : Single) (v : List ℕ) (d e : Draft) → or_wrong (set_single s v d) ≡ Ok e → e.phase ≡ d.phase
 single_phase Color v d e h = option_phase d.phase (color_of v) (λ c. record d { audit = record d.audit { color = Some c } }) e (λ c. refl) h
-single_phase Db v d e h = same_phase d.phase (record d { audit = record d.audit { db = Some v } }) e h refl
-single_phase File v d e h = same_phase d.phase (record d { audit = record d.audit { file = Some v } }) e h refl
-single_phase Url v d e h = same_phase d.phase (record d { audit = record d.audit { url = Some v } }) e h refl
 single_phase Format v d e h = option_phase d.phase (output_format_of v) (λ f. record d { audit = record d.audit { output_format = Some f } }) e (λ f. refl) h
-single_phase Baseline v d e h = same_phase d.phase (record d { baseline = Some v }) e h refl
-single_phase WriteBaseline v d e h = same_phase d.phase (record d { write_baseline = Some v }) e h refl
-single_phase FixFile v d e h = same_phase d.phase (record d { fix = record d.fix { file = Some v } }) e h refl
 single_phase MaxBinarySize v d e h = option_phase d.phase (number v) (λ n. record d { bin = record d.bin { max_binary_size = Some n } }) e (λ n. refl) h
 single_phase AuditDataSizeLimit v d e h = option_phase d.phase (number v) (λ n. record d { bin = record d.bin { audit_data_size_limit = Some n } }) e (λ n. refl) h
+single_phase _ v d e h = same_phase d.phase _ e h refl
 
 listed_phase : (l : Listed) (v : List ℕ) (d e : Draft) → or_wrong (add_listed l v d) ≡ Ok e → e.phase ≡ d.phase
 listed_phase Deny v d e h = option_phase d.phase (deny_option_of v) (λ k. record d { audit = record d.audit { deny = d.audit.deny ++ k ∷ [] } }) e (λ k. refl) h

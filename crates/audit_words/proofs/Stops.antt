@@ -1,4 +1,4 @@
--- The reading ends at the word that ends it, or where the words end.
+-- The reading ends at the word that ends it, or when the words end.
 use Rattle.std.proofs.Common.{◌≡◌, ℕ, suc, ◌+◌, List, [], ◌∷◌, ◌++◌, length, Result, Ok, Err, sym, ap, ◌∙◌, append-nil, arith}
 use Rattle.audit_words.specs.Reading.{and_then, command_of, ended, finish, read_from, read_word, start, unless_ended}
 use Rattle.audit_words.specs.Laws.{drafted}
@@ -11,7 +11,7 @@ front_step : (i : ℕ) (front words : List (List ℕ)) (r : Result Draft Stop) (
 front_step i front words (Ok d) e more h = more d h
 front_step i front words (Err s) e more h = cc
 
--- behind words that make a draft, the reading goes on with it
+-- after words that make a draft, the reading goes on with it
 read_front : (i : ℕ) (front words : List (List ℕ)) (d e : Draft) → drafted front d ≡ Ok e → read_from i (front ++ words) d ≡ read_from (i + length front) words e
 read_front i [] words d e h =
     let same : d ≡ e = cc in

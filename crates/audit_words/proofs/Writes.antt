@@ -1,4 +1,5 @@
--- What an option writes into the draft.
+-- What an option writes into the draft: a line of `write` for each option. In what follows, and in Keeps,
+-- Lone, Order and Quiet, only an option that does more than write its value has a line of its own.
 use Rattle.std.proofs.Common.{◌≡◌, ℕ, List, [], ◌∷◌, ◌++◌, Bool, true, false, ◌&&◌, ◌||◌, Option, Some, is_some, option_map, refl, ap, ◌∙◌}
 use Rattle.audit_advisory.specs.Outputs.{deny_option_of, output_format_of}
 use Rattle.audit_advisory.specs.declared.outputs.DenyOption.{DenyOption}
@@ -43,23 +44,16 @@ size_value n = record blank { size = n }
 abbrev pub text_value : List ℕ → Value
 text_value t = record blank { text = t }
 
--- the value that a text is for an option
+-- the value that a string is for an option
 abbrev pub value_of : Meaning → List ℕ → Option Value
 value_of (Alone f) v = Some blank
 value_of (Once OfColor) v = option_map colour_value (color_of v)
-value_of (Once Db) v = Some (text_value v)
-value_of (Once File) v = Some (text_value v)
-value_of (Once Url) v = Some (text_value v)
 value_of (Once Format) v = option_map form_value (output_format_of v)
-value_of (Once Baseline) v = Some (text_value v)
-value_of (Once WriteBaseline) v = Some (text_value v)
-value_of (Once FixFile) v = Some (text_value v)
 value_of (Once MaxBinarySize) v = option_map size_value (number v)
 value_of (Once AuditDataSizeLimit) v = option_map size_value (number v)
+value_of (Once s) v = Some (text_value v)
 value_of (Many Deny) v = option_map kind_value (deny_option_of v)
-value_of (Many Ignore) v = option_map text_value (unless_empty v)
-value_of (Many TargetArch) v = option_map text_value (unless_empty v)
-value_of (Many TargetOs) v = option_map text_value (unless_empty v)
+value_of (Many l) v = option_map text_value (unless_empty v)
 
 -- the draft with it
 abbrev pub write : Meaning → Value → Draft → Draft
@@ -89,78 +83,16 @@ write (Many Ignore) g d = record d { audit = record d.audit { ignore = d.audit.i
 write (Many TargetArch) g d = record d { audit = record d.audit { target_arch = d.audit.target_arch ++ g.text ∷ [] } }
 write (Many TargetOs) g d = record d { audit = record d.audit { target_os = d.audit.target_os ++ g.text ∷ [] } }
 
--- whether another option was met stays as it was, where not both replace the report
+-- whether another option was met stays as it was, unless both replace the report; the lines before the last
+-- make the prover try each pair of options
 pub untouched : (m n : Meaning) → (m ≡ n → ⊥) → (replaces m && replaces n) ≡ false → (g : Value) (d : Draft) → repeats n (write m g d) ≡ repeats n d
-untouched (Alone Verbose) (Alone Verbose) ne apart g d = absurd (ne refl)
-untouched (Alone Verbose) (Once OfColor) ne apart g d = refl
-untouched (Alone Verbose) (Many Deny) ne apart g d = refl
-untouched (Alone NoYanked) (Alone NoYanked) ne apart g d = absurd (ne refl)
-untouched (Alone NoYanked) (Once OfColor) ne apart g d = refl
-untouched (Alone NoYanked) (Many Deny) ne apart g d = refl
-untouched (Alone NoFetch) (Alone NoFetch) ne apart g d = absurd (ne refl)
-untouched (Alone NoFetch) (Once OfColor) ne apart g d = refl
-untouched (Alone NoFetch) (Many Deny) ne apart g d = refl
-untouched (Alone Stale) (Alone Stale) ne apart g d = absurd (ne refl)
-untouched (Alone Stale) (Once OfColor) ne apart g d = refl
-untouched (Alone Stale) (Many Deny) ne apart g d = refl
-untouched (Alone Quiet) (Alone Quiet) ne apart g d = absurd (ne refl)
-untouched (Alone Quiet) (Once OfColor) ne apart g d = refl
-untouched (Alone Quiet) (Many Deny) ne apart g d = refl
-untouched (Alone Json) (Alone Json) ne apart g d = absurd (ne refl)
-untouched (Alone Json) (Once OfColor) ne apart g d = refl
-untouched (Alone Json) (Many Deny) ne apart g d = refl
-untouched (Alone Verdicts) (Alone Verdicts) ne apart g d = absurd (ne refl)
-untouched (Alone Verdicts) (Once Baseline) ne apart g d = cc
-untouched (Alone Verdicts) (Once WriteBaseline) ne apart g d = cc
-untouched (Alone Verdicts) (Many Deny) ne apart g d = refl
-untouched (Alone DryRun) (Alone DryRun) ne apart g d = absurd (ne refl)
-untouched (Alone DryRun) (Once OfColor) ne apart g d = refl
-untouched (Alone DryRun) (Many Deny) ne apart g d = refl
-untouched (Once OfColor) (Once OfColor) ne apart g d = absurd (ne refl)
-untouched (Once OfColor) (Alone Verbose) ne apart g d = refl
-untouched (Once OfColor) (Many Deny) ne apart g d = refl
-untouched (Once Db) (Once Db) ne apart g d = absurd (ne refl)
-untouched (Once Db) (Alone Verbose) ne apart g d = refl
-untouched (Once Db) (Many Deny) ne apart g d = refl
-untouched (Once File) (Once File) ne apart g d = absurd (ne refl)
-untouched (Once File) (Alone Verbose) ne apart g d = refl
-untouched (Once File) (Many Deny) ne apart g d = refl
-untouched (Once Url) (Once Url) ne apart g d = absurd (ne refl)
-untouched (Once Url) (Alone Verbose) ne apart g d = refl
-untouched (Once Url) (Many Deny) ne apart g d = refl
-untouched (Once Format) (Once Format) ne apart g d = absurd (ne refl)
-untouched (Once Format) (Alone Verbose) ne apart g d = refl
-untouched (Once Format) (Many Deny) ne apart g d = refl
-untouched (Once Baseline) (Once Baseline) ne apart g d = absurd (ne refl)
-untouched (Once Baseline) (Alone Verdicts) ne apart g d = cc
-untouched (Once Baseline) (Once WriteBaseline) ne apart g d = cc
-untouched (Once Baseline) (Many Deny) ne apart g d = refl
-untouched (Once WriteBaseline) (Once WriteBaseline) ne apart g d = absurd (ne refl)
-untouched (Once WriteBaseline) (Alone Verdicts) ne apart g d = cc
-untouched (Once WriteBaseline) (Once Baseline) ne apart g d = cc
-untouched (Once WriteBaseline) (Many Deny) ne apart g d = refl
-untouched (Once FixFile) (Once FixFile) ne apart g d = absurd (ne refl)
-untouched (Once FixFile) (Alone Verbose) ne apart g d = refl
-untouched (Once FixFile) (Many Deny) ne apart g d = refl
-untouched (Once MaxBinarySize) (Once MaxBinarySize) ne apart g d = absurd (ne refl)
-untouched (Once MaxBinarySize) (Alone Verbose) ne apart g d = refl
-untouched (Once MaxBinarySize) (Many Deny) ne apart g d = refl
-untouched (Once AuditDataSizeLimit) (Once AuditDataSizeLimit) ne apart g d = absurd (ne refl)
-untouched (Once AuditDataSizeLimit) (Alone Verbose) ne apart g d = refl
-untouched (Once AuditDataSizeLimit) (Many Deny) ne apart g d = refl
-untouched (Many Deny) (Many Deny) ne apart g d = absurd (ne refl)
-untouched (Many Deny) (Alone Verbose) ne apart g d = refl
-untouched (Many Deny) (Once OfColor) ne apart g d = refl
-untouched (Many Ignore) (Many Ignore) ne apart g d = absurd (ne refl)
-untouched (Many Ignore) (Alone Verbose) ne apart g d = refl
-untouched (Many Ignore) (Once OfColor) ne apart g d = refl
-untouched (Many TargetArch) (Many TargetArch) ne apart g d = absurd (ne refl)
-untouched (Many TargetArch) (Alone Verbose) ne apart g d = refl
-untouched (Many TargetArch) (Once OfColor) ne apart g d = refl
-untouched (Many TargetOs) (Many TargetOs) ne apart g d = absurd (ne refl)
-untouched (Many TargetOs) (Alone Verbose) ne apart g d = refl
-untouched (Many TargetOs) (Once OfColor) ne apart g d = refl
-untouched _ _ ne apart g d = refl
+untouched (Alone Verbose) (Alone Verbose) ne apart g d = search
+untouched (Once OfColor) (Once OfColor) ne apart g d = search
+untouched (Many Deny) (Many Deny) ne apart g d = search
+untouched m (Alone NoYanked) ne apart g d = search
+untouched m (Once Db) ne apart g d = search
+untouched m (Many Ignore) ne apart g d = search
+untouched _ _ ne apart g d = search
 
 or_true : (b : Bool) → (b || true) ≡ true
 or_true true = refl
@@ -182,70 +114,10 @@ counted _ h d = cc
 
 -- two options write in either order
 pub swapped : (m n : Meaning) → (m ≡ n → ⊥) → (g h : Value) (d : Draft) → write n h (write m g d) ≡ write m g (write n h d)
-swapped (Alone Verbose) (Alone Verbose) ne g h d = absurd (ne refl)
-swapped (Alone Verbose) (Once OfColor) ne g h d = refl
-swapped (Alone Verbose) (Many Deny) ne g h d = refl
-swapped (Alone NoYanked) (Alone NoYanked) ne g h d = absurd (ne refl)
-swapped (Alone NoYanked) (Once OfColor) ne g h d = refl
-swapped (Alone NoYanked) (Many Deny) ne g h d = refl
-swapped (Alone NoFetch) (Alone NoFetch) ne g h d = absurd (ne refl)
-swapped (Alone NoFetch) (Once OfColor) ne g h d = refl
-swapped (Alone NoFetch) (Many Deny) ne g h d = refl
-swapped (Alone Stale) (Alone Stale) ne g h d = absurd (ne refl)
-swapped (Alone Stale) (Once OfColor) ne g h d = refl
-swapped (Alone Stale) (Many Deny) ne g h d = refl
-swapped (Alone Quiet) (Alone Quiet) ne g h d = absurd (ne refl)
-swapped (Alone Quiet) (Once OfColor) ne g h d = refl
-swapped (Alone Quiet) (Many Deny) ne g h d = refl
-swapped (Alone Json) (Alone Json) ne g h d = absurd (ne refl)
-swapped (Alone Json) (Once OfColor) ne g h d = refl
-swapped (Alone Json) (Many Deny) ne g h d = refl
-swapped (Alone Verdicts) (Alone Verdicts) ne g h d = absurd (ne refl)
-swapped (Alone Verdicts) (Once OfColor) ne g h d = refl
-swapped (Alone Verdicts) (Many Deny) ne g h d = refl
-swapped (Alone DryRun) (Alone DryRun) ne g h d = absurd (ne refl)
-swapped (Alone DryRun) (Once OfColor) ne g h d = refl
-swapped (Alone DryRun) (Many Deny) ne g h d = refl
-swapped (Once OfColor) (Once OfColor) ne g h d = absurd (ne refl)
-swapped (Once OfColor) (Alone Verbose) ne g h d = refl
-swapped (Once OfColor) (Many Deny) ne g h d = refl
-swapped (Once Db) (Once Db) ne g h d = absurd (ne refl)
-swapped (Once Db) (Alone Verbose) ne g h d = refl
-swapped (Once Db) (Many Deny) ne g h d = refl
-swapped (Once File) (Once File) ne g h d = absurd (ne refl)
-swapped (Once File) (Alone Verbose) ne g h d = refl
-swapped (Once File) (Many Deny) ne g h d = refl
-swapped (Once Url) (Once Url) ne g h d = absurd (ne refl)
-swapped (Once Url) (Alone Verbose) ne g h d = refl
-swapped (Once Url) (Many Deny) ne g h d = refl
-swapped (Once Format) (Once Format) ne g h d = absurd (ne refl)
-swapped (Once Format) (Alone Verbose) ne g h d = refl
-swapped (Once Format) (Many Deny) ne g h d = refl
-swapped (Once Baseline) (Once Baseline) ne g h d = absurd (ne refl)
-swapped (Once Baseline) (Alone Verbose) ne g h d = refl
-swapped (Once Baseline) (Many Deny) ne g h d = refl
-swapped (Once WriteBaseline) (Once WriteBaseline) ne g h d = absurd (ne refl)
-swapped (Once WriteBaseline) (Alone Verbose) ne g h d = refl
-swapped (Once WriteBaseline) (Many Deny) ne g h d = refl
-swapped (Once FixFile) (Once FixFile) ne g h d = absurd (ne refl)
-swapped (Once FixFile) (Alone Verbose) ne g h d = refl
-swapped (Once FixFile) (Many Deny) ne g h d = refl
-swapped (Once MaxBinarySize) (Once MaxBinarySize) ne g h d = absurd (ne refl)
-swapped (Once MaxBinarySize) (Alone Verbose) ne g h d = refl
-swapped (Once MaxBinarySize) (Many Deny) ne g h d = refl
-swapped (Once AuditDataSizeLimit) (Once AuditDataSizeLimit) ne g h d = absurd (ne refl)
-swapped (Once AuditDataSizeLimit) (Alone Verbose) ne g h d = refl
-swapped (Once AuditDataSizeLimit) (Many Deny) ne g h d = refl
-swapped (Many Deny) (Many Deny) ne g h d = absurd (ne refl)
-swapped (Many Deny) (Alone Verbose) ne g h d = refl
-swapped (Many Deny) (Once OfColor) ne g h d = refl
-swapped (Many Ignore) (Many Ignore) ne g h d = absurd (ne refl)
-swapped (Many Ignore) (Alone Verbose) ne g h d = refl
-swapped (Many Ignore) (Once OfColor) ne g h d = refl
-swapped (Many TargetArch) (Many TargetArch) ne g h d = absurd (ne refl)
-swapped (Many TargetArch) (Alone Verbose) ne g h d = refl
-swapped (Many TargetArch) (Once OfColor) ne g h d = refl
-swapped (Many TargetOs) (Many TargetOs) ne g h d = absurd (ne refl)
-swapped (Many TargetOs) (Alone Verbose) ne g h d = refl
-swapped (Many TargetOs) (Once OfColor) ne g h d = refl
-swapped _ _ ne g h d = refl
+swapped (Alone Verbose) (Alone Verbose) ne g h d = search
+swapped (Once OfColor) (Once OfColor) ne g h d = search
+swapped (Many Deny) (Many Deny) ne g h d = search
+swapped m (Alone NoYanked) ne g h d = search
+swapped m (Once Db) ne g h d = search
+swapped m (Many Ignore) ne g h d = search
+swapped _ _ ne g h d = search

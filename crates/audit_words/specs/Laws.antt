@@ -1,4 +1,4 @@
--- What holds of the meaning of words.
+-- What holds of the meaning of the arguments.
 use Rattle.std.specs.Prelude.{◌≡◌, ℕ, List, [], ◌∷◌, Bool, true, false, Option, Some, None, Result, Ok}
 use Rattle.audit_words.specs.Options.{by_letter, by_long, is_flag, options}
 use Rattle.audit_words.specs.Values.{is_empty, without_equals}
@@ -12,7 +12,7 @@ use Rattle.audit_words.specs.declared.commands.Command.TheVariants as command
 use Rattle.audit_words.specs.declared.drafts.Draft.{Draft}
 use Rattle.audit_words.specs.declared.drafts.Stop.{Stop}
 
--- the draft that words make of a draft, one after the other
+-- the draft that words make from a draft, one after the other
 abbrev pub drafted : List (List ℕ) → Draft → Result Draft Stop
 drafted [] d = Ok d
 drafted (word ∷ words) d = and_then (drafted words) (read_word word d)
@@ -21,7 +21,7 @@ drafted (word ∷ words) d = and_then (drafted words) (read_word word d)
 abbrev pub given : Meaning → List ℕ → Draft → Result Draft Stop
 given m v d = and_then (λ n. set_value n v d) (allowed (Some m) d)
 
--- an option with value by its long name, where a word may be an option
+-- an option with value by its long name, if a word may be an option
 pub record IsNamed (d : Draft) (name : List ℕ) (m : Meaning) : Type 0 where
   pub free : d.awaited ≡ None
   pub known : by_long (options d.phase) name ≡ Some m
@@ -33,7 +33,7 @@ pub record IsLettered (d : Draft) (letter : ℕ) (m : Meaning) : Type 0 where
   pub known : by_letter (options d.phase) letter ≡ Some m
   pub valued : is_flag m ≡ false
 
--- the value may stand right behind the letter
+-- the value may come right after the letter
 pub record CanJoin (v : List ℕ) : Type 0 where
   pub some : is_empty v ≡ false
   pub plain : without_equals v ≡ v
@@ -53,7 +53,7 @@ set_by (Alone f) v d = and_then (λ n. alone n d) (allowed (Some (Alone f)) d)
 set_by (Once s) v d = given (Once s) v d
 set_by (Many l) v d = given (Many l) v d
 
--- an option that gives something in place of the report
+-- an option that replaces the report
 abbrev pub replaces : Meaning → Bool
 replaces (Alone Verdicts) = true
 replaces (Once Baseline) = true

@@ -1,4 +1,4 @@
--- What a list of words means: they are read from the front into a draft of the command.
+-- What the arguments mean: they are read from the first on into a draft of the command.
 use Rattle.std.specs.Prelude.{◌≡◌, ◌≢◌, ℕ, suc, ◌-◌, codes, List, [], ◌∷◌, ◌++◌, Bool, true, false, not, ◌&&◌, ◌||◌, bytes_eq, Option, Some, None, is_none, is_some, option_map, Result, Ok, Err, IfErr, if◌then◌else◌}
 use Rattle.tame_names.specs.Paths.{plain_path}
 use Rattle.audit_advisory.specs.Outputs.{deny_option_of, output_format_of}
@@ -67,7 +67,7 @@ set_flag PathsFollow d = Ok (record d { phase = Paths })
 abbrev pub has_baseline : Draft → Bool
 has_baseline d = is_some d.baseline || is_some d.write_baseline
 
--- whether an option was met that gives something in place of the report
+-- whether an option was met that replaces the report
 abbrev pub replaces_report : Draft → Bool
 replaces_report d = d.audit.verdicts || has_baseline d
 
@@ -143,7 +143,7 @@ repeats (Alone f) d = has_flag f d
 repeats (Once s) d = has_single s d
 repeats (Many l) d = false
 
--- the option, if there is one and it may be given behind what was met
+-- the option, if there is one and it may be given after what was met
 abbrev pub allowed : Option Meaning → Draft → Result Meaning Stop
 allowed None d = Err stop.Wrong
 allowed (Some m) d = if repeats m d then Err stop.Wrong else Ok m
@@ -170,14 +170,14 @@ abbrev pub long_given : Meaning → Option (List ℕ) → Draft → Result Draft
 long_given m None d = alone m d
 long_given m (Some v) d = set_value m v d
 
--- `--name` or `--name=value`, behind its dashes
+-- `--name` or `--name=value`, after its dashes
 abbrev pub read_long : List ℕ → Draft → Result Draft Stop
 read_long text d =
     and_then
     (λ m. long_given m (joined_value text) d)
     (allowed (by_long (options d.phase) (name_part text)) d)
 
--- the letters behind a dash: flags may be joined; a letter with value takes the rest, if any
+-- the letters after a dash: flags may be joined; a letter with value takes the rest, if any
 abbrev pub read_letters : List ℕ → Draft → Result Draft Stop
 read_letters [] d = Ok d
 read_letters (letter ∷ rest) d =
@@ -222,8 +222,8 @@ begun word d =
     else if bytes_eq word (codes "generate") then begun_generate (is_bare d.audit) d
     else Err stop.Wrong
 
--- the next folder of `vendor`, where these were met: first that of the crate files, then that of
--- the registry, which isn't the empty text; the slashes at their ends don't count
+-- the next folder of `vendor`, if these were met: first that of the crate files, then that of
+-- the registry, which isn't empty; the slashes at their ends don't count
 abbrev pub with_folder : Option (List ℕ) → Option (List ℕ) → List ℕ → Draft → Result Draft Stop
 with_folder None to word d = Ok (record d { vendor_crates = Some (plain_path word) })
 with_folder (Some crates) None word d =
@@ -244,7 +244,7 @@ read_plain Generate word d =
     or_wrong (option_map (λ n. record d { phase = Generated n }) (packages_of word))
 read_plain (Generated n) word d = Err stop.Wrong
 
--- behind the `--` of `bin`, and behind `generate`, no word is an option
+-- after the `--` of `bin`, and after `generate`, no word is an option
 abbrev pub has_options : Phase → Bool
 has_options Before = true
 has_options Audit = true
@@ -261,7 +261,7 @@ abbrev pub read_fresh : List ℕ → Draft → Result Draft Stop
 read_fresh word d =
     if is_option word && has_options d.phase then read_option word d else read_plain d.phase word d
 
--- a word where a value may be awaited; an option is no value
+-- a word, if a value may be awaited; an option is no value
 abbrev pub read_awaited : Option Meaning → List ℕ → Draft → Result Draft Stop
 read_awaited None word d = read_fresh word d
 read_awaited (Some m) word d =
@@ -303,12 +303,12 @@ abbrev pub finish_awaited : Option Meaning → Draft → Result Command Stop
 finish_awaited None d = finish_phase d.phase d
 finish_awaited (Some m) d = Err stop.Missing
 
--- the command, where the words end
+-- the command, when the words end
 abbrev pub finish : Draft → Result Command Stop
 finish d = finish_awaited d.awaited d
 
--- the reading is ended at a place: help and version answer; a missing value is at its option's
--- place
+-- the reading is ended at a position: help and version answer; a missing value is at its option's
+-- position
 abbrev pub ended : ℕ → Stop → Result Command WordsFault
 ended place stop.Help = Ok command.Help
 ended place stop.Version = Ok command.Version
@@ -316,19 +316,19 @@ ended place stop.Wrong = Err (fault.Usage place)
 ended place stop.Missing = Err (fault.Usage (place - 1))
 ended place stop.NoMemory = Err fault.NoMemory
 
--- goes on, unless the reading is ended at a place
+-- goes on, unless the reading is ended at a position
 abbrev pub unless_ended : {A : Type 0} → ℕ → (A → Result Command WordsFault) → Result A Stop
     → Result Command WordsFault
 unless_ended place more (Ok a) = more a
 unless_ended place more (Err s) = ended place s
 
--- the words from a place on, behind this draft
+-- the words from a position on, after this draft
 abbrev pub read_from : ℕ → List (List ℕ) → Draft → Result Command WordsFault
 read_from place [] d = unless_ended place (λ c. Ok c) (finish d)
 read_from place (word ∷ words) d =
     unless_ended place (read_from (suc place) words) (read_word word d)
 
--- the command that words are, or the place of the first that breaks a rule
+-- the command that the words mean, or the position of the first that breaks a rule
 abbrev pub command_of : List (List ℕ) → Result Command WordsFault
 command_of words = read_from 0 words start
 
@@ -337,6 +337,6 @@ abbrev pub first_meaning : Phase → List ℕ → Option Meaning
 first_meaning phase [] = None
 first_meaning phase (letter ∷ rest) = by_letter (options phase) letter
 
--- what a call refuses, the definition refuses, but for want of memory
+-- what a call refuses, the definition refuses, unless it is out of memory
 abbrev pub Refuses : {A B : Type 0} → Result A Stop → Result B Stop → Type 0
 Refuses result meaning = IfErr result (λ e. e ≢ stop.NoMemory → meaning ≡ Err e)

@@ -15,7 +15,7 @@ abbrev pub unless_empty : List ℕ → Option (List ℕ)
 unless_empty [] = None
 unless_empty (b ∷ bs) = Some (b ∷ bs)
 
--- the number that digits write behind a number
+-- the number that digits write after a number
 abbrev pub value_from : ℕ → List ℕ → ℕ
 value_from n [] = n
 value_from n (digit ∷ digits) = value_from (10 * n + (digit - 48)) digits
@@ -28,7 +28,7 @@ number (c ∷ cs) =
     then Some (value_from 0 (c ∷ cs))
     else None
 
--- so many packages are made: 1 to 5,000
+-- so many packages can be made: 1 to 5,000
 abbrev pub is_makeable : ℕ → Bool
 is_makeable n = nat_le 1 n && nat_le n 5000
 
@@ -41,22 +41,22 @@ abbrev pub is_empty : {A : Type 0} → List A → Bool
 is_empty [] = true
 is_empty (x ∷ xs) = false
 
--- what stands behind a text's beginning
+-- what comes after a string's beginning
 abbrev pub after : List ℕ → List ℕ → Option (List ℕ)
 after [] text = Some text
 after (p ∷ ps) [] = None
 after (p ∷ ps) (b ∷ bs) = if b == p then after ps bs else None
 
--- a value without the `=` that may stand in front of it
+-- a value without the `=` that may come before it
 abbrev pub without_equals : List ℕ → List ℕ
 without_equals value = unwrap_or (after (codes "=") value) value
 
--- what stands before the first `=`
+-- what comes before the first `=`
 abbrev pub name_part : List ℕ → List ℕ
 name_part [] = []
 name_part (c ∷ cs) = if c == 61 then [] else c ∷ name_part cs
 
--- what stands behind the first `=`, if there is one
+-- what comes after the first `=`, if there is one
 abbrev pub joined_value : List ℕ → Option (List ℕ)
 joined_value [] = None
 joined_value (c ∷ cs) = if c == 61 then Some cs else joined_value cs

@@ -1,4 +1,4 @@
-//! A command while its words are read.
+//! A command while its arguments are read.
 ghost use Rattle.std.specs.Prelude.{◌≡◌, ◌≢◌, ◌<◌, length, drop, IfSome, IfErr, OnOk, Ok, Err, option_map};
 ghost use Rattle.audit_words.specs.Options.{by_letter, options};
 ghost use Rattle.audit_words.specs.Reading.{Refuses, alone, first_meaning, long_given, or_wrong, read_dashed, start};
@@ -12,10 +12,10 @@ use audit_settings::AuditCommand;
 use std::alloc::Global;
 use tame_names::{Items, NoMemory, Text};
 
-/// What ends the reading before the words do.
+/// What ends the reading before the words end.
 #[derive(Clone, Copy, Debug, PartialEq, Eq)]
 pub enum Stop {
-    /// The text for help is asked for.
+    /// The help text is asked for.
     Help,
     /// The version is asked for.
     Version,
@@ -23,7 +23,7 @@ pub enum Stop {
     Wrong,
     /// The option before has no value.
     Missing,
-    /// Memory ran out.
+    /// Out of memory.
     NoMemory,
 }
 
@@ -37,10 +37,10 @@ impl From<NoMemory> for Stop {
     }
 }
 
-/// What the words so far say.
+/// What the words that were read so far say.
 #[derive(Debug, Drop)]
 pub struct Draft {
-    /// The part of the words that is being read.
+    /// The part of the arguments that is being read.
     pub phase: Phase,
     /// The option that the next word is the value of, if there is one.
     pub awaited: Option<Meaning>,
@@ -69,7 +69,7 @@ fn is_option(word: &str) -> bool
     after(word, "-").is_some() && word != "-"
 }
 
-/// The meaning of the first letter, and what is left behind it.
+/// The meaning of the first letter, and what is left after it.
 fn first_letter(phase: Phase, letters: &str) -> (Option<Meaning>, &str)
     requires { 0 < length letters.now }
     ensures meaning { result.0 ≡ first_meaning phase letters.now }
@@ -127,6 +127,28 @@ impl Draft {
         Ok(())
     }
 
+    /// Whether no option of `audit` was given.
+    pub fn is_bare(&self) -> bool
+        ensures { result ≡ spec.is_bare self.now.audit }
+    {
+        let audit = &self.audit;
+        audit.color.is_none()
+            && audit.db.is_none()
+            && audit.deny.as_slice().is_empty()
+            && audit.file.is_none()
+            && audit.ignore.as_slice().is_empty()
+            && !audit.no_yanked
+            && !audit.no_fetch
+            && !audit.stale
+            && audit.target_arch.as_slice().is_empty()
+            && audit.target_os.as_slice().is_empty()
+            && audit.url.is_none()
+            && !audit.quiet
+            && audit.output_format.is_none()
+            && !audit.output_json
+            && !audit.verdicts
+    }
+
     /// Whether `--baseline` or `--write-baseline` was met.
     pub fn has_baseline(&self) -> bool
         ensures { result ≡ spec.has_baseline self.now }
@@ -134,7 +156,7 @@ impl Draft {
         self.baseline.is_some() || self.write_baseline.is_some()
     }
 
-    /// Whether an option was met that gives something in place of the report.
+    /// Whether an option was met that replaces the report.
     fn replaces_report(&self) -> bool
         ensures { result ≡ spec.replaces_report self.now }
     {
@@ -228,7 +250,7 @@ impl Draft {
         }
     }
 
-    /// The option, if there is one and it may be given behind what was met.
+    /// The option, if there is one and it may be given after what was met.
     fn allowed(&self, known: Option<Meaning>) -> Result<Meaning, Stop>
         ensures { result ≡ spec.allowed known self.now }
     {
@@ -270,7 +292,7 @@ impl Draft {
         }
     }
 
-    /// `--name` or `--name=value`, behind its dashes.
+    /// `--name` or `--name=value`, after its dashes.
     fn read_long(&mut self, alloc: Global, text: &str) -> Result<(), Stop>
         ensures ok { OnOk result (spec.read_long text.now self.old ≡ Ok self.new) }
         ensures refused { Refuses result (spec.read_long text.now self.old) }
@@ -283,7 +305,7 @@ impl Draft {
         }
     }
 
-    /// The letters behind a dash.
+    /// The letters after a dash.
     #[tactic(auto, using(crate::proofs::Letters::letters_step))]
     fn read_letters(&mut self, alloc: Global, letters: &str) -> Result<(), Stop>
         ensures ok { OnOk result (spec.read_letters letters.now self.old ≡ Ok self.new) }

@@ -1,4 +1,4 @@
-//! The command, where the words end.
+//! The command, when the words end.
 ghost use Rattle.std.specs.Prelude.{◌≡◌};
 ghost use Rattle.audit_words.specs.Reading as spec;
 
@@ -24,7 +24,7 @@ fn audit_command(
     }
 }
 
-/// `vendor` with its folders, where both are given.
+/// `vendor` with its folders, if both are given.
 fn vendor_command(
     audit: AuditCommand,
     crates: Option<Text>,
@@ -39,7 +39,7 @@ fn vendor_command(
 }
 
 impl Draft {
-    /// The command, where the words end.
+    /// The command, when the words end.
     pub fn finish(self) -> Result<Command, Stop>
         ensures { result ≡ spec.finish self }
     {

@@ -1,4 +1,4 @@
-//! What holds of the meaning of words.
+//! What holds of the meaning of the arguments.
 ghost use Rattle.std.specs.Prelude.{◌≡◌, ◌≢◌, ◌<◌, ◌≤◌, ◌+◌, ◌-◌, ◌*◌, ◌^◌, ℕ, codes, List, [], ◌∷◌, ◌++◌, true, false, Some, None, Ok, Err, length, take};
 ghost use Rattle.audit_advisory.specs.declared.outputs.TheConstants.{VERSION};
 ghost use Rattle.std.specs.Fmt.{decimal};
@@ -14,16 +14,16 @@ ghost use Rattle.audit_words.specs.declared.options.Meaning.{Meaning};
 ghost use Rattle.audit_words.specs.declared.options.Phase.TheVariants.{Audit};
 ghost use Rattle.audit_words.specs.declared.texts.TheConstants.{HELP_TEXT, VERSION_TEXT};
 
-/// The text of the version names the program and its version, and the help begins with that line.
+/// The version text names the program and its version, and the help begins with that line.
 pub fn texts_name_the_version()
     ensures version { VERSION.now ≡ codes "0.22.2" }
     ensures text { VERSION_TEXT.now ≡ codes "cargo-audit 0.22.2" }
     ensures help { take 19 HELP_TEXT.now ≡ codes "cargo-audit 0.22.2\n" }
 {}
 
-/// The reading of words ends at the first one that ends it, behind words that make a draft: its
-/// place is how many stand in front of it. Where no word ends it, the draft that all of them make
-/// is finished, at the place behind the last.
+/// The reading ends at the first word that ends it, after words that make a draft: its position is
+/// the number of words before it. If no word ends the reading, the draft that all of them make is
+/// finished, at the position after the last.
 pub fn reading_ends_at_its_word()
     ensures within { (front back : List (List ℕ)) (word : List ℕ) (d : Draft) (s : Stop)
         → drafted front start ≡ Ok d → read_word word d ≡ Err s
@@ -52,24 +52,24 @@ pub fn spellings_agree()
         → is_option v ≡ false → drafted ((codes "-" ++ x ∷ []) ∷ v ∷ []) d ≡ given m v d }
 {}
 
-/// Words that make the same draft may stand for each other in a list that is accepted.
+/// In a list that is accepted, words may be replaced by others that make the same draft.
 pub fn same_drafts_same_command()
     ensures { (front a b back : List (List ℕ)) (d : Draft) (c : Command)
         → drafted front start ≡ Ok d → drafted a d ≡ drafted b d
         → command_of (front ++ (a ++ back)) ≡ Ok c → command_of (front ++ (b ++ back)) ≡ Ok c }
 {}
 
-/// Two different options, each a flag or with its value, set the same in either order, and where
-/// one of them is refused, both orders are.
+/// Two different options, each a flag or with its value, set the same in either order; if one of
+/// them is refused, both orders are.
 pub fn either_order()
     ensures { (d : Draft) (m n : Meaning) (v w : List ℕ)
         → is_setting m ≡ true → is_setting n ≡ true → m ≢ n
         → and_then (set_by n w) (set_by m v d) ≡ and_then (set_by m v) (set_by n w d) }
 {}
 
-/// Behind an option that gives something in place of the report another one is refused, also the
-/// same once more; and behind an option of a baseline no word is a command. So a command with a
-/// baseline has no verdicts.
+/// After an option that replaces the report, another such option is refused, also the same once
+/// more; after an option of a baseline, no word is a command. So a command with a baseline has no
+/// verdicts.
 pub fn baselines_stand_alone()
     ensures options { (d : Draft) (m n : Meaning) (v w : List ℕ)
         → replaces m ≡ true → replaces n ≡ true
@@ -82,8 +82,8 @@ pub fn baselines_stand_alone()
         → command_of words ≡ Ok (WriteBaseline a path) → a.verdicts ≡ false }
 {}
 
-/// A list that is accepted and isn't quiet is accepted with `-q` put behind `audit` too, or at any
-/// later place before a command behind it where no value is awaited: the same command, made quiet.
+/// If a list is accepted and isn't quiet, it is also accepted with `-q` after `audit`, or later but
+/// before the command that follows, if no value is awaited there: the same command, made quiet.
 pub fn quiet_is_accepted()
     ensures behind_audit { (back : List (List ℕ)) (c : Command)
         → command_of (codes "audit" ∷ back) ≡ Ok c → was_quiet c ≡ Some false
@@ -94,8 +94,8 @@ pub fn quiet_is_accepted()
         → command_of (front ++ (codes "-q" ∷ back)) ≡ Ok (quieted c) }
 {}
 
-/// A number below 2^64 is read from its decimal digits; digits with one more behind them count
-/// ten times as much, and that digit more.
+/// A number below 2^64 is read from its decimal digits; with one more digit after them it is ten
+/// times as much, plus that digit.
 pub fn numbers_are_decimal()
     ensures read { (n : ℕ) → n < 2 ^ 64 → number (decimal n) ≡ Some n }
     ensures digits { (digits : List ℕ) (digit : ℕ)

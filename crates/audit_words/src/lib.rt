@@ -1,8 +1,8 @@
-//! The words of the command, read by a table of options.
+//! The arguments of the command, read by a table of options.
 //!
-//! Promises: words are the command that the table gives them, or the place of the first word that
-//! breaks a rule; the spellings of an option agree, and so do orders that don't matter.
-//! Stands on `tame_names`, and on the options that `audit_advisory` and `audit_settings` name.
+//! Promises: the arguments are the command that the table gives them, or the answer is the position
+//! of the first that breaks a rule; an option's spellings agree, as do orders that don't matter.
+//! Uses `tame_names`, and the options that `audit_advisory` and `audit_settings` name.
 //!
 //! ```text
 //! audit --deny yanked fix --dry-run   Command::Fix, with these options

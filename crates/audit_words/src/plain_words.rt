@@ -1,4 +1,4 @@
-//! A word that is no option: `audit`, a command behind it, or what that command is given.
+//! A word that is no option: `audit`, a command after it, or what that command is given.
 ghost use Rattle.std.specs.Prelude.{◌≡◌, ◌≢◌, IfErr, OnOk, Ok, Err};
 ghost use Rattle.audit_words.specs.Reading.{Refuses, begun, with_folder, with_path};
 ghost use Rattle.audit_words.specs.Reading as spec;
@@ -6,30 +6,8 @@ ghost use Rattle.audit_words.specs.Reading as spec;
 use crate::drafts::{Draft, Stop};
 use crate::options::Phase;
 use crate::values::{packages_of, unless_empty};
-use audit_settings::AuditCommand;
 use std::alloc::Global;
 use tame_names::{Text, plain_path};
-
-/// Whether no option of `audit` was given.
-fn is_bare(audit: &AuditCommand) -> bool
-    ensures { result ≡ spec.is_bare audit.now }
-{
-    audit.color.is_none()
-        && audit.db.is_none()
-        && audit.deny.as_slice().is_empty()
-        && audit.file.is_none()
-        && audit.ignore.as_slice().is_empty()
-        && !audit.no_yanked
-        && !audit.no_fetch
-        && !audit.stale
-        && audit.target_arch.as_slice().is_empty()
-        && audit.target_os.as_slice().is_empty()
-        && audit.url.is_none()
-        && !audit.quiet
-        && audit.output_format.is_none()
-        && !audit.output_json
-        && !audit.verdicts
-}
 
 impl Draft {
     /// The command that follows `audit` and its options; none follows an option of a baseline.
@@ -46,7 +24,7 @@ impl Draft {
             "plan" => self.phase = Phase::Plan,
             "vendor" => self.phase = Phase::Vendor,
             "generate" => {
-                if !is_bare(&self.audit) {
+                if !self.is_bare() {
                     return Err(Stop::Wrong);
                 }
                 self.phase = Phase::Generate;
@@ -64,7 +42,7 @@ impl Draft {
         Ok(())
     }
 
-    /// The next folder of `vendor`, without slashes at its end; that of the registry has a name.
+    /// The next folder of `vendor`, without slashes at its end; that of the registry isn't empty.
     fn add_folder(&mut self, alloc: Global, word: &str) -> Result<(), Stop>
         ensures ok { OnOk result (with_folder self.old.vendor_crates self.old.vendor_to
             word.now self.old ≡ Ok self.new) }

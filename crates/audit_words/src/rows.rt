@@ -41,7 +41,7 @@ pub fn accepted()
     ensures above { number (codes "18446744073709551616") ≡ None }
 {}
 
-/// Lists of words that are refused, with the place.
+/// Lists of words that are refused, with the position.
 pub fn refused()
     ensures nothing { command_of [] ≡ Err (Usage 0) }
     ensures fault_comes_first { command_of (codes "audit" ∷ codes "x" ∷ codes "-h" ∷ [])

@@ -1,4 +1,4 @@
-//! The texts that answer `--help` and `--version`.
+//! What `--help` and `--version` print.
 
 /// What `--version` prints, without a newline.
 pub const VERSION_TEXT: &str = "cargo-audit 0.22.2";
@@ -7,19 +7,19 @@ pub const VERSION_TEXT: &str = "cargo-audit 0.22.2";
 pub const HELP_TEXT: &str = "\
 cargo-audit 0.22.2
 
-Looks up the packages of a lockfile among the security advisories, and asks the
-index whether their versions are yanked.
+Checks each package of a lockfile against the security advisories, and asks the
+index whether its version is yanked.
 
 Usage:
   cargo audit [OPTION]..
       a lockfile
   cargo audit [OPTION].. fix [FIX OPTION]..
-      and update what is vulnerable
+      a lockfile, and print the updates that are needed; none is started
   cargo audit [OPTION].. bin [BIN OPTION].. PATH..
       files that hold a lockfile between the lines `#cargo-lock begin` and
       `#cargo-lock end`
   cargo audit [OPTION].. plan
-      the version that each vulnerable package may go to
+      the lowest safe version of each vulnerable package
   cargo audit [OPTION].. vendor CRATES TO
       a local registry of the lockfile's packages, made in the folder TO from
       the crate files in the folder CRATES
@@ -27,7 +27,7 @@ Usage:
       N made packages, 1 to 5000, audited twice in memory, without files or an
       index
 
-Before audit may stand:
+Options before audit:
   -v, --verbose            read, but not used
   -h, --help; -V, --version
 
@@ -67,9 +67,8 @@ lists):
   -V, --version            print the version
 
 Fix options:
-  -f, --file PATH          the lockfile (default: that of the options in front)
-      --dry-run            pass --dry-run on to cargo
-                           (default: change the lockfile)
+  -f, --file PATH          the lockfile (default: that of -f before fix)
+      --dry-run            the updates would be started with --dry-run
   -h, --help               print this text
 
 Bin options:
@@ -89,20 +88,19 @@ last two.
 Exit status:
   0   nothing was found that makes the audit fail
   1   a vulnerability, or a warning that is denied
-  2   a fault: a bad word, bad settings, a file that can't be read or is
-      refused; under bin, where nothing makes an audit fail, also an advisory on
-      cargo-audit itself with -D warnings
+  2   a fault: a wrong argument, wrong settings, a file that can't be read or is
+      refused; under bin, if nothing else makes an audit fail, also an advisory
+      on cargo-audit itself with -D warnings
   3   out of memory
-  Under fix: 2 also where cargo couldn't be started, 1 in a dry run where
-  something has no patched version, and otherwise 0. This program starts no
-  cargo, so fix ends with 2 where there is something to update.
-  Under plan: 1 where a vulnerable package has no safe version or no record,
+  Under fix: 2 also if an update couldn't be started, 1 in a dry run if there is
+  no patched version of something, and otherwise 0. This program starts no
+  cargo, so fix ends with 2 if there is something to update.
+  Under plan: 1 if a vulnerable package has no safe version or no record,
   otherwise 0.
-  With --baseline: 2 also where the baseline is refused, 1 where a finding isn't
-  in it, whatever is denied, and otherwise 0.
-  With --write-baseline: 2 also where the file can't be made, and otherwise 0.
-  Under vendor: 2 also where a package or the folder TO is refused, and
-  otherwise 0.
+  With --baseline: 2 also if the baseline is refused, 1 if a finding isn't in
+  it, whatever is denied, and otherwise 0.
+  With --write-baseline: 2 also if the file can't be made, and otherwise 0.
+  Under vendor: 2 also if a package or the folder TO is refused, otherwise 0.
 
 Environment:
   CARGO_HOME            cargo's home (default: .cargo in HOME)

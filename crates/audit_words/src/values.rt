@@ -6,7 +6,7 @@ ghost use Rattle.audit_words.specs.Values as spec;
 
 use audit_settings::Color;
 
-/// The word that says when output is coloured.
+/// The value that says when output is coloured.
 pub fn color_of(value: &str) -> Option<Color>
     ensures { result ≡ spec.color_of value.now }
 {
@@ -18,14 +18,14 @@ pub fn color_of(value: &str) -> Option<Color>
     }
 }
 
-/// A text that has a byte at least.
+/// The text, if it has at least one byte.
 pub fn unless_empty(value: &str) -> Option<&str>
     ensures { option_map (λ text. text.now) result ≡ spec.unless_empty value.now }
 {
     if value.is_empty() { None } else { Some(value) }
 }
 
-/// Whether there are digits alone.
+/// Whether there are only digits.
 fn is_digits(bytes: &[u8]) -> bool
     ensures { result ≡ all_ascii_digits bytes.now }
 {
@@ -37,7 +37,7 @@ fn is_digits(bytes: &[u8]) -> bool
     true
 }
 
-/// The number that digits alone write, where it is at most 2^64 - 1.
+/// The number that digits write, if there is nothing else and it is at most 2^64 - 1.
 pub fn number(value: &str) -> Option<u64>
     ensures { result ≡ spec.number value.now }
 {
@@ -50,7 +50,7 @@ pub fn number(value: &str) -> Option<u64>
     }
 }
 
-/// Whether so many packages are made: 1 to 5,000.
+/// Whether so many packages can be made: 1 to 5,000.
 pub fn is_makeable(count: u64) -> bool
     ensures { result ≡ spec.is_makeable count }
 {
@@ -73,14 +73,14 @@ pub fn packages_of(word: &str) -> Option<u64>
     }
 }
 
-/// What stands behind a text's beginning.
+/// What comes after a string's beginning.
 pub fn after<'t>(text: &'t str, beginning: &str) -> Option<&'t str>
     ensures { option_map (λ t. t.now) result ≡ spec.after beginning.now text.now }
 {
     text.strip_prefix(beginning)
 }
 
-/// A value without the `=` that may stand in front of it.
+/// A value without the `=` that may come before it.
 pub fn without_equals(value: &str) -> &str
     ensures { result.now ≡ spec.without_equals value.now }
 {
@@ -90,7 +90,7 @@ pub fn without_equals(value: &str) -> &str
     }
 }
 
-/// The name before the first `=`, and the value behind it, if there is one.
+/// The name before the first `=`, and the value after it, if there is one.
 pub fn cut_equals(text: &str) -> (&str, Option<&str>)
     ensures name { result.0.now ≡ name_part text.now }
     ensures value { option_map (λ v. v.now) result.1 ≡ joined_value text.now }

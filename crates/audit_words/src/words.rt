@@ -1,4 +1,4 @@
-//! The words of the command.
+//! The arguments of the command.
 ghost use Rattle.std.specs.Prelude.{◌≡◌, ◌≢◌, map, string_bytes, IfOk, IfErr, Ok, Err};
 ghost use Rattle.audit_words.specs.Reading.{command_of};
 ghost use Rattle.audit_words.specs.Reading as spec;
@@ -7,7 +7,7 @@ use crate::commands::{Command, WordsFault};
 use crate::drafts::{Draft, Stop};
 use std::alloc::Global;
 
-/// The reading is ended at a place.
+/// The reading is ended at a position.
 fn ended(place: usize, stop: Stop) -> Result<Command, WordsFault>
     ensures { result ≡ spec.ended place stop }
 {
@@ -22,9 +22,9 @@ fn ended(place: usize, stop: Stop) -> Result<Command, WordsFault>
     }
 }
 
-/// The command that words are, which come without the program's name. `Usage` where they break a
-/// rule: its place, from 0, is that of the first word that does, of a missing value that of its
-/// option, and the number of words where `audit` or a path is missing at the end.
+/// The command that the words mean; the program's name isn't among them. `Usage` if they break a
+/// rule: its place, from 0, is that of the first word that does; for a missing value, that of its
+/// option; and the number of words if `audit` or a path is missing at the end.
 pub fn read_words(alloc: Global, words: &[String]) -> Result<Command, WordsFault>
     ensures ok { IfOk result (λ c. command_of (map string_bytes words.now) ≡ Ok c) }
     ensures refused { IfErr result (λ e. e ≢ WordsFault.NoMemory

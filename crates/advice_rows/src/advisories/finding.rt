@@ -37,7 +37,7 @@ fn hit_lines(
     Ok(without_newline(out))
 }
 
-/// The same of the packages of the lockfile of a text.
+/// The same of the packages of the lockfile in a string.
 fn hits_in(
     alloc: Global,
     settings: &Settings,

@@ -33,7 +33,7 @@ pub fn symbols(alloc: Global, word: &str) -> Result<SymbolSet, RowFault> {
     }
 }
 
-/// Appends a path behind a blank.
+/// Appends a path after a blank.
 fn push_path(out: &mut String, path: &FunctionPath) -> Result<(), AllocError> {
     let mut mark = " ";
     for segment in path.as_slice() {

@@ -1,20 +1,20 @@
 //! Rows of printed reports. A step that prints is answered by what was answered and by what two
-//! outputs gained. Beside the steps of `Stage`:
+//! outputs gained. As well as the steps of `Stage`:
 //!
 //! - `empty`: the report without anything; `hit ADVISORY PACKAGE` and `warn KIND PACKAGE ADVISORY`
-//!   add a vulnerability and a warning by places;
+//!   add a vulnerability and a warning by index;
 //! - `presenter FORMAT TREES STATUS DENY`: a new presenter; TREES is `tree` or `bare`, STATUS
 //!   `loud` or `quiet`;
-//! - `print PATH OUT ERR`: prints the report; the puts on out and on err with these numbers fail;
+//! - `print PATH OUT ERR`: prints the report; these writes to `out` and to `err`, by number, fail;
 //! - `log PATH OUT`: makes the SARIF log of the report at a path and writes it;
-//! - `self PLACES OUT ERR`: prints the advisories at these places as those on the auditor itself;
+//! - `self PLACES OUT ERR`: prints the advisories at these indices as those on the auditor itself;
 //! - `scanning PATH ERR`: the status line of the lockfile;
-//! - `binary FOUND N PATH ERR`: the status line of a binary that tells of N packages; FOUND is
+//! - `binary FOUND N PATH ERR`: the status line of a binary that reports N packages; FOUND is
 //!   `complete`, `incomplete` or `nothing`;
 //! - `symbols SYMBOLS`: sets these symbols, each with `::` between its segments;
 //! - `filter SYMBOLS PATH..`: which of the paths these symbols keep; `.` is the path without
 //!   segments;
-//! - `exits PLACES`: whether the report and the advisories at these places make an audit fail;
+//! - `exits PLACES`: whether the report and the advisories at these indices make an audit fail;
 //! - `loaded N PATH`, `updating`, `unchecked NAME VERSION CAUSE`: these status lines.
 mod filtering;
 mod printing;
@@ -24,7 +24,7 @@ use crate::stage::Stage;
 use row_fixtures::{Row, RowFault};
 use std::alloc::Global;
 
-/// The answer of a row, which is nothing where the step prints nothing.
+/// The answer of a row, which is nothing if the step prints nothing.
 pub fn answer(alloc: Global, stage: &mut Stage, row: Row<'_>) -> Result<String, RowFault> {
     let mut words = row;
     match words.word() {

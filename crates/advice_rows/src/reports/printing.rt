@@ -36,7 +36,7 @@ fn gained(
     Ok(text)
 }
 
-/// An output whose puts with these numbers fail.
+/// An output whose writes with these numbers fail.
 fn sink_of(alloc: Global, failing: Vec<u64>) -> MemSink {
     MemSink::new(alloc, Items::of(failing))
 }
@@ -61,7 +61,7 @@ pub fn print(alloc: Global, stage: &mut Stage, mut row: Row<'_>) -> Result<Strin
     gained(alloc, answer, &out, &err)
 }
 
-/// The log of a report, put into an output.
+/// The log of a report, written to an output.
 fn put_log(alloc: Global, laid: &Laid, path: &str, out: &mut MemSink) -> Result<(), PrintError> {
     let log = SarifLog::from_report(alloc, &laid.report, &laid.database, &laid.lockfile, path)?;
     log.write(alloc, out)

@@ -1,12 +1,13 @@
-//! Rows of words and of settings. `TEXT` is a text of settings in one line, `WORD ..` the words of
+//! Rows of arguments and of settings. `TEXT` is settings in one line, `WORD ..` the arguments of
 //! a command:
 //!
-//! - `words WORD ..`: the command, or the place of the first word that breaks a rule;
-//! - `lock WORD ..`: the lockfile that is named behind `fix`;
-//! - `options`: the options of `audit` where none is given;
+//! - `words WORD ..`: the command with the options that were given, or the position of the first
+//!   word that breaks a rule;
+//! - `lock WORD ..`: the lockfile that is named after `fix`;
+//! - `options`: the options of `audit` if none is given;
 //! - `version`: the version, and what `--version` prints; `help`: what `--help` prints;
 //! - `settings TEXT`: the settings, or why there are none;
-//! - `defaults`: the settings where nothing is stated;
+//! - `defaults`: the settings if nothing is stated;
 //! - `report TEXT`: what the settings ask of advisories;
 //! - `targets TEXT`: the architectures and the systems that count;
 //! - `under TEXT WORD ..`: the settings under the options of a command.

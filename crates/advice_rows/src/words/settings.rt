@@ -6,7 +6,7 @@ use audit_words::{Command, read_words};
 use row_fixtures::{Row, RowFault};
 use std::alloc::{AllocError, Global};
 
-/// What a text is read as.
+/// What a string is read as.
 fn read_line(alloc: Global, text: &str) -> Result<String, AllocError> {
     let read = AuditConfig::from_toml(alloc, text);
     format!(in alloc; "{read:?}")
@@ -23,7 +23,7 @@ fn config_line(alloc: Global, config: &AuditConfig) -> Result<String, RowFault> 
     Ok(format!(in alloc; "{config:?}")?)
 }
 
-/// `defaults`: the settings where nothing is stated.
+/// `defaults`: the settings if nothing is stated.
 pub fn defaults(alloc: Global) -> Result<String, RowFault> {
     match AuditConfig::new(alloc) {
         Ok(config) => config_line(alloc, &config),
@@ -31,7 +31,7 @@ pub fn defaults(alloc: Global) -> Result<String, RowFault> {
     }
 }
 
-/// The settings of a text that is one.
+/// The settings in a string that has some.
 fn config_of(alloc: Global, text: &str) -> Result<AuditConfig, RowFault> {
     match AuditConfig::from_toml(alloc, text) {
         Ok(config) => Ok(config),
@@ -88,7 +88,7 @@ fn overridden(
     }
 }
 
-/// The settings of a text under a command.
+/// The settings in a string under a command.
 fn text_under(alloc: Global, command: &AuditCommand, text: &str) -> Result<String, RowFault> {
     match config_of(alloc, text) {
         Ok(config) => overridden(alloc, command, config),

@@ -1,5 +1,5 @@
 //! Rows of audits of binaries. Each line of the input is a step; an audit is answered by its
-//! answers and by what was asked. Words are those of `row_fixtures`; `-` stands for nothing, and
+//! answers and by what was asked. Words are those of `row_fixtures`; `-` means nothing, and
 //! commas part lists:
 //!
 //! - `clear`: nothing is there, and the cache is empty;
@@ -21,7 +21,7 @@ use row_fixtures::{Row, RowFault};
 pub use stage::Stage;
 use std::alloc::Global;
 
-/// The answer of a row, which is nothing where the step isn't an audit.
+/// The answer of a row, which is nothing if the step isn't an audit.
 pub fn answer(alloc: Global, stage: &mut Stage, row: Row<'_>) -> Result<String, RowFault> {
     let mut words = row;
     match words.word() {

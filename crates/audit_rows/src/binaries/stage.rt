@@ -8,7 +8,7 @@ use tame_cache::MemCacheDisk;
 use tame_names::{Items, Text};
 use tame_sparse::Scripted;
 
-/// What stands, what is answered and what is asked for.
+/// What is there, what is answered and what is asked for.
 #[derive(Drop)]
 pub struct Stage {
     pub laid: Vec<Laid>,

@@ -1,4 +1,4 @@
-//! Plans, their starts and what is told of them.
+//! Plans, their starts and what is reported of them.
 use crate::fixes::stage::{Laid, Stage};
 use audit_asked::{MemRunner, NoRunner, Runner, Started};
 use audit_fix::{FixPlan, FixStep, failed_starts, fix_lines, fix_status, start_steps};
@@ -11,7 +11,7 @@ fn is_dry(row: &mut Row<'_>) -> Result<bool, RowFault> {
     row.is("dry", "real")
 }
 
-/// Appends words with a blank in front of each.
+/// Appends words with a blank before each.
 fn push_words(out: &mut String, words: &[Text]) -> Result<(), AllocError> {
     for word in words {
         write!(out, " {word}")?;
@@ -64,7 +64,7 @@ fn statuses_of(alloc: Global, row: &mut Row<'_>) -> Result<Items<Option<i32>>, R
     Ok(statuses)
 }
 
-/// What `fix` does and tells, without the starts that are told.
+/// What `fix` does and reports, without the starts that are reported.
 fn fixed<R: Runner>(
     alloc: Global,
     laid: &Laid,

@@ -1,10 +1,10 @@
-//! Rows of plans. Each line of the input is a step; a step that tells something is answered by it.
+//! Rows of plans. Each line of the input is a step; its answer is what it reports, if anything.
 //! `LINE` is the rest of a line, in which `\n`, `\t`, `\\` and `\xHH` are escapes:
 //!
 //! - `clear`: no advisory and no lockfile;
 //! - `advisory`: an advisory begins, `lock`: the lockfile begins, `| LINE`: the next line of it;
 //! - `audit`: the audit of the lockfile by the advisories; nothing is checked for yanked versions;
-//! - `empty`: the audit without vulnerabilities; `hit ADVISORY PACKAGE` adds one by its places;
+//! - `empty`: the audit without vulnerabilities; `hit ADVISORY PACKAGE` adds one by its indices;
 //! - `plan RUN`: the plan of the audit; RUN is `dry` or `real`;
 //! - `fix RUN STATUSES`: the plan, its steps started by a runner in memory whose starts end with
 //!   these statuses, the lines and the status; `-` parts the statuses that a start fails at, commas
@@ -19,7 +19,7 @@ use row_fixtures::{Row, RowFault};
 pub use stage::Stage;
 use std::alloc::Global;
 
-/// The answer of a row, which is nothing where the step tells nothing.
+/// The answer of a row, which is nothing if the step reports nothing.
 pub fn answer(alloc: Global, stage: &mut Stage, row: Row<'_>) -> Result<String, RowFault> {
     let mut words = row;
     match words.word() {

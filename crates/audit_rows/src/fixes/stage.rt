@@ -14,7 +14,7 @@ pub struct Laid {
     pub audited: Audited,
 }
 
-/// The texts that were laid, and the audit that was made.
+/// The text of the rows so far, and the audit that was made.
 #[derive(Drop)]
 pub struct Stage {
     pub texts: LaidTexts,
@@ -54,7 +54,7 @@ fn laid_with(alloc: Global, database: Database, lockfile: Lockfile) -> Result<La
     }
 }
 
-/// The audit of the lockfile that was laid, with its advisories.
+/// The audit of the lockfile of the rows, with their advisories.
 fn laid_of(alloc: Global, texts: &LaidTexts) -> Result<Laid, RowFault> {
     let lockfile = texts.lockfile(alloc)?;
     match texts.database(alloc) {
@@ -86,7 +86,7 @@ impl Stage {
         Ok(String::new(alloc))
     }
 
-    /// What was laid, if it was.
+    /// What was made, if it was.
     pub fn laid(&self) -> Result<&Laid, RowFault> {
         match &self.laid {
             Some(laid) => Ok(laid),

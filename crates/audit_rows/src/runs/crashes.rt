@@ -18,7 +18,7 @@ pub fn serve(alloc: Global, stage: &mut Stage, status: u16, yanked: bool) -> Res
     Ok(stage.script.add(answer)?)
 }
 
-/// What an audit prints and names where the server answers so.
+/// What an audit prints and names if the server answers so.
 fn audit_line(
     alloc: Global,
     stage: &mut Stage,
@@ -37,7 +37,7 @@ fn status_for(named: &Option<OwnedRevision>) -> u16 {
     }
 }
 
-/// The last audit, where the server answers 304 if its tag is named.
+/// The last audit; the server answers 304 if its tag is named.
 fn last_line(alloc: Global, stage: &mut Stage) -> Result<String, RowFault> {
     let next = named_next(alloc, &stage.index, &mut stage.disk)?;
     audit_line(alloc, stage, status_for(&next), false)

@@ -34,7 +34,7 @@ fn first_byte(alloc: Global, disk: &mut MemCacheDisk) -> Result<String, AllocErr
     }
 }
 
-/// The file of the crate `a`; nothing where there is none.
+/// The file of the crate `a`; nothing if there is none.
 fn whole_file(alloc: Global, disk: &mut MemCacheDisk) -> Result<String, RowFault> {
     match read(alloc, disk)? {
         Some(bytes) => kind_of(alloc, bytes.as_slice()),
@@ -42,7 +42,7 @@ fn whole_file(alloc: Global, disk: &mut MemCacheDisk) -> Result<String, RowFault
     }
 }
 
-/// The file of the crate `a`, of which another one than an entry of a line is told by its length.
+/// The file of the crate `a`; if it isn't an entry of a line, its length.
 pub fn left_file(alloc: Global, disk: &mut MemCacheDisk) -> Result<String, RowFault> {
     let Some(bytes) = read(alloc, disk)? else {
         return Ok(String::from_str(alloc, "no file")?);

@@ -85,7 +85,7 @@ fn taken(alloc: Global, numbers: &mut Vec<u64>) -> Items<u64> {
     Items::of(mem::replace(numbers, Vec::new(alloc)))
 }
 
-/// What a run is made over, of the stage: its answers, the ends of starts and the numbers of calls
+/// What a run works on, of the stage: its answers, the ends of starts and the numbers of calls
 /// that fail are used up.
 fn outside_of(alloc: Global, stage: &mut Stage) -> Result<Outside, RowFault> {
     let calls = mem::replace(&mut stage.calls, Vec::new(alloc));
@@ -102,7 +102,7 @@ fn outside_of(alloc: Global, stage: &mut Stage) -> Result<Outside, RowFault> {
     })
 }
 
-/// The command over the stage, and what is told of it. The run's value lives here alone.
+/// The command over the stage, and what is reported of it. The run's value lives here alone.
 pub fn told_of(
     alloc: Global,
     stage: &mut Stage,
@@ -117,7 +117,7 @@ pub fn told_of(
     told
 }
 
-/// The words that are divided by blanks.
+/// The words between blanks.
 pub fn words_of(alloc: Global, text: &str) -> Result<Vec<String>, RowFault> {
     let mut words = Vec::new(alloc);
     for word in text.split(' ') {
@@ -128,14 +128,14 @@ pub fn words_of(alloc: Global, text: &str) -> Result<Vec<String>, RowFault> {
     Ok(words)
 }
 
-/// `words WORD ..`: a run of these words.
+/// `words WORD ..`: a run with these arguments.
 pub fn run_words(alloc: Global, stage: &mut Stage, words: Row<'_>) -> Result<String, RowFault> {
     let words = words_of(alloc, words.rest())?;
     told_of(alloc, stage, words.as_slice(), Telling::Whole)
 }
 
-/// A run of these words, in which the n-th call on the host's files fails: the call and the run's
-/// fault, or that no such call was made.
+/// A run with these arguments, in which the n-th call on the host's files fails: the call and the
+/// run's fault, or that no such call was made.
 fn failing_line(
     alloc: Global,
     stage: &mut Stage,
@@ -148,8 +148,8 @@ fn failing_line(
     told_of(alloc, stage, words, Telling::Failing(n))
 }
 
-/// `failing WORD ..`: runs of these words, of which each call on the host's files fails in turn,
-/// until a run makes no such call.
+/// `failing WORD ..`: runs with these arguments, of which each call on the host's files fails in
+/// turn, until a run makes no such call.
 pub fn run_failing(alloc: Global, stage: &mut Stage, words: Row<'_>) -> Result<String, RowFault> {
     let words = words_of(alloc, words.rest())?;
     let mut out = String::new(alloc);
@@ -174,7 +174,7 @@ pub fn run_audit(alloc: Global, stage: &mut Stage) -> Result<String, RowFault> {
     audited(alloc, stage, Telling::Whole)
 }
 
-/// `audit STATUS REVISION BODY`: an audit of version 0.1.0 of the crate `a` without a cache, where
+/// `audit STATUS REVISION BODY`: an audit of version 0.1.0 of the crate `a` without a cache, if the
 /// the server answers so; what is printed, and how many exchanges there were.
 pub fn audit(alloc: Global, stage: &mut Stage, words: Row<'_>) -> Result<String, RowFault> {
     stage.lock_one(alloc)?;

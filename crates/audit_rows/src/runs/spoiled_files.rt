@@ -8,7 +8,7 @@ use crate::runs::telling::Telling;
 use row_fixtures::{INDEX_URL, Row, RowFault, disk_with, flagged_entry};
 use std::alloc::{AllocError, Global};
 
-/// Equal texts of numbers that follow one another, as `FIRST-LAST TEXT`.
+/// Ranges of numbers with equal text, as `FIRST-LAST TEXT`.
 #[derive(Drop)]
 struct Ranges {
     out: String,
@@ -27,7 +27,7 @@ impl Ranges {
         }
     }
 
-    /// Writes the range that ends in front of the next number, if there is one.
+    /// Writes the range that ends before the next number, if there is one.
     fn close(&mut self) -> Result<(), AllocError> {
         if self.first == self.next {
             return Ok(());
@@ -55,7 +55,7 @@ impl Ranges {
     }
 }
 
-/// An audit over these bytes as the file of the crate `a`, where the server holds the yanked line
+/// An audit over these bytes as the file of the crate `a`, when the server holds the yanked line
 /// under `x` and answers with this status, and the disk stops at a call, if it does: what is named
 /// and printed.
 fn line_over(
@@ -73,7 +73,7 @@ fn line_over(
     audited(alloc, stage, Telling::Named(status))
 }
 
-/// The same where the body is sent, with the file that a read gives afterwards.
+/// The same if the body is sent, with the file that a read gives afterwards.
 fn run_over(
     alloc: Global,
     stage: &mut Stage,

@@ -15,29 +15,29 @@ use tame_sparse::{Scripted, SparseIndex};
 pub struct Stage {
     /// The sparse index of crates.io.
     pub index: SparseIndex,
-    /// What stands; of paths that are equal the first counts.
+    /// What is there; of paths that are equal the first counts.
     pub laid: Vec<Laid>,
     /// The standard input.
     pub input: Vec<u8>,
     /// The variables of the environment.
     pub variables: Vec<(String, String)>,
-    /// What the starts of the next run end with; nothing where one fails.
+    /// What the starts of the next run end with; nothing for one that fails.
     pub statuses: Items<Option<i32>>,
     /// The server's answers to the next run.
     pub script: Items<Scripted>,
-    /// The calls on the host's files, the decodings, and the puts on out and on err of the next run
-    /// that fail, counted from 1.
+    /// The calls on the host's files, the decodings, and the writes to `out` and `err` of the next
+    /// run that fail, counted from 1.
     pub calls: Vec<u64>,
     pub decodes: Vec<u64>,
     pub puts: Vec<u64>,
     pub errors: Vec<u64>,
     /// The disk of the cache.
     pub disk: MemCacheDisk,
-    /// The host's files as the last run of words left them.
+    /// The host's files as the last run left them.
     pub files: Option<MemFiles>,
 }
 
-/// What a start ends with, as a word; nothing of `-`, where it fails.
+/// What a start ends with, as a word; nothing for `-`, a start that fails.
 fn end_of(word: &str) -> Result<Option<i32>, RowFault> {
     match word {
         "-" => Ok(None),
@@ -123,7 +123,7 @@ impl Stage {
         done(alloc)
     }
 
-    /// This alone stands.
+    /// The host has this alone.
     fn lay(&mut self, alloc: Global, path: &str, node: LaidNode) -> Result<(), RowFault> {
         self.laid = Vec::new(alloc);
         let path = String::from_str(alloc, path)?;
@@ -138,7 +138,7 @@ impl Stage {
         done(alloc)
     }
 
-    /// `stand PATH BYTES`: the file that stands, and nothing else.
+    /// `stand PATH BYTES`: the file that is there, and nothing else.
     pub fn lay_file(&mut self, alloc: Global, mut words: Row<'_>) -> Result<String, RowFault> {
         let path = words.text(alloc)?;
         let bytes = words.bytes(alloc)?;
@@ -146,7 +146,7 @@ impl Stage {
         done(alloc)
     }
 
-    /// `also PATH BYTES`: a file that stands too.
+    /// `also PATH BYTES`: a file that is there too.
     pub fn lay_more(&mut self, alloc: Global, mut words: Row<'_>) -> Result<String, RowFault> {
         let path = words.text(alloc)?;
         let node = LaidNode::File(words.bytes(alloc)?);
@@ -154,7 +154,7 @@ impl Stage {
         done(alloc)
     }
 
-    /// `binary PATH NAME@VERSION ..`: a file that stands too, with a lockfile of packages of
+    /// `binary PATH NAME@VERSION ..`: a file that is there too, with a lockfile of packages of
     /// the default registry between its two lines.
     pub fn lay_binary(&mut self, alloc: Global, mut words: Row<'_>) -> Result<String, RowFault> {
         let path = words.text(alloc)?;
@@ -177,7 +177,7 @@ impl Stage {
         done(alloc)
     }
 
-    /// `| LINE`: adds a line to the last file that stands.
+    /// `| LINE`: adds a line to the last file that is there.
     pub fn add_line(&mut self, alloc: Global, words: Row<'_>) -> Result<String, RowFault> {
         let line = plain_bytes(alloc, words.rest())?;
         if let Some(
@@ -199,7 +199,7 @@ impl Stage {
         done(alloc)
     }
 
-    /// `left PATH`: what the last run of words left at a path of the host.
+    /// `left PATH`: what the last run left at a path of the host.
     pub fn left_at(&mut self, alloc: Global, mut words: Row<'_>) -> Result<String, RowFault> {
         let Some(files) = &mut self.files else {
             return Err(RowFault::Unread);
@@ -221,7 +221,7 @@ impl Stage {
     }
 
     /// `statuses STATUS,..`: what the starts of the next run end with; one of `-` fails, and
-    /// so does each behind the last.
+    /// so does each after the last.
     pub fn end_with(&mut self, alloc: Global, mut words: Row<'_>) -> Result<String, RowFault> {
         let mut statuses = Items::new(alloc);
         for word in words.word().split(',') {
@@ -250,13 +250,13 @@ impl Stage {
         done(alloc)
     }
 
-    /// `errors NUMBERS`: the puts on err of the next run that fail.
+    /// `errors NUMBERS`: the writes to `err` of the next run that fail.
     pub fn fail_errors(&mut self, alloc: Global, mut words: Row<'_>) -> Result<String, RowFault> {
         self.errors = words.numbers(alloc)?;
         done(alloc)
     }
 
-    /// `puts NUMBERS`: the puts of the output of the next run that fail.
+    /// `puts NUMBERS`: the writes to `out` of the next run that fail.
     pub fn fail_puts(&mut self, alloc: Global, mut words: Row<'_>) -> Result<String, RowFault> {
         self.puts = words.numbers(alloc)?;
         done(alloc)

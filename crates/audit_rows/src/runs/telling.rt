@@ -74,7 +74,7 @@ fn push_words(out: &mut String, words: &[Text]) -> Result<(), AllocError> {
     Ok(())
 }
 
-/// Adds the words of a start, and the status that it ended with.
+/// Adds the arguments of a start, and the status that it ended with.
 fn push_start(out: &mut String, started: &Started) -> Result<(), AllocError> {
     out.push_str(" (")?;
     push_words(out, started.words.as_slice())?;
@@ -200,7 +200,7 @@ fn failed_line(alloc: Global, ran: &Ran, n: u64) -> Result<String, RowFault> {
     }
 }
 
-/// What is told of a run.
+/// What is reported of a run.
 #[derive(Clone, Copy)]
 pub enum Telling {
     /// All of it.

@@ -16,7 +16,7 @@ use Rattle.audit_program.proofs.Readings.{nothing_done}
 use Rattle.audit_program.proofs.Reported.{all_reported}
 use Rattle.audit_program.proofs.binary_runs.run_asked.Goals as goal
 
--- ---- where memory ran out
+-- ---- if out of memory
 
 pub returns-in_default : goal.returns-in_default
 returns-in_default g c starts start_faults = record {
@@ -64,7 +64,7 @@ print_binaries-requires g c = record {
   reports = rw c.as_slice-2.ensures (all_reported _ _ _ _ _ _ c.in-Ok-audit_binaries.ensures.answered);
 }
 
--- ---- where they were answered
+-- ---- if they were answered
 
 pub returns-in-Ok-print_binaries : goal.returns-in-Ok-print_binaries
 returns-in-Ok-print_binaries g c starts start_faults =
@@ -105,7 +105,7 @@ returns-in-Ok-print_binaries g c starts start_faults =
       };
     }
 
--- ---- where a put failed
+-- ---- if printing failed
 
 pub returns : goal.returns
 returns g c starts start_faults =

@@ -14,7 +14,7 @@ use Rattle.audit_program.proofs.Outsides.{binaries_run, task_run}
 use Rattle.audit_remedies.proofs.Putting.{put_nothing}
 use Rattle.audit_program.proofs.running.run.Goals as goal
 
--- the words ask for an audit of a lockfile, or for audits of binaries
+-- the arguments ask for an audit of a lockfile, or for audits of binaries
 
 pub returns-in-Ok-Lockfile : goal.returns-in-Ok-Lockfile
 returns-in-Ok-Lockfile g c =
@@ -27,7 +27,7 @@ returns-in-Ok-Binaries g c =
     rw mine (binaries_run _ _ c.in-Ok-Binaries.command c.in-Ok-Binaries.more _ _ _ _ c.run_binaries.result refl
     (c.run_binaries.ensures (g.R.Runner.starts c.args.runner.now) (g.R.Runner.faults c.args.runner.now)) refl)
 
--- they ask for a text
+-- they ask for text
 
 pub returns-in-Ok-Help : goal.returns-in-Ok-Help
 returns-in-Ok-Help g c =
@@ -51,7 +51,7 @@ returns-in-Ok-Generate g c =
     let mine : asking_of (map string_bytes c.args.words.now) ≡ Ok (job.Generate n) = rw c.in-Ok-Generate.field-0-is at c.in-Ok-Generate.ensures.ok in
     rw mine (plain_run _ (Ok (job.Generate n)) _ _ _ _ _ _ c.run_generated.result (record { files = refl; decoder = refl; runner = refl; wire = refl; disk = refl }) (generate_plain _ n _) c.run_generated.ensures.alone c.run_generated.ensures.has_generated c.run_generated.ensures.generated)
 
--- they break a rule, or memory ran out
+-- they break a rule, or it is out of memory
 
 pub returns-in-Err-Usage : goal.returns-in-Err-Usage
 returns-in-Err-Usage g c =

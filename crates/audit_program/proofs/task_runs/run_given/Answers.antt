@@ -86,7 +86,7 @@ returns-in-Err g c decodes decode_faults =
       calls = calls_weaker _ _ _ _ _ _ _ (rw checks at c.audit.ensures.calls) (λ same unread. same);
     }
 
--- ---- where nothing could be made
+-- ---- if nothing could be made
 
 pub returns-in-Err-made : goal.returns-in-Err-made
 returns-in-Err-made g c decodes decode_faults =
@@ -137,7 +137,7 @@ returns-in-Err-made g c decodes decode_faults =
           (λ same unread. c.make-made.ensures.unread unread ∙ same);
     }
 
--- ---- where all was done
+-- ---- if all was done
 
 pub returns-in-Ok-finish : goal.returns-in-Ok-finish
 returns-in-Ok-finish g c decodes decode_faults =
@@ -184,7 +184,7 @@ returns-in-Ok-finish g c decodes decode_faults =
           (λ same unread. c.make-made.ensures.unread unread ∙ same);
     }
 
--- ---- where it couldn't be finished
+-- ---- if it couldn't be finished
 
 pub returns : goal.returns
 returns g c decodes decode_faults =
