@@ -1,6 +1,6 @@
 -- The report of an audit: a filter over all pairs of a package and an advisory (this project, after
 -- cargo-audit).
-use Rattle.std.specs.Prelude.{ℕ, ◌<◌, List, ◌++◌, length, map, flat_map, All, IfSome, Bool, true, false, not, ◌&&◌, is_none, Option, Some, None}
+use Rattle.std.specs.Prelude.{ℕ, ◌<◌, List, ◌++◌, length, map, flat_map, All, IfSome, Bool, true, false, not, ◌&&◌, is_none, Option, Some, None, option_and_then, slice_get}
 use Rattle.std.specs.List.{filter, list_any}
 use Rattle.audit_lock.specs.declared.resolving.Package.{Package}
 use Rattle.audit_advisory.specs.Hits.{affects, hits, is_among}
@@ -14,6 +14,12 @@ use Rattle.audit_advisory.specs.declared.reports.Report.{Report}
 use Rattle.audit_advisory.specs.declared.reports.Vulnerability.{Vulnerability}
 use Rattle.audit_advisory.specs.declared.reports.Warning.{Warning}
 use Rattle.audit_advisory.specs.declared.settings.Settings.{Settings}
+
+-- ---- places
+
+-- the advisory at a place, if one is named and the list has it
+abbrev pub advisory_at : List Advisory → Option ℕ → Option Advisory
+advisory_at advisories place = option_and_then (slice_get advisories) place
 
 -- ---- which pairs count
 

@@ -16,7 +16,7 @@ fn denies(option: DenyOption, kind: WarningKind) -> bool
 }
 
 /// Whether some option denies warnings of a kind.
-fn is_denied(deny: &[DenyOption], kind: WarningKind) -> bool
+pub fn is_denied(deny: &[DenyOption], kind: WarningKind) -> bool
     ensures { result ≡ spec.is_denied deny.now kind }
 {
     for option in deny {
@@ -38,7 +38,8 @@ fn has_denied(warnings: &[Warning], deny: &[DenyOption]) -> bool
     false
 }
 
-fn denies_self(deny: &[DenyOption]) -> bool
+/// Whether advisories on the auditor itself are denied.
+pub fn denies_self(deny: &[DenyOption]) -> bool
     ensures { result ≡ spec.denies_self deny.now }
 {
     for option in deny {

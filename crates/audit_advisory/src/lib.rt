@@ -43,7 +43,7 @@ pub use affected::{Function, FunctionPath};
 pub use compatibility::compatible;
 pub use counting::{Comparisons, name_order};
 pub use databases::Database;
-pub use exits::{fails, report_fails, self_fails};
+pub use exits::{denies_self, fails, is_denied, report_fails, self_fails};
 pub use faults::{AdvisoryFault, AdvisoryRule};
 pub use hitting::{hits, read_version};
 pub use intervals::Interval;
@@ -53,7 +53,7 @@ pub use laws::{
 };
 pub use metadata::{Informational, Metadata};
 pub use outputs::{DenyOption, OutputConfig, OutputFormat, UnknownWord, VERSION, WarningKind};
-pub use reports::{Report, Vulnerability, Warning};
+pub use reports::{Report, Vulnerability, Warning, advisory_at, listed_at};
 pub use requirements::Requirement;
 pub use settings::{Settings, Severity, kinds_copied, texts_copied};
-pub use versions::Versions;
+pub use versions::{Versions, meets_any};

@@ -1,7 +1,9 @@
 //! What an audit reports by its advisories.
-ghost use Rattle.std.specs.Prelude.{◌≡◌, ℕ, ◌+◌, ◌*◌, ◌^◌, ◌<◌, ◌≤◌, ◌++◌, All, IfOk, OnOk, OnErr, length, map};
+ghost use Rattle.std.specs.Prelude.{◌≡◌, ℕ, ◌+◌, ◌*◌, ◌^◌, ◌<◌, ◌≤◌, ◌++◌, All, IfOk, OnOk, OnErr, length, map, option_copied, slice_get};
 ghost use Rattle.audit_advisory.specs.Reports.{IsPlaced, report_of, with_yanked, yanked_at};
+ghost use Rattle.audit_advisory.specs.Reports as spec;
 
+use crate::advisories::Advisory;
 use crate::counting::Comparisons;
 use crate::databases::Database;
 use crate::finding::find_all;
@@ -107,5 +109,22 @@ impl Report {
         let warnings = yanked(alloc, packages)?;
         self.warnings.extend(warnings.as_slice())?;
         Ok(())
+    }
+}
+
+/// The advisory at a place, from 0.
+pub fn listed_at(advisories: &[Advisory], place: usize) -> Option<&Advisory>
+    ensures { option_copied result ≡ slice_get advisories.now place }
+{
+    advisories.get(place)
+}
+
+/// The advisory at a place, from 0, if one is named.
+pub fn advisory_at(advisories: &[Advisory], place: Option<usize>) -> Option<&Advisory>
+    ensures { option_copied result ≡ spec.advisory_at advisories.now place }
+{
+    match place {
+        None => None,
+        Some(place) => listed_at(advisories, place),
     }
 }

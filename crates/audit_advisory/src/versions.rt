@@ -35,7 +35,8 @@ pub fn requirements_of(
     Ok(Some(requirements))
 }
 
-fn meets_any(requirements: &[Requirement], version: &Version) -> bool
+/// Whether a version meets one of these requirements.
+pub fn meets_any(requirements: &[Requirement], version: &Version) -> bool
     ensures { result ≡ spec.meets_any requirements.now (point_of version.now) }
 {
     for requirement in requirements {

@@ -1,17 +1,9 @@
 -- Which paths an audit asks for (this project).
-use Rattle.std.specs.Prelude.{ℕ, List, [], ◌∷◌, ◌++◌, Bool, false, bytes_eq, filter, Option, Some, None, if◌then◌else◌}
+use Rattle.std.specs.Prelude.{ℕ, List, [], ◌∷◌, ◌++◌, Bool, bytes_eq, filter, Option, Some, None, if◌then◌else◌}
 use Rattle.std.specs.List.{enumerate_from, filter_map, list_any, position_from}
 use Rattle.tame_names.specs.Names.{path}
-use Rattle.audit_lock.specs.Defaults.{is_default_registry}
+pub use Rattle.audit_lock.specs.Defaults.{is_default}
 use Rattle.audit_lock.specs.declared.resolving.Package.{Package}
-
--- the package is of the default registry
-abbrev pub is_default_source : Option (List ℕ) → Bool
-is_default_source None = false
-is_default_source (Some source) = is_default_registry source
-
-abbrev pub is_default : Package → Bool
-is_default p = is_default_source p.source
 
 -- the packages of the default registry, with their places
 abbrev pub defaults : List Package → List (ℕ × Package)

@@ -39,5 +39,4 @@ pub use laws::{
     cached_audits_agree, store_is_said_of_failed_reads,
 };
 pub use opening::{FileAuditError, LOCKFILE_LIMIT};
-pub use planning::is_default;
 pub use verdicts::{Cause, Judged, Verdict};

@@ -5,7 +5,7 @@ ghost use Rattle.audit_core.specs.Paths.{asked_paths, default_path, place_in};
 ghost use Rattle.audit_core.specs.Paths as spec;
 ghost use Rattle.audit_core.specs.Plans.{ArePlanned, IsPathOf};
 
-use audit_lock::{Package, is_default_registry};
+use audit_lock::Package;
 use std::alloc::Global;
 use std::collections::BTreeMap;
 use tame_names::{Items, KrateName, NoMemory, Text};
@@ -39,16 +39,6 @@ pub struct Places {
     pub paths: Items<Text>,
     /// The place of each path among these, from 0.
     pub map: BTreeMap<String, usize>,
-}
-
-/// Whether a package is of the default registry, crates.io.
-pub fn is_default(locked: &Package) -> bool
-    ensures { result ≡ spec.is_default locked.now }
-{
-    match &locked.source {
-        None => false,
-        Some(source) => is_default_registry(source.as_str()),
-    }
 }
 
 /// The path of a name; nothing where the text is no name.
@@ -104,7 +94,7 @@ impl Places {
             ≡ with_each self.old.paths (default_path locked.now)) }
         ensures planned { IfOk result (IsPlanned self.new.paths locked.now) }
     {
-        if !is_default(locked) {
+        if !locked.is_default() {
             return Ok(Planned::Elsewhere);
         }
         match path_of(alloc, locked.name.as_str())? {

@@ -31,6 +31,6 @@ mod trees;
 
 pub use laws::{first_broken_package_is_named, lines_are_the_tree};
 pub use listed::LockRule;
-pub use lockfiles::{Lockfile, LockfileFault, is_default_registry};
+pub use lockfiles::{Lockfile, LockfileFault, is_default_registry, is_from_default, package_at};
 pub use resolving::Package;
 pub use trees::{RenderFault, Tree};

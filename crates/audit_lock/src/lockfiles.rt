@@ -1,5 +1,5 @@
 //! A lockfile as a whole.
-ghost use Rattle.std.specs.Prelude.{◌≡◌, ◌≢◌, List, option_copied, option_map, slice_get, IfOk, IfErr, Ok, Err, Some, None};
+ghost use Rattle.std.specs.Prelude.{◌≡◌, ◌≢◌, ◌<◌, List, length, option_copied, option_map, slice_get, IfOk, IfErr, IfSome, Ok, Err, Some, None};
 ghost use Rattle.toml.specs.View.{view, table_view, items_view};
 ghost use Rattle.toml.specs.Parse.{parse_document};
 ghost use Rattle.audit_lock.specs.Defaults as defaults_spec;
@@ -14,7 +14,7 @@ use crate::listed::{ListedPackage, ListingFault, LockRule, read_listed};
 use crate::resolving::{Package, resolve};
 use std::alloc::Global;
 use std::marker::Model;
-use tame_names::{Items, NoMemory};
+use tame_names::{Items, NoMemory, Text};
 use toml::{Table, Value};
 use toml_tables::{TableFault, member, optional_number, parse_table, table_has_float};
 
@@ -232,4 +232,22 @@ pub fn is_default_registry(source: &str) -> bool
 {
     source == "registry+https://github.com/rust-lang/crates.io-index"
         || source == "sparse+https://index.crates.io/"
+}
+
+/// Whether the source of a package is the default registry. A package of a folder has none.
+pub fn is_from_default(source: &Option<Text>) -> bool
+    ensures { result ≡ defaults_spec.is_from_default source.now }
+{
+    match source {
+        None => false,
+        Some(source) => is_default_registry(source.as_str()),
+    }
+}
+
+/// The package at a place, from 0.
+pub fn package_at(packages: &[Package], place: usize) -> Option<&Package>
+    ensures at { option_copied result ≡ slice_get packages.now place }
+    ensures below { IfSome result (λ _. place < length packages.now) }
+{
+    packages.get(place)
 }

@@ -5,7 +5,7 @@ ghost use Rattle.audit_lock.specs.Defaults as spec;
 ghost use Rattle.audit_lock.specs.Locked.{place_of, resolve_from};
 
 use crate::listed::{ListedPackage, LockRule};
-use crate::lockfiles::{LockfileFault, is_default_registry};
+use crate::lockfiles::{LockfileFault, is_from_default};
 use crate::naming::{Places, each_place, places_of};
 use std::alloc::Global;
 use tame_names::{Items, Text};
@@ -30,10 +30,7 @@ impl Package {
     pub fn is_default(&self) -> bool
         ensures { result ≡ spec.is_default self.now }
     {
-        match &self.source {
-            None => false,
-            Some(source) => is_default_registry(source.as_str()),
-        }
+        is_from_default(&self.source)
     }
 }
 

@@ -11,7 +11,7 @@ use crate::parents::parents_of;
 use crate::rendering::tree_text;
 use std::alloc::Global;
 use std::marker::Model;
-use tame_names::{Items, NoMemory, Sink};
+use tame_names::{Items, NoMemory, Sink, put_piece};
 
 /// Why a tree was not rendered whole.
 #[derive(Clone, Copy, Debug, PartialEq, Eq)]
@@ -72,7 +72,7 @@ impl Tree {
         let Ok(text) = tree_text(alloc, lockfile.packages(), self.parents.as_slice(), node) else {
             return Err(RenderFault::NoMemory);
         };
-        match sink.put(text.as_bytes()) {
+        match put_piece(sink, text.as_bytes()) {
             Ok(()) => Ok(()),
             Err(_) => Err(RenderFault::Io),
         }

@@ -1,20 +1,12 @@
 //! The lines of verdicts.
-ghost use Rattle.std.specs.Prelude.{◌≡◌, ◌++◌, IfOk, OnOk, string_bytes, option_copied, slice_get};
-ghost use Rattle.json.specs.Print.{quoted};
+ghost use Rattle.std.specs.Prelude.{◌≡◌, ◌++◌, IfOk, OnOk, string_bytes, slice_get};
 ghost use Rattle.audit_output.specs.Printed.{cause_word, line_at, verdict_line, verdict_word};
 ghost use Rattle.audit_output.specs.Printed as spec;
 
 use audit_core::{Cause, Judged, Verdict};
-use audit_lock::Package;
-use serde_json::Value;
+use audit_lock::{Package, package_at};
+use audit_report::push_quoted;
 use std::alloc::{AllocError, Global};
-
-fn push_quoted(alloc: Global, out: &mut String, text: &str) -> Result<(), AllocError>
-    ensures { OnOk result (string_bytes out.new ≡ string_bytes out.old ++ quoted text.now) }
-{
-    let quoted = Value::String(String::from_str(alloc, text)?).to_string(alloc)?;
-    out.push_str(quoted.as_str())
-}
 
 /// Adds the word for a cause at the end of a text; an error only where memory runs out.
 pub fn push_cause(alloc: Global, out: &mut String, cause: Cause) -> Result<(), AllocError>
@@ -63,13 +55,6 @@ fn push_line(
     out.push_str(" ")?;
     push_verdict(alloc, out, verdict)?;
     out.push_str("\n")
-}
-
-/// The package at a place.
-pub fn package_at(packages: &[Package], place: usize) -> Option<&Package>
-    ensures { option_copied result ≡ slice_get packages.now place }
-{
-    packages.get(place)
 }
 
 fn push_judged(

@@ -4,10 +4,10 @@ ghost use Rattle.audit_output.specs.Outputs.{loaded_lines, unchecked_at, uncheck
 ghost use Rattle.audit_output.specs.Outputs as spec;
 ghost use Rattle.audit_output.specs.Printed.{cause_word};
 
-use crate::judged_lines::{package_at, push_cause};
+use crate::judged_lines::push_cause;
 use audit_advisory::OutputConfig;
 use audit_core::{Cause, Checks, Judged, Verdict};
-use audit_lock::Package;
+use audit_lock::{Package, package_at};
 use audit_report::{push_loaded, push_unchecked, push_updating};
 use std::alloc::{AllocError, Global};
 

@@ -32,9 +32,6 @@ pub fn put_text<S: Sink>(sink: &mut S, text: &[u8]) -> Result<(), PrintFault>
     ensures failed { IfErr result (λ _. CountRose (S.faults sink.old) (S.faults sink.new)) }
     ensures nothing { text.now ≡ [] → IsOk result × (sink.new ≡ sink.old) }
 {
-    if text.is_empty() {
-        return Ok(());
-    }
     match put_counted(sink, text) {
         Ok(_) => Ok(()),
         Err(_) => Err(PrintFault::Put),

@@ -1,10 +1,11 @@
 -- The blocks of the terminal form: one for each vulnerability, then one for each warning (this
 -- project, after cargo-audit).
-use Rattle.std.specs.Prelude.{ℕ, codes, List, [], ◌∷◌, ◌++◌, Option, Some, None, option_map, option_and_then, slice_get}
+use Rattle.std.specs.Prelude.{ℕ, codes, List, [], ◌∷◌, ◌++◌, Option, Some, None, option_map, slice_get}
 use Rattle.std.specs.List.{flat_map}
 use Rattle.std.specs.Option.{option_map_or}
 use Rattle.audit_lock.specs.Rendering.{rendering}
 use Rattle.audit_lock.specs.declared.resolving.Package.{Package}
+pub use Rattle.audit_advisory.specs.Reports.{advisory_at}
 use Rattle.audit_advisory.specs.declared.advisories.Advisory.{Advisory}
 use Rattle.audit_advisory.specs.declared.metadata.Metadata.{Metadata}
 use Rattle.audit_advisory.specs.declared.outputs.WarningKind.{WarningKind}
@@ -65,9 +66,6 @@ pub record Block : Type 0 where
 
 unfoldable pub tree_at : List Package → ℕ → List ℕ
 tree_at packages place = rendering packages place
-
-abbrev pub advisory_at : List Advisory → Option ℕ → Option Advisory
-advisory_at advisories place = option_and_then (slice_get advisories) place
 
 -- the block of a vulnerability; a place that nothing has gives none
 abbrev pub vulnerability_block : Option (List Segments) → List ℕ → Option Package

@@ -2,30 +2,16 @@
 ghost use Rattle.std.specs.Prelude.{◌≡◌, ◌∷◌, ◌++◌, [], codes, IfOk, MatchOption, OnOk, option_map, string_bytes};
 ghost use Rattle.std.specs.List.{flat_map, join_by};
 ghost use Rattle.semver.specs.Identifiers.{parts_of};
-ghost use Rattle.audit_advisory.specs.Points.{point_of};
-ghost use Rattle.audit_advisory.specs.Requirements as requirements_spec;
 ghost use Rattle.audit_report.specs.Affected.{affected_line, affected_paths, path_text, paths_line};
 ghost use Rattle.audit_report.specs.Affected as spec;
 
 use crate::attributes::push_attribute;
 use crate::symbols::SymbolSet;
-use audit_advisory::{Advisory, Function, FunctionPath, Requirement, read_version};
+use audit_advisory::{Advisory, Function, FunctionPath, Requirement, meets_any, read_version};
 use audit_lock::Package;
 use semver::Version;
 use std::alloc::{AllocError, Global};
 use tame_names::{NoMemory, Text};
-
-/// Whether a version meets one of these requirements.
-fn meets_any(requirements: &[Requirement], version: &Version) -> bool
-    ensures { result ≡ requirements_spec.meets_any requirements.now (point_of version.now) }
-{
-    for requirement in requirements {
-        if requirement.holds(version) {
-            return true;
-        }
-    }
-    false
-}
 
 /// Whether there is a version, and it meets one of these requirements.
 fn is_held(requirements: &[Requirement], version: &Option<Version>) -> bool

@@ -13,10 +13,10 @@ ghost use Rattle.audit_report.specs.Symbols.{Segments};
 
 use crate::blocks::{vulnerability_lines, warning_lines};
 use crate::findings::{Findings, Sheet};
-use crate::placing::{advisory_at, listed_at, package_at};
 use crate::putting::PrintError;
 use crate::tree_puts::put_block;
-use audit_advisory::{Report, Vulnerability, Warning};
+use audit_advisory::{Report, Vulnerability, Warning, advisory_at, listed_at};
+use audit_lock::package_at;
 use std::alloc::Global;
 use tame_names::Sink;
 

@@ -14,10 +14,9 @@ use crate::members::{
     close_array, close_object, open_array, open_object, write_count, write_flag, write_name,
 };
 use crate::objects::{write_hit, write_warning};
-use crate::placing::{advisory_at, listed_at, package_at};
 use crate::words::kind_word;
-use audit_advisory::{Advisory, Vulnerability, Warning, WarningKind};
-use audit_lock::Package;
+use audit_advisory::{Advisory, Vulnerability, Warning, WarningKind, advisory_at, listed_at};
+use audit_lock::{Package, package_at};
 use json::Writer;
 use std::alloc::AllocError;
 

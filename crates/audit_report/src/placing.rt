@@ -1,36 +1,10 @@
 //! The places that a report and a list name.
-ghost use Rattle.std.specs.Prelude.{◌≡◌, ◌<◌, IfSome, length, option_copied, slice_get};
+ghost use Rattle.std.specs.Prelude.{◌≡◌, length};
 ghost use Rattle.std.specs.List.{list_all};
-ghost use Rattle.audit_report.specs.Blocks as blocks_spec;
 ghost use Rattle.audit_report.specs.Placing as spec;
 
 use audit_advisory::{Advisory, Report, Vulnerability, Warning};
 use audit_lock::Package;
-
-/// The package at a place.
-pub fn package_at(packages: &[Package], place: usize) -> Option<&Package>
-    ensures at { option_copied result ≡ slice_get packages.now place }
-    ensures below { IfSome result (λ _. place < length packages.now) }
-{
-    packages.get(place)
-}
-
-/// The advisory at a place.
-pub fn listed_at(advisories: &[Advisory], place: usize) -> Option<&Advisory>
-    ensures { option_copied result ≡ slice_get advisories.now place }
-{
-    advisories.get(place)
-}
-
-/// The advisory at a place, where one is named.
-pub fn advisory_at(advisories: &[Advisory], place: Option<usize>) -> Option<&Advisory>
-    ensures { option_copied result ≡ blocks_spec.advisory_at advisories.now place }
-{
-    match place {
-        None => None,
-        Some(place) => listed_at(advisories, place),
-    }
-}
 
 fn is_place(count: usize, place: Option<usize>) -> bool
     ensures { result ≡ spec.is_place count place }

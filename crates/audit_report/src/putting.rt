@@ -45,9 +45,6 @@ pub fn put_text<S: Sink>(sink: &mut S, text: &[u8]) -> Result<(), PrintError>
     ensures failed { IfErr result (λ e. (e ≡ PrintError.Io)
         × CountRose (S.faults sink.old) (S.faults sink.new)) }
 {
-    if text.is_empty() {
-        return Ok(());
-    }
     match put_counted(sink, text) {
         Ok(_) => Ok(()),
         Err(_) => Err(PrintError::Io),

@@ -5,12 +5,13 @@ ghost use Rattle.audit_report.specs.Sarif.{advisory_rule, findings_of, hit_findi
 ghost use Rattle.audit_report.specs.Firsts.{is_text_of, with_new};
 ghost use Rattle.audit_report.specs.SarifRuns.{Tells};
 
-use crate::placing::{advisory_at, listed_at, package_at};
 use crate::sarif_logs::{Level, Rule, Run};
 use crate::sarif_results::{hit_result, warning_result};
 use crate::sarif_rules::{advisory_rule, warning_id, warning_rule};
-use audit_advisory::{Advisory, Report, Vulnerability, Warning, WarningKind};
-use audit_lock::Package;
+use audit_advisory::{
+    Advisory, Report, Vulnerability, Warning, WarningKind, advisory_at, listed_at,
+};
+use audit_lock::{Package, package_at};
 use std::alloc::Global;
 use tame_names::{Items, NoMemory};
 

@@ -1,22 +1,12 @@
 //! What is printed of advisories on the auditor itself.
 ghost use Rattle.std.specs.Prelude.{◌≡◌, ◌++◌, IfOk, OnOk, string_bytes};
 ghost use Rattle.std.specs.List.{flat_map};
-ghost use Rattle.audit_advisory.specs.Exits as exits_spec;
 ghost use Rattle.audit_report.specs.SelfReports.{metadata_at, self_message};
 ghost use Rattle.audit_report.specs.SelfReports as spec;
 
 use crate::blocks::push_metadata;
-use crate::placing::listed_at;
-use audit_advisory::{Advisory, DenyOption};
+use audit_advisory::{Advisory, DenyOption, denies_self, listed_at};
 use std::alloc::{AllocError, Global};
-
-/// Whether advisories on the auditor itself are denied.
-fn denies_self(deny: &[DenyOption]) -> bool
-    ensures { result ≡ exits_spec.denies_self deny.now }
-{
-    deny.iter()
-        .any(|option| matches!(option, DenyOption::Warnings))
-}
 
 #[tactic(auto, unfolding(crate::specs::SelfReports::self_message))]
 fn push_message(out: &mut String) -> Result<(), AllocError>

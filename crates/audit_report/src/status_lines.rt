@@ -10,7 +10,8 @@ use audit_advisory::OutputConfig;
 use serde_json::Value;
 use std::alloc::{AllocError, Global};
 
-fn push_quoted(alloc: Global, out: &mut String, text: &str) -> Result<(), AllocError>
+/// Appends a text as a JSON string.
+pub fn push_quoted(alloc: Global, out: &mut String, text: &str) -> Result<(), AllocError>
     ensures { OnOk result (string_bytes out.new ≡ string_bytes out.old ++ quoted text.now) }
 {
     let quoted = Value::String(String::from_str(alloc, text)?).to_string(alloc)?;

@@ -4,7 +4,7 @@ ghost use Rattle.audit_advisory.specs.Exits as spec;
 ghost use Rattle.audit_report.specs.Summaries.{allowed_line, denied_line, ending, found_line, vulnerabilities_line};
 ghost use Rattle.audit_report.specs.Summaries as summaries_spec;
 
-use audit_advisory::{DenyOption, Report, Warning, WarningKind};
+use audit_advisory::{DenyOption, Report, Warning, is_denied};
 use std::alloc::{AllocError, Global};
 
 /// What a line counts: its level, its word for one and for several, and what ends it where there is
@@ -55,23 +55,6 @@ fn push_found(
     out.push_str(front.as_str())?;
     push_ending(out, counted.without, path)?;
     out.push_str("\n")
-}
-
-/// Whether an option denies warnings of a kind.
-fn denies(option: DenyOption, kind: WarningKind) -> bool
-    ensures { result ≡ spec.denies kind option }
-{
-    option
-        .get_warning_kind()
-        .iter()
-        .any(|denied| *denied == kind)
-}
-
-/// Whether some option does.
-fn is_denied(deny: &[DenyOption], kind: WarningKind) -> bool
-    ensures { result ≡ spec.is_denied deny.now kind }
-{
-    deny.iter().any(|option| denies(*option, kind))
 }
 
 fn denied_count(deny: &[DenyOption], warnings: &[Warning]) -> usize

@@ -1,7 +1,8 @@
 -- The findings of an audit's report: each vulnerability, then each warning (this project).
-use Rattle.std.specs.Prelude.{ℕ, List, [], ◌∷◌, ◌++◌, flat_map, unwrap_or, Option, Some, None, option_and_then, slice_get}
+use Rattle.std.specs.Prelude.{ℕ, List, [], ◌∷◌, ◌++◌, flat_map, unwrap_or, Option, Some, None, slice_get}
 use Rattle.std.specs.Option.{option_map_or}
 use Rattle.audit_lock.specs.declared.resolving.Package.{Package}
+pub use Rattle.audit_advisory.specs.Reports.{advisory_at}
 use Rattle.audit_advisory.specs.declared.advisories.Advisory.{Advisory}
 use Rattle.audit_advisory.specs.declared.outputs.WarningKind.{WarningKind}
 use Rattle.audit_advisory.specs.declared.outputs.WarningKind.TheVariants as told
@@ -41,9 +42,6 @@ hit_finding None advisory = []
 abbrev pub warning_finding : WarningKind → Option Package → Option Advisory → List Finding
 warning_finding k (Some p) advisory = finding (warning_kind k) (id_of advisory) p ∷ []
 warning_finding k None advisory = []
-
-abbrev pub advisory_at : List Advisory → Option ℕ → Option Advisory
-advisory_at advisories place = option_and_then (slice_get advisories) place
 
 abbrev pub hit_finding_at : List Advisory → List Package → Vulnerability → List Finding
 hit_finding_at advisories packages v =

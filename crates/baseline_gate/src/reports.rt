@@ -4,8 +4,10 @@ ghost use Rattle.std.specs.List.{flat_map};
 ghost use Rattle.baseline_gate.specs.Reports.{findings_of, hit_finding, hit_finding_at, source_of, warning_finding, warning_finding_at, warning_kind};
 ghost use Rattle.baseline_gate.specs.Reports as spec;
 
-use audit_advisory::{Advisory, Report, Vulnerability, Warning, WarningKind};
-use audit_lock::Package;
+use audit_advisory::{
+    Advisory, Report, Vulnerability, Warning, WarningKind, advisory_at, listed_at,
+};
+use audit_lock::{Package, package_at};
 use known_findings::{Finding, FindingKind};
 use std::alloc::Global;
 use tame_names::{Items, NoMemory, Text};
@@ -56,27 +58,6 @@ fn finding(
         version: locked.version.try_clone(alloc)?,
         source: Text::of(alloc, source_of(locked))?,
     })
-}
-
-fn package_at(packages: &[Package], place: usize) -> Option<&Package>
-    ensures { option_copied result ≡ slice_get packages.now place }
-{
-    packages.get(place)
-}
-
-fn listed_at(advisories: &[Advisory], place: usize) -> Option<&Advisory>
-    ensures { option_copied result ≡ slice_get advisories.now place }
-{
-    advisories.get(place)
-}
-
-fn advisory_at(advisories: &[Advisory], place: Option<usize>) -> Option<&Advisory>
-    ensures { option_copied result ≡ spec.advisory_at advisories.now place }
-{
-    match place {
-        None => None,
-        Some(place) => listed_at(advisories, place),
-    }
 }
 
 fn add_hit(

@@ -217,7 +217,7 @@ impl<'a> Edges<'a> {
         let file = self.host.uncounted(&how, "elsewhere/out")?;
         let mut sink = StdSink::new(file);
         let piece = meant(self.host.alloc(), text)?;
-        if sink.put(piece.as_slice()).is_ok() {
+        if put_piece(&mut sink, piece.as_slice()).is_ok() {
             return self.said("done");
         }
         self.fault(sink.sink_faults())

@@ -8,7 +8,7 @@ use crate::raw::has_no_zero;
 use crate::sha1::Sha1Hex;
 use std::alloc::Global;
 use std::fmt;
-use tame_names::{NoMemory, Sink, SinkFault, Text};
+use tame_names::{NoMemory, Sink, SinkFault, Text, put_piece};
 
 /// An HTTP revision of a body: its entity tag or its date (RFC 9110, sections 8.8.2 and 8.8.3).
 #[derive(Debug, Drop, PartialEq, Eq)]
@@ -136,8 +136,8 @@ fn put_both<S: Sink>(sink: &mut S, first: &[u8], second: &[u8]) -> Result<u64, S
     ensures count { IfOk result (λ n. n ≡ length (first.now ++ second.now)) }
     ensures cause { HasPutCause (S.faults sink.old) (S.faults sink.new) result }
 {
-    sink.put(first)?;
-    sink.put(second)?;
+    put_piece(sink, first)?;
+    put_piece(sink, second)?;
     Ok(first.len() as u64 + second.len() as u64)
 }
 

@@ -13,7 +13,7 @@ use crate::json_lines::JsonLines;
 use crate::raw::has_no_zero;
 use crate::revisions::Revision;
 use std::alloc::Global;
-use tame_names::{Error, IoKind, NoMemory, Sink, SinkFault};
+use tame_names::{Error, IoKind, NoMemory, Sink, SinkFault, put_piece};
 use tame_records::{IndexKrate, IndexVersion, with_line};
 
 /// What is written to the cache.
@@ -153,7 +153,7 @@ fn put_pieces<S: Sink>(sink: &mut S, pieces: EntryPieces<'_>) -> Result<(), Sink
         if count == 0 {
             return Ok(());
         }
-        sink.put(&piece[..count])?;
+        put_piece(sink, &piece[..count])?;
     }
 }
 

@@ -54,7 +54,7 @@ pub use memory_sink::MemSink;
 pub use memory_source::MemSource;
 pub use memory_variables::MemVariable;
 pub use names::KrateName;
-pub use output::{Sink, SinkFault, put_counted};
+pub use output::{Sink, SinkFault, put_counted, put_piece};
 pub use paths::{file_name, is_same_path, join, parent, plain_path};
 pub use pieces::{SplitIter, split, without_end};
 pub use sources::{Source, SourceFault};

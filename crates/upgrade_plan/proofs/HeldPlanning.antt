@@ -18,7 +18,7 @@ use Rattle.audit_advisory.specs.declared.advisories.Advisory.{Advisory}
 use Rattle.audit_advisory.specs.declared.settings.Settings.{Settings}
 use Rattle.audit_core.specs.Audits.{AuditSays, Moment, TurnNamesAndLeaves, TurnsNameAndLeave}
 use Rattle.audit_core.specs.Checks.{asked_of, judged_of}
-use Rattle.audit_core.specs.Paths.{is_default, is_default_source}
+use Rattle.audit_core.specs.Paths.{is_default}
 use Rattle.audit_core.specs.Turns.{Chains, index_file}
 use Rattle.audit_core.specs.Verdicts.{AreVerdicts, IsVerdictByHeldAt, exchange_of, turn_of}
 use Rattle.audit_core.specs.declared.asking.Turn.{Turn}
@@ -166,16 +166,12 @@ path_case told t settings advisories m old new es ts p None v o h judged is = is
 path_case told t settings advisories m old new es ts p (Some q) v o h judged is =
     found_case settings advisories m old new es ts p q o (exchange_of q es) (turn_of q ts) refl refl h (stands _ (exchange_of q es) (turn_of q ts) judged) (is.by_file t)
 
-default_same : (s : Option (List ℕ)) → is_default_source s ≡ is_from_default s
-default_same None = refl
-default_same (Some source) = refl
-
 source_case : (told : Type 0) (t : told) (settings : Settings) (advisories : List Advisory) (m : ServerMap) (old new : Disk) (es : List Exchange) (ts : List Turn) (p : Package) (b : Bool) (o : PlanOutcome)
     → is_from_default p.source ≡ b → IsHonestly m old new es ts → (is_default p ≡ true → (v : Verdict) × IsVerdictByHeldAt es ts p.version (path p.name) v)
     → IsSourceOutcome told settings advisories crates_io_cache (λ f. reads (new f)) p b o → IsSourceHeldPlan settings advisories es ts p b o
 source_case told t settings advisories m old new es ts p false o at h judged is = is
 source_case told t settings advisories m old new es ts p true o at h judged is =
-    let v = judged (default_same p.source ∙ at) in
+    let v = judged at in
     path_case told t settings advisories m old new es ts p (path p.name) v.0 o h v.1 is
 
 -- ---- all items

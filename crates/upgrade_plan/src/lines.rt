@@ -1,12 +1,12 @@
 //! The lines of a plan, and the status that it ends with.
-ghost use Rattle.std.specs.Prelude.{◌≡◌, ◌++◌, IfOk, OnOk, string_bytes, option_copied, slice_get};
+ghost use Rattle.std.specs.Prelude.{◌≡◌, ◌++◌, IfOk, OnOk, string_bytes, slice_get};
 ghost use Rattle.json.specs.Print.{quoted};
 ghost use Rattle.upgrade_plan.specs.Lines.{cause_word, item_line, line_at, outcome_words};
 ghost use Rattle.upgrade_plan.specs.Lines as spec;
 
 use crate::plans::{PlanItem, PlanOutcome};
 use crate::records::NoRecord;
-use audit_lock::Package;
+use audit_lock::{Package, package_at};
 use serde_json::Value;
 use std::alloc::{AllocError, Global};
 
@@ -61,13 +61,6 @@ fn push_line(
     out.push_str(" ")?;
     push_outcome(out, outcome)?;
     out.push_str("\n")
-}
-
-/// The package at a place.
-fn package_at(packages: &[Package], place: usize) -> Option<&Package>
-    ensures { option_copied result ≡ slice_get packages.now place }
-{
-    packages.get(place)
 }
 
 fn push_item(

@@ -14,7 +14,7 @@ use crate::safest::least_safe;
 use crate::vulnerable::vulnerable_flags;
 use audit_advisory::{Database, Settings};
 use audit_core::Audited;
-use audit_lock::{Package, is_default_registry};
+use audit_lock::{Package, is_from_default};
 use std::alloc::Global;
 use tame_cache::CacheDisk;
 use tame_names::{FileLock, Items, KrateName, NoMemory, Text};
@@ -38,15 +38,6 @@ pub struct PlanItem {
     pub package: usize,
     /// What is planned for it.
     pub outcome: PlanOutcome,
-}
-
-fn is_from_default(source: &Option<Text>) -> bool
-    ensures { result ≡ hits_spec.is_from_default source.now }
-{
-    match source {
-        None => false,
-        Some(source) => is_default_registry(source.as_str()),
-    }
 }
 
 /// What is planned by the records of a package's crate.

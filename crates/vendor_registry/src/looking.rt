@@ -12,7 +12,6 @@ ghost use Rattle.vendor_registry.specs.Named.{AreTexts};
 
 use crate::checks::{Checked, check_package};
 use crate::faults::VendorFault;
-use audit_core::is_default;
 use audit_lock::Package;
 use std::alloc::Global;
 use std::collections::BTreeSet;
@@ -47,7 +46,7 @@ fn is_first(alloc: Global, pairs: &mut BTreeSet<Pair>, locked: &Package) -> Resu
     ensures pairs { (front : List Package) → HasPairs pairs.old.keys front
         → OnOk result (HasPairs pairs.new.keys (front ++ locked.now ∷ [])) }
 {
-    if !is_default(locked) {
+    if !locked.is_default() {
         return Ok(false);
     }
     let pair = pair_of(alloc, locked)?;
