@@ -1,4 +1,4 @@
--- The first piece ends where the first needle stands.
+-- The first piece ends at the first needle.
 use Rattle.std.proofs.Common.{◌≡◌, ℕ, zero, suc, ◌<◌, ◌==◌, List, [], ◌∷◌, length, take, drop, get_or, true, false, arith}
 use Rattle.std.proofs.lemmas.Bool.{false_from_ne_true}
 use Rattle.tame_names.specs.Pieces.{pieces}

@@ -24,7 +24,7 @@ cut_case true b bs None p more h =
     subst P (inside ([], bs) p h) (omega arith)
 cut_case false b bs None p more h = absurd (none_some p h)
 
--- a cut parts all but the needle
+-- a cut separates all but the needle
 cut-length : (n : ℕ) (bs : List ℕ) (p : List ℕ × List ℕ) → cut_at_last n bs ≡ Some p → length p.0 + 1 + length p.1 ≡ length bs
 cut-length n [] p h = absurd (none_some p h)
 cut-length n (b ∷ bs) p h = cut_case (b == n) b bs (cut_at_last n bs) p (λ q e. cut-length n bs q e) h
@@ -71,7 +71,7 @@ within (b ∷ bs) = omega (arith, without_end-within 47 bs)
 pub parent-short : (path folder : List ℕ) → parent path ≡ Some folder → length folder < length path
 parent-short path folder h = omega (arith, plain-short (plain_path path) folder h, within path)
 
--- where the folder is what an answer says, it is shorter
+-- if the folder is what an answer says, it is shorter
 pub shorter : {R : Type 0} (now : R → List ℕ) (path : List ℕ) (r : Option R) → option_map now r ≡ parent path
     → IfSome r (λ folder. length (now folder) < length path)
 shorter now path None h = tt

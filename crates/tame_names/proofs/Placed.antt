@@ -1,4 +1,4 @@
--- What is put in front of the files in memory counts before what was there.
+-- What is put before the files in memory counts before what was there.
 use Rattle.std.proofs.Common.{◌≡◌, ◌≢◌, ◌==◌, ℕ, zero, suc, ◌+◌, ◌<◌, subst, List, [], ◌∷◌, ◌++◌, length, take, drop, get_or, Bool, true, false, cond, Some, None, refl, sym, ap, ◌∙◌, arith}
 use Rattle.std.proofs.Math.Dec.{eqb-suc-zero}
 use Rattle.std.proofs.lemmas.Slice.Eq.{bytes_eq-Decides}
@@ -17,7 +17,7 @@ file_at-plain (file ∷ files) p q same =
     ap (λ x. cond (bytes_eq (plain_path file.path) x) (Some file) (file_at files p)) same
     ∙ ap (λ rest. cond (bytes_eq (plain_path file.path) (plain_path q)) (Some file) rest) (file_at-plain files p q same)
 
--- at paths that stand for the same, the same stands
+-- at paths that are the same, the same is there
 pub stands_same : (files : List MemFile) (p q : List ℕ) → is_same p q ≡ true → standing_in files p ≡ standing_in files q
 stands_same files p q same =
     ap standing_of (file_at-plain files p q ((bytes_eq-Decides (plain_path p) (plain_path q)).0 same))
@@ -74,7 +74,7 @@ more_folders paths i path first before now low is so_far made =
     made ∙ ap (with_folder_at path) so_far ∙ ap (λ p. with_folder_at p (with_folders_at (take i paths) first)) is
     ∙ sym (with_folders-more paths i path first low) ∙ ap (λ n. with_folders_at (take n paths) first) next
 
--- where folders are there or can be made, this holds of those that are left
+-- if folders are there or can be created, this holds of those that are left
 pub folders_left : (paths : List (List ℕ)) (i : ℕ) (path : List ℕ) (before now : List ℕ → Standing) → i < length paths → path ≡ get_or paths i path
     → now ≡ with_folder_at path before → AreFolders (drop i paths) before → AreFolders (drop (suc i) paths) now
 folders_left [] i path before now low is made can = absurd (omega (arith, low))
@@ -82,7 +82,7 @@ folders_left (p ∷ ps) zero path before now low is made can =
     subst (AreFolders ps) (sym (made ∙ ap (λ q. with_folder_at q before) is)) can.1
 folders_left (p ∷ ps) (suc i) path before now low is made can = folders_left ps i path before now (omega (arith, low)) is made can
 
--- ---- folders that are there or were made
+-- ---- folders that are there or were created
 
 were_more : (paths : List (List ℕ)) (i : ℕ) (d : List ℕ) (stands : List ℕ → Standing) → i < length paths → AreFolders (take i paths) stands
     → is_folder (with_folder_at (get_or paths i d) (with_folders_at (take i paths) stands) (get_or paths i d)) ≡ true → AreFolders (take (suc i) paths) stands
@@ -90,7 +90,7 @@ were_more [] i d stands low all is = absurd (omega (arith, low))
 were_more (p ∷ ps) zero d stands low all is = (is, tt)
 were_more (p ∷ ps) (suc i) d stands low all is = (all.0, were_more ps i d (with_folder_at p stands) (omega (arith, low)) all.1 is)
 
--- one folder more was there or was made
+-- one folder more was there or was created
 pub folders_were : (paths : List (List ℕ)) (i : ℕ) (path : List ℕ) (first before : List ℕ → Standing) → i < length paths → path ≡ get_or paths i path
     → before ≡ with_folders_at (take i paths) first → is_folder (with_folder_at path before path) ≡ true → AreFolders (take i paths) first
     → AreFolders (take (i + 1) paths) first
@@ -115,7 +115,7 @@ last_way at path (c ∷ cs) some = way_case (c == 47) (way_to at path) (last_way
     way_case true way h = (way ∷ h.0, ap (λ ws. way ∷ ws) h.1)
     way_case false way h = h
 
--- where those on the way to a path are folders or can be made, a folder is there then
+-- if those on the way to a path are folders or can be created, a folder is there then
 pub folder_there : (path : List ℕ) (before now : List ℕ → Standing) → AreFolders (ways_to path) before → now ≡ with_folders_at (ways_to path) before
     → path ≢ [] → is_folder (now path) ≡ true
 folder_there path before now all made some =

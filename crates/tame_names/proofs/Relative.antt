@@ -1,4 +1,4 @@
--- The path of a name doesn't begin with `/`, so that one folder has it in one place.
+-- The path of a name doesn't begin with `/`, so one folder has it at one path.
 use Rattle.std.proofs.Common.{◌≡◌, ℕ, ◌+◌, List, [], ◌∷◌, ◌++◌, length, take, drop, map, Bool, true, false, not, cond, Option, Some, None, option_map, refl, sym, ap, ◌∙◌, arith, codes}
 use Rattle.std.specs.Prelude.{◌==◌, ◌||◌, find, is_none, nat_lt}
 use Rattle.std.specs.Char.{to_ascii_lowercase}
@@ -65,7 +65,7 @@ path_relative p h =
     let parts = some_path (is_name h.0) p (relative_path (separator None) h.0) h.2 in
     relative_of h.0 p h.1 parts.0 parts.1
 
--- ---- one place below a folder
+-- ---- one path below a folder
 
 same_behind : (xs ys zs : List ℕ) → xs ++ ys ≡ xs ++ zs → ys ≡ zs
 same_behind [] ys zs h = h
@@ -79,6 +79,6 @@ join_case false false true slash folder p q he hf hs h = cc
 join_case false false false true folder p q he hf hs h = same_behind folder p q h
 join_case false false false false folder p q he hf hs h = ap (drop 1) (same_behind folder (47 ∷ p) (47 ∷ q) h)
 
--- two relative paths that are one place below a folder are one path
+-- two relative paths that are the same path below a folder are one path
 pub join_same : (folder p q : List ℕ) → (length folder == 0) ≡ false → begins_with_slash p ≡ false → begins_with_slash q ≡ false → join folder p ≡ join folder q → p ≡ q
 join_same folder p q some hp hq h = join_case (length folder == 0) (begins_with_slash p) (begins_with_slash q) (ends_with_slash folder) folder p q some hp hq h

@@ -14,15 +14,15 @@ use Rattle.tame_names.specs.declared.errors.ReservedNameKind.{ReservedNameKind}
 use Rattle.tame_names.specs.declared.errors.ReservedNameKind.TheVariants.{Keyword, Artifact, Windows, Standard}
 use Rattle.tame_names.proofs.Ascii.{char_name, no_bad, none_found, not_first}
 
--- ---- characters at their places
+-- ---- characters at their positions
 
--- where none is bad, each is one of a name
+-- if none is bad, each is one of a name
 each_char : (n : ℕ) (cs : List ℕ) → find (λ (p : ℕ × ℕ). not (is_char_at p)) (enumerate_from n cs) ≡ None → All (λ c. IsTrue (is_name_char c)) cs
 each_char n [] h k d low = absurd (omega (arith, low))
 each_char n (c ∷ cs) h zero d low = char_name (n == 0) c (none_found (is_char_at (n, c)) _ _ h).0
 each_char n (c ∷ cs) h (suc k) d low = each_char (n + 1) cs (none_found (is_char_at (n, c)) _ _ h).1 k d (omega (arith, low))
 
--- and the first is one that may stand in front
+-- and the first is one that may be at the front
 front_char : (cs : List ℕ) → find (λ (p : ℕ × ℕ). not (is_char_at p)) (enumerate_from 0 cs) ≡ None → IfSome (slice_get cs 0) (λ c. IsTrue (is_first_char c))
 front_char [] h = tt
 front_char (c ∷ cs) h = (none_found (is_char_at (0, c)) _ _ h).0
@@ -35,7 +35,7 @@ none_behind n (c ∷ cs) low each =
     let rest = none_behind (n + 1) cs (omega arith) (λ k d below. each (suc k) d (omega (arith, below))) in
     rw later (rw here rest)
 
--- characters of a name behind one that may stand in front
+-- characters of a name after one that may be at the front
 none_bad : (cs : List ℕ) → IfSome (slice_get cs 0) (λ c. IsTrue (is_first_char c)) → All (λ c. IsTrue (is_name_char c)) cs → find (λ (p : ℕ × ℕ). not (is_char_at p)) (enumerate_from 0 cs) ≡ None
 none_bad [] front each = refl
 none_bad (c ∷ cs) front each =

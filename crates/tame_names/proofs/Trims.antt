@@ -29,13 +29,13 @@ without_end-other m (b ∷ bs) (suc k) low is =
     let more : k < length bs = omega (arith, low) in
     rw (without_end-other m bs k more is) (kept (b == m) (length (take (suc k) bs)) b (take (suc k) bs) (some bs k more))
 
--- a needle in front of the end makes no difference
+-- a needle before the end makes no difference
 pub needle_before : (m : ℕ) (bs : List ℕ) (e : ℕ) → 0 < e → e ≤ length bs → get_or bs (e - 1) 0 ≡ m → without_end m (take e bs) ≡ without_end m (take (e - 1) bs)
 needle_before m bs e low high is =
     let same : e ≡ suc (e - 1) = omega arith in
     ap (λ n. without_end m (take n bs)) same ∙ without_end-needle m bs (e - 1) (omega arith) is
 
--- another byte in front of the end stays
+-- another byte before the end stays
 pub other_before : (m : ℕ) (bs : List ℕ) (e : ℕ) → 0 < e → e ≤ length bs → (get_or bs (e - 1) 0 ≡ m → ⊥) → without_end m (take e bs) ≡ take e bs
 other_before m bs e low high other =
     let same : e ≡ suc (e - 1) = omega arith in

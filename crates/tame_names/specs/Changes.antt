@@ -1,4 +1,4 @@
--- What a call that writes makes of what a host has (this project).
+-- How a call that writes changes what a host has (this project).
 use Rattle.std.specs.Prelude.{◌≡◌, ℕ, List, [], ◌∷◌, ◌++◌, take, Bool, true, false, ◌⊎◌, Option, Some, None, if◌then◌else◌, Result, Ok, Err}
 use Rattle.tame_names.specs.Paths.{file_name, is_same, parent, ways_to}
 use Rattle.tame_names.specs.Standing.{Host, Standing, Nothing, File, Folder}
@@ -23,7 +23,7 @@ abbrev pub is_path_of : Option (List ℕ) → List ℕ → Bool
 is_path_of None path = false
 is_path_of (Some folder) path = is_same folder path
 
--- the entry of what came at a path
+-- the entry of what was added at a path
 abbrev pub entry_of : List ℕ → Standing → Listed
 entry_of path new = record { name = Some (file_name path); file = is_file new }
 
@@ -32,7 +32,7 @@ abbrev pub with_entry : Listed → Standing → Standing
 with_entry entry (Folder entries) = Folder (entries ++ entry ∷ [])
 with_entry entry standing = standing
 
--- what stands at each path once the folder that a path is in has its entry
+-- what is at each path once the folder that a path is in has its entry
 abbrev pub with_gain : List ℕ → Listed → (List ℕ → Standing) → List ℕ → Standing
 with_gain path entry stands q =
     if is_path_of (parent path) q then with_entry entry (stands q) else stands q
@@ -40,8 +40,8 @@ with_gain path entry stands q =
 abbrev pub with_gain_if : Bool → List ℕ → Listed → (List ℕ → Standing) → List ℕ → Standing
 with_gain_if new path entry stands q = if new then with_gain path entry stands q else stands q
 
--- what stands at each path once this stands at one of them: where nothing was there, the folder
--- that it is in gains its entry
+-- what is at each path once this is at one of them: if nothing was there, the folder that it is in
+-- gains its entry
 abbrev pub with_standing : List ℕ → Standing → (List ℕ → Standing) → List ℕ → Standing
 with_standing path new stands q =
     if is_same path q then new
@@ -49,11 +49,11 @@ with_standing path new stands q =
 
 -- ---- a file, and folders
 
--- a host in which a file with these bytes stands at a path
+-- a host in which a file with these bytes is at a path
 abbrev pub with_file : List ℕ → List ℕ → Host → Host
 with_file path bytes host = record host { stands = with_standing path (File bytes) host.stands }
 
--- with an empty folder at a path, where nothing was there
+-- with an empty folder at a path, if nothing was there
 abbrev pub with_folder_at : List ℕ → (List ℕ → Standing) → List ℕ → Standing
 with_folder_at path stands =
     if is_nothing (stands path) then with_standing path (Folder []) stands else stands
@@ -68,8 +68,8 @@ with_folders paths host = record host { stands = with_folders_at paths host.stan
 
 -- ---- calls
 
--- a file can be made at a path: nothing is there, and the folder that it is in is there, or is the
--- current one
+-- a file can be created at a path: nothing is there, and the folder that it is in is there, or is
+-- the current one
 abbrev pub can_hold : Option (List ℕ) → (List ℕ → Standing) → Bool
 can_hold None stands = false
 can_hold (Some []) stands = true
@@ -79,8 +79,8 @@ abbrev pub can_create : List ℕ → (List ℕ → Standing) → Bool
 can_create path stands =
     if is_nothing (stands path) then can_hold (parent path) stands else false
 
--- a call that makes a file where one can be made: all of it, or after a fault nothing or a part from
--- its front; where none can be made it fails, and nothing changes
+-- a call that creates a file, if one can be created: all of it, or after a fault nothing or a part
+-- from its front; if none can be created it fails, and nothing changes
 abbrev pub Creates : {E : Type 0} → List ℕ → List ℕ → Host → Host → Result Unit E → Type 0
 Creates path bytes before now (Ok done) =
     (can_create path before.stands ≡ true) × (now ≡ with_file path bytes before)
@@ -88,14 +88,14 @@ Creates path bytes before now (Err fault) =
     (now ≡ before) ⊎ ((can_create path before.stands ≡ true)
     × ((n : ℕ) × (now ≡ with_file path (take n bytes) before)))
 
--- a call that makes the folder at a path and those on the way to it that are missing, or after a
--- fault some of them from the front
+-- a call that creates the folder at a path and the missing ones on the way to it, or after a fault
+-- the first few of them
 abbrev pub MakesFolders : {E : Type 0} → List ℕ → Host → Host → Result Unit E → Type 0
 MakesFolders path before now (Ok done) = now ≡ with_folders (ways_to path) before
 MakesFolders path before now (Err fault) =
     (n : ℕ) × (now ≡ with_folders (take n (ways_to path)) before)
 
--- every folder on the way to a path is there or can be made
+-- every folder on the way to a path is there or can be created
 abbrev pub AreFolders : List (List ℕ) → (List ℕ → Standing) → Type 0
 AreFolders [] stands = Unit {0}
 AreFolders (path ∷ paths) stands =

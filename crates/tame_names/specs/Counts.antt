@@ -1,16 +1,16 @@
--- Counts of faults. Each object of the outside counts how often it has failed.
+-- Counts of faults. Each outside object counts how often it has failed.
 use Rattle.std.specs.Prelude.{◌≡◌, ◌≢◌, ◌+◌, ◌-◌, ◌^◌, ◌<◌, ◌≤◌, ℕ, min, nat_eq, List, IsTrue, Result, IfErr, IsOk}
 use Rattle.std.specs.List.{list_any}
 
--- a count rose: it is higher at the second moment, or it stands at its end there
+-- a count rose: it is higher at the second moment, or is at its maximum there
 abbrev pub CountRose : ℕ → ℕ → Type 0
 CountRose before now = min (before + 1) (2 ^ 64 - 1) ≤ now
 
--- a count rose by this much, or stands at its end
+-- a count rose by this much, or is at its maximum
 abbrev pub CountRoseBy : ℕ → ℕ → ℕ → Type 0
 CountRoseBy more before now = min (before + more) (2 ^ 64 - 1) ≤ now
 
--- a count stayed: it is the same at both moments, and below its end
+-- a count stayed: it is the same at both moments, and below its maximum
 abbrev pub CountStayed : ℕ → ℕ → Type 0
 CountStayed before now = (now ≡ before) × (before < 2 ^ 64 - 1)
 
@@ -22,9 +22,9 @@ pub record HasCause {T E : Type 0} (no_memory : E) (before now : ℕ)
   pub failed : IfErr result (λ e. e ≢ no_memory → CountRose before now)
   pub stayed : IsOk result → now ≡ before
 
--- ---- calls that are to fail, by their numbers
+-- ---- calls that must fail, by their numbers
 
--- one call more; the count stays at its end
+-- one call more; the count stays at its maximum
 abbrev pub next_call : ℕ → ℕ
 next_call count = min (count + 1) (2 ^ 64 - 1)
 

@@ -30,13 +30,13 @@ take_step path exclusive block fault =
     record { path = path; exclusive = exclusive; call = lock_call.Take block fault }
 
 -- what a host was asked of locks: the steps, the files that it gave out to be locked, and those of
--- them whose lock was taken, each with the first in front
+-- them whose lock was taken, each in order
 pub record Locks : Type 0 where
   pub steps : List LockStep
   pub opened : List OpenedLock
   pub taken : List OpenedLock
 
--- an opening is a step, and a file that it gives out is one more; at want of memory nothing is
+-- an opening is a step, and a file that it gives out is one more; if out of memory, nothing changes
 abbrev pub after_opening : List ℕ → Bool → Result (Result OpenedLock LockOpenFault) NoMemory
     → Locks → Locks
 after_opening path exclusive (Ok (Ok file)) locks = record {
@@ -51,8 +51,8 @@ after_opening path exclusive (Ok (Err fault)) locks = record {
 }
 after_opening path exclusive (Err no_memory) locks = locks
 
--- a taking is a step, and where it is done its file is one more whose lock was taken; at want of
--- memory nothing is
+-- a taking is a step, and if it succeeds its file is one more whose lock was taken; if out of
+-- memory, nothing changes
 abbrev pub after_taking : List ℕ → OpenedLock → Bool → Bool
     → Result (Result Unit LockTakeFault) NoMemory → Locks → Locks
 after_taking path file exclusive block (Ok (Ok done)) locks = record {
@@ -88,9 +88,9 @@ pub record HasLockCause (failed : Type 0) (before now : ℕ) : Type 0 where
   pub later : before ≤ now
   pub rose : failed → CountRose before now
 
--- ---- what stands afterwards
+-- ---- what the host has afterwards
 
--- a host stays, but that an exclusive opening may make an empty file where nothing was
+-- a host stays, but that an exclusive opening may create an empty file if nothing was there
 abbrev pub MayMake : Bool → List ℕ → Host → Host → Type 0
 MayMake exclusive path before now = (now ≡ before)
     ⊎ ((exclusive ≡ true) × (before.stands path ≡ Nothing) × (now ≡ with_file path [] before))

@@ -34,7 +34,7 @@ abbrev pub standing_of : Option MemFile → Standing
 standing_of None = Nothing
 standing_of (Some file) = node_standing file.node
 
--- what stands at a path: the first that is there, or nothing
+-- what is at a path: the first that is there, or nothing
 abbrev pub standing_in : List MemFile → List ℕ → Standing
 standing_in files path = standing_of (file_at files path)
 
@@ -60,30 +60,30 @@ IsReadable Nothing = Unit {0}
 IsReadable (File bytes) = Unit {0}
 IsReadable _ = ⊥
 
--- what a read answers that needs no memory: that nothing is there, or that a file is over the limit
+-- a read's answer that needs no memory: that nothing is there, or that a file is over the limit
 abbrev pub read_free : Standing → ℕ → Option ReadAnswer
 read_free Nothing limit = Some answer.Absent
 read_free (File bytes) limit =
     if nat_lt limit (length bytes) then Some (answer.Over (length bytes)) else None
 read_free _ limit = None
 
--- what the read of a part answers that needs no memory: that nothing is there
+-- the answer of a read of a part that needs no memory: that nothing is there
 abbrev pub part_free : Standing → Option (Option (Vec ℕ Global))
 part_free Nothing = Some None
 part_free _ = None
 
--- what a listing answers that needs no memory: that no folder is there
+-- a listing's answer that needs no memory: that no folder is there
 abbrev pub list_free : Standing → Option (Option (List Listed))
 list_free (Folder entries) = None
 list_free _ = Some None
 
--- the value of a variable that needs no memory: any but a text
+-- the value of a variable that needs no memory: any but a string
 abbrev pub value_free : EnvValue → Option EnvValue
 value_free (env_value.Value text) = None
 value_free value = Some value
 
--- one call more is counted. If its number is listed, it fails. Else it doesn't, if it can succeed,
--- unless memory runs out; and an answer that needs no memory comes. Each failure is counted, no
+-- one call more is counted. If its number is listed, it fails. Else, if it can succeed, it does
+-- unless it is out of memory; and an answer that needs no memory comes. Each failure is counted, no
 -- other call is, and the locks stay
 pub record Counted {T : Type 0} (can : Type 0) (free : Option T) (old new : MemFiles)
     (result : Result T FileFault) : Type 0 where

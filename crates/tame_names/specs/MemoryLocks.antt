@@ -30,7 +30,7 @@ abbrev pub taken_by : LockCall → List OpenedLock
 taken_by (lock_call.Take block None) = no_file ∷ []
 taken_by _ = []
 
--- what these steps make of locks
+-- the locks after these steps
 abbrev pub locks_after : List LockStep → Locks
 locks_after steps = record {
   steps = steps;
@@ -38,12 +38,12 @@ locks_after steps = record {
   taken = flat_map (λ step. taken_by step.call) steps;
 }
 
--- why an opening is refused that is to give this answer; without one it fails
+-- why an opening is refused, given its stated answer; without one it fails
 abbrev pub opening_stated : Option LockAnswer → Option LockOpenFault
 opening_stated (Some (lock_answer.Open fault)) = fault
 opening_stated _ = Some open_fault.Failed
 
--- why a taking is refused that is to give this answer; without one it fails
+-- why a taking is refused, given its stated answer; without one it fails
 abbrev pub taking_fault : Option LockAnswer → Option LockTakeFault
 taking_fault (Some (lock_answer.Take fault)) = fault
 taking_fault _ = Some take_fault.Failed
@@ -53,14 +53,14 @@ abbrev pub waiting_fault : Option LockTakeFault → Option LockTakeFault
 waiting_fault (Some take_fault.Contested) = Some take_fault.Failed
 waiting_fault fault = fault
 
--- the same of a taking that may wait, of a file that it gave out; of a file of the system it fails
+-- the same for a taking that may wait, of a file that it gave out; of a file of the system it fails
 abbrev pub taking_stated : {A : Type 0} → Option A → Bool → Option LockAnswer → Option LockTakeFault
 taking_stated None true stated = waiting_fault (taking_fault stated)
 taking_stated None false stated = taking_fault stated
 taking_stated (Some file) block stated = Some take_fault.Failed
 
--- one call more is counted, and one more of the answers is given. If its number is listed, it fails;
--- else the answer is the one that was stated. A failure is counted, and no other answer is
+-- one call more is counted, and one more answer is given. If its number is listed, it fails; else
+-- the answer is the one that was stated. A failure is counted, and no other answer is
 pub record LockCounted {T E : Type 0} (failed : E) (answer : Option E → LockAnswer)
     (stated : Option LockAnswer → Option E) (old new : MemFiles) (result : Result (Result T E) NoMemory) : Type 0 where
   pub count : new.calls ≡ next_call old.calls

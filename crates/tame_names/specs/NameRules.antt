@@ -1,5 +1,5 @@
--- Names of cargo and of crates.io by what each has to meet, in no order.
--- The rules of cargo and of crates.io for the names of new packages.
+-- Names of cargo and of crates.io by the rules that each must meet, in no order. The rules of cargo
+-- and of crates.io for the names of new packages.
 use Rattle.std.specs.Prelude.{◌≤◌, ℕ, List, ◌++◌, length, IsTrue, IfSome, All, Contains, slice_get, Bool, ◌==◌, ◌||◌}
 use Rattle.std.specs.Char.{is_ascii_alphabetic}
 use Rattle.std.specs.Str.{chars}

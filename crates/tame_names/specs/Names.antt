@@ -1,6 +1,5 @@
--- Names of crates and their places in an index.
--- Cargo Book, "Registry Index" (characters of a name, folders of index files) and "The Manifest
--- Format" (names).
+-- Names of crates and their paths in an index. Cargo Book, "Registry Index" (characters of a name,
+-- folders of index files) and "The Manifest Format" (names).
 use Rattle.std.specs.Prelude.{◌≡◌, ℕ, codes, List, ◌++◌, length, take, drop, Bool, true, false, not, nat_lt, ◌==◌, ◌||◌, bytes_eq, Option, Some, None, is_none, option_map, unwrap_or, find, if◌then◌else◌, encode_utf8}
 use Rattle.std.specs.List.{enumerate_from, list_any}
 use Rattle.std.specs.Char.{is_ascii_alphabetic, is_ascii_alphanumeric}
@@ -11,8 +10,8 @@ use Rattle.tame_names.specs.declared.errors.InvalidKrateName.TheVariants.{Invali
 use Rattle.tame_names.specs.declared.errors.ReservedNameKind.{ReservedNameKind}
 use Rattle.tame_names.specs.declared.errors.ReservedNameKind.TheVariants.{Keyword, Artifact, Windows, Standard}
 
--- why a text is no name: its number of characters, a character and its place, or what it is
--- reserved as
+-- why a text is no name: its number of characters, a character and its position, or why it is
+-- reserved
 pub data NameRefusal : Type 0 where
   HasLength : (count : ℕ) → NameRefusal
   HasCharacter : (character place : ℕ) → NameRefusal
@@ -23,13 +22,13 @@ refusal (InvalidLength n) = HasLength n
 refusal (InvalidCharacter c at) = HasCharacter c at
 refusal (ReservedName name kind) = IsReserved name.now kind
 
--- ---- what every name keeps
+-- ---- the rule of every name
 
 -- an ASCII letter or digit, `-` or `_`
 abbrev pub is_name_char : ℕ → Bool
 is_name_char c = is_ascii_alphanumeric c || c == 45 || c == 95
 
--- the first character that a name may not have, with its place among the characters
+-- the first character that a name must not have, with its position among the characters
 abbrev pub first_invalid : List ℕ → Option (ℕ × ℕ)
 first_invalid text = find (λ p. not (is_name_char p.1)) (enumerate_from 0 (chars text))
 
@@ -42,7 +41,7 @@ refusal_of text =
 abbrev pub is_name : List ℕ → Bool
 is_name text = is_none (refusal_of text)
 
--- ---- what cargo and crates.io want besides
+-- ---- what cargo and crates.io also require
 
 -- the first character is a letter or `_`
 abbrev pub is_char_at : ℕ × ℕ → Bool
@@ -82,7 +81,7 @@ reserved_kind text =
     else if stands_in text libraries then Some Standard
     else None
 
--- a place that counts, and a length that is too long, where there is a limit
+-- a position that counts, and a length that is too long, if there is a limit
 abbrev pub is_within : Option ℕ → ℕ → Bool
 is_within None place = true
 is_within (Some limit) place = nat_lt place limit
@@ -105,9 +104,9 @@ abbrev pub strict_refusal : Option ℕ → List ℕ → Option NameRefusal
 strict_refusal limit text =
     if length text == 0 then Some (HasLength 0) else by_characters limit text (first_bad text)
 
--- ---- places
+-- ---- paths
 
--- the folders of a name, by its number of letters, parted by a separator
+-- the folders of a name, by its number of letters, separated by a separator
 abbrev pub prefix : List ℕ → List ℕ → List ℕ
 prefix sep name =
     if length name == 1 then codes "1"

@@ -1,4 +1,4 @@
--- Bytes cut at a needle, with no last piece behind a needle that ends them.
+-- Bytes cut at a needle, with no last piece after a needle that ends them.
 use Rattle.std.specs.Prelude.{ℕ, List, [], ◌∷◌, length, Bool, false, ◌==◌, ◌&&◌, if◌then◌else◌}
 
 -- the first piece begins with this byte

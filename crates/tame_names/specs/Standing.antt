@@ -1,4 +1,4 @@
--- What a host has: what stands at its paths, its input, its environment and its current folder; and
+-- What a host has: what is at its paths, its input, its environment and its current folder; and
 -- what calls on it may answer (this project).
 use Rattle.std.specs.Prelude.{◌≡◌, ◌≤◌, ◌<◌, ℕ, List, [], ◌∷◌, ◌++◌, length, take, drop, codes, bytes_eq, Option, Some, None, Vec, if◌then◌else◌, Result, Ok, Err}
 use Rattle.std.specs.declared.alloc.Global.{Global}
@@ -16,8 +16,7 @@ use Rattle.tame_names.specs.declared.host.ReadAnswer.TheVariants as answer
 
 -- ---- what a host has
 
--- what stands at a path: nothing, a file with its bytes, a folder with its entries, or another
--- thing
+-- what is at a path: nothing, a file with its bytes, a folder with its entries, or another thing
 pub data Standing : Type 0 where
   Nothing : Standing
   File : (bytes : List ℕ) → Standing
@@ -25,7 +24,7 @@ pub data Standing : Type 0 where
   Other : Standing
 
 pub record Host : Type 0 where
-  -- what stands at each path
+  -- what is at each path
   pub stands : List ℕ → Standing
   -- the bytes of standard input
   pub input : List ℕ
@@ -38,7 +37,7 @@ pub record Host : Type 0 where
 abbrev pub IsInput : List ℕ → Type 0
 IsInput path = path ≡ codes "-"
 
--- a host stays, but that its input may have been read where this is so
+-- a host stays, but that its input may have been read if this holds
 pub record StaysButInput (reads : Type 0) (old new : Host) : Type 0 where
   pub stands : new.stands ≡ old.stands
   pub environment : new.environment ≡ old.environment
@@ -47,8 +46,8 @@ pub record StaysButInput (reads : Type 0) (old new : Host) : Type 0 where
 
 -- ---- what calls answer
 
--- absent exactly where nothing is there, whole exactly where a file within the limit is, over
--- exactly where a longer one is, with its length
+-- absent exactly if nothing is there, whole exactly if a file within the limit is, over exactly if
+-- a longer one is, with its length
 abbrev pub Reads : Standing → ℕ → Result ReadAnswer FileFault → Type 0
 Reads s limit (Ok answer.Absent) = s ≡ Nothing
 Reads s limit (Ok (answer.Whole bytes)) = (s ≡ File bytes.items) × (length bytes.items ≤ limit)
@@ -56,7 +55,7 @@ Reads s limit (Ok (answer.Over n)) =
     (bytes : List ℕ) × (s ≡ File bytes) × (n ≡ length bytes) × (limit < n)
 Reads s limit (Err fault) = Unit {0}
 
--- absent exactly where nothing is there; else the bytes of a file from this number on, as many as
+-- absent exactly if nothing is there; else the bytes of a file from this number on, as many as
 -- there are, and no more than the limit
 abbrev pub ReadsPart : Standing → ℕ → ℕ → Result (Option (Vec ℕ Global)) FileFault → Type 0
 ReadsPart s from limit (Ok None) = s ≡ Nothing
@@ -79,7 +78,7 @@ abbrev pub IsAboveLimit : ℕ → Result ReadAnswer FileFault → Type 0
 IsAboveLimit limit (Ok (answer.Over n)) = limit < n
 IsAboveLimit limit _ = Unit {0}
 
--- the entries of a folder; nothing where no folder is
+-- the entries of a folder; nothing if no folder is there
 abbrev pub listing : Standing → Option (List Listed)
 listing (Folder entries) = Some entries
 listing _ = None
@@ -92,7 +91,7 @@ kind_of Other = kind.Other
 
 -- ---- calls that failed
 
--- a call that failed is added to the list of failed calls; want of memory is no failure
+-- a call that failed is added to the list of failed calls; being out of memory is no failure
 abbrev pub with_fault : List FailedCall → FileCall → Option (List ℕ) → FileFault → List FailedCall
 with_fault before call path file_fault.Failed = before ++ record { call = call; path = path } ∷ []
 with_fault before call path file_fault.NoMemory = before
@@ -102,7 +101,7 @@ abbrev pub failed_calls : {T : Type 0} → List FailedCall → FileCall → Opti
 failed_calls before call path (Err fault) = with_fault before call path fault
 failed_calls before call path (Ok a) = before
 
--- the call that reads what is at a path, where `-` is standard input
+-- the call that reads what is at a path; `-` is standard input
 abbrev pub reading_call : List ℕ → FailedCall
 reading_call path =
     if bytes_eq path (codes "-") then record { call = file_call.ReadStdin; path = None }

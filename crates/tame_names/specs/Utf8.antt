@@ -2,6 +2,6 @@
 use Rattle.std.specs.Prelude.{ℕ, List, Option, Some, None, if◌then◌else◌}
 use Rattle.std.specs.Str.{is_utf8}
 
--- the bytes, where they are UTF-8
+-- the bytes, if they are UTF-8
 abbrev pub utf8_text : List ℕ → Option (List ℕ)
 utf8_text bytes = if is_utf8 bytes then Some bytes else None

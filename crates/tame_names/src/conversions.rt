@@ -1,4 +1,4 @@
-//! Errors handed on: each is the variant that holds it.
+//! Errors passed on: each becomes the variant that holds it.
 use crate::errors::{
     CacheError, Error, FileLockError, HttpError, InvalidJsonLines, InvalidKrateName, InvalidUrl,
     LocalRegistryError, NoMemory,

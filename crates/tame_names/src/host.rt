@@ -7,12 +7,12 @@ use crate::lists::Items;
 use crate::texts::Text;
 use std::alloc::Global;
 
-/// Why a call on the host has no answer.
+/// Why a call on the host fails.
 #[derive(Clone, Copy, Debug, PartialEq, Eq)]
 pub enum FileFault {
     /// The host couldn't do it; the call was counted.
     Failed,
-    /// Memory ran out; the call isn't counted.
+    /// Out of memory; the call isn't counted.
     NoMemory,
 }
 
@@ -33,7 +33,7 @@ pub enum ReadAnswer {
     Absent,
     /// The bytes of the file, no more than the limit.
     Whole(Vec<u8>),
-    /// The file has this number of bytes, which is above the limit; where it grows meanwhile, this
+    /// The file has this number of bytes, which is above the limit; if it grows meanwhile, this
     /// number or more.
     Over(u64),
 }
@@ -41,20 +41,20 @@ pub enum ReadAnswer {
 /// An entry of a folder.
 #[derive(Debug, Drop, PartialEq, Eq)]
 pub struct Listed {
-    /// Its name in the folder; none where this isn't UTF-8.
+    /// Its name in the folder; none if it isn't UTF-8.
     pub name: Option<Text>,
     /// Whether it is a file.
     pub file: bool,
 }
 
-/// What is at a path, where links lead.
+/// What is at a path, after links.
 #[derive(Clone, Copy, Debug, PartialEq, Eq)]
 pub enum PathKind {
     /// Nothing.
     Absent,
     File,
     Folder,
-    /// What is neither: a device, say.
+    /// Neither: a device, say.
     Other,
 }
 
@@ -65,7 +65,7 @@ pub enum EnvValue {
     Unset,
     /// It is set, and isn't UTF-8.
     NotUtf8,
-    /// It is this text.
+    /// It is this string.
     Value(Text),
 }
 
@@ -89,12 +89,12 @@ pub enum FileCall {
 pub struct FailedCall {
     /// Which call it was.
     pub call: FileCall,
-    /// Its path, or the name of its variable; none of a call that has neither.
+    /// Its path, or the name of its variable; none for a call that has neither.
     pub path: Option<Text>,
 }
 
 /// A file that was opened to be locked; none on a host without files of the system. Its lock is
-/// given back as it is dropped.
+/// released when it is dropped.
 #[derive(Debug, Drop)]
 pub struct OpenedLock {
     /// The file of the system.
@@ -104,7 +104,7 @@ pub struct OpenedLock {
 /// Why a file wasn't opened to be locked.
 #[derive(Clone, Copy, Debug, PartialEq, Eq)]
 pub enum LockOpenFault {
-    /// Nothing is there, or no folder to make it in.
+    /// Nothing is there, or no folder to create it in.
     NotFound,
     /// There is no permission, or the file system is read-only.
     Denied,
@@ -128,22 +128,22 @@ pub enum LockTakeFault {
 pub enum LockCall {
     /// An opening.
     Open(Option<LockOpenFault>),
-    /// A taking, which waits for its turn or doesn't.
+    /// A taking, which may or may not wait for its turn.
     Take(bool, Option<LockTakeFault>),
 }
 
 /// A step on a lock.
 #[derive(Debug, Drop, PartialEq, Eq)]
 pub struct LockStep {
-    /// The path, as the call was given it.
+    /// The path, as given to the call.
     pub path: Text,
-    /// Whether the file was to be locked for oneself alone.
+    /// Whether the file was to be locked for one user alone.
     pub exclusive: bool,
     /// The call, and why it was refused.
     pub call: LockCall,
 }
 
-/// The host. A path that ends with slashes stands for the path without them, but for `/` itself.
+/// The host. A path that ends with slashes is the same as the path without them, except `/` itself.
 pub trait Files {
     ghost use Rattle.tame_names.specs.Changes.{AreFolders, Creates, MakesFolders, is_folder};
     ghost use Rattle.tame_names.specs.Locks.{HasLockCause, Locks, Makes, after_opening, after_taking, failed_opening, failed_taking};
@@ -154,23 +154,23 @@ pub trait Files {
     /// That it tells what it has and which calls have failed.
     ghost tells: { Type 0 };
 
-    /// What it has, where it tells it.
+    /// What it has, if it tells it.
     ghost host: { Self → Host };
 
-    /// The calls that have failed, the first in front, where they are told.
+    /// The calls that have failed, in order, if they are told.
     ghost failed: { Self → List FailedCall };
 
-    /// What it was asked of locks, where it is told.
+    /// What it was asked of locks, if that is told.
     ghost locks: { Self → Locks };
 
     /// How often a call has failed.
     ghost faults: { Self → ℕ };
 
-    /// How often a call has failed; the count stays at 2^64 - 1 once it is there.
+    /// How often a call has failed; the count stays at 2^64 - 1 once it reaches it.
     fn file_faults(&self) -> u64
         ensures { result ≡ faults self.now };
 
-    /// Reads the file at a path, where it has no more than `limit` bytes.
+    /// Reads the file at a path, if it has no more than `limit` bytes.
     fn read(&mut self, alloc: Global, path: &str, limit: u64) -> Result<ReadAnswer, FileFault>
         ensures cause { HasCause FileFault.NoMemory (faults self.old) (faults self.new) result }
         ensures above { IsAboveLimit limit result }
@@ -180,8 +180,8 @@ pub trait Files {
             ≡ failed_calls (failed self.old) FileCall.Read (Some path.now) result }
         ensures locks { tells → locks self.new ≡ locks self.old };
 
-    /// Reads a part of the file at a path: its bytes from number `from` on, and no more of them than
-    /// `limit`; nothing where nothing is there.
+    /// Reads a part of the file at a path: at most `limit` bytes, from number `from` on; nothing if
+    /// nothing is there.
     fn read_part(
         &mut self,
         alloc: Global,
@@ -197,8 +197,8 @@ pub trait Files {
             ≡ failed_calls (failed self.old) FileCall.Read (Some path.now) result }
         ensures locks { tells → locks self.new ≡ locks self.old };
 
-    /// Reads standard input, where it has no more than `limit` bytes. It is never absent. Read
-    /// whole, it is empty from then on.
+    /// Reads standard input, if it has no more than `limit` bytes. It is never absent. Once it is
+    /// read whole, it is empty.
     fn read_stdin(&mut self, alloc: Global, limit: u64) -> Result<ReadAnswer, FileFault>
         ensures cause { HasCause FileFault.NoMemory (faults self.old) (faults self.new) result }
         ensures above { IsAboveLimit limit result }
@@ -210,7 +210,7 @@ pub trait Files {
             ≡ failed_calls (failed self.old) FileCall.ReadStdin None result }
         ensures locks { tells → locks self.new ≡ locks self.old };
 
-    /// The entries of the folder at a path; nothing where no folder is there.
+    /// The entries of the folder at a path; nothing if no folder is there.
     fn list(&mut self, alloc: Global, path: &str) -> Result<Option<Items<Listed>>, FileFault>
         ensures cause { HasCause FileFault.NoMemory (faults self.old) (faults self.new) result }
         ensures same { tells → host self.new ≡ host self.old }
@@ -249,9 +249,9 @@ pub trait Files {
             ≡ failed_calls (failed self.old) FileCall.CurrentDir None result }
         ensures locks { tells → locks self.new ≡ locks self.old };
 
-    /// Makes the folder at a path, and those on the way to it that are missing; a folder that was
-    /// there gains the entry of one that is made in it, and no other path changes. It fails where
-    /// something else is on the way. After a fault some of them may have been made.
+    /// Creates the folder at a path and the missing ones on the way to it; a folder that was there
+    /// gains the entry of one that is created in it, and no other path changes. It fails if
+    /// something else is on the way. After a fault some of them may have been created.
     fn make_dirs(&mut self, path: &str) -> Result<(), FileFault>
         ensures cause { HasCause FileFault.NoMemory (faults self.old) (faults self.new) result }
         ensures made { tells → MakesFolders path.now (host self.old) (host self.new) result }
@@ -263,10 +263,10 @@ pub trait Files {
             ≡ failed_calls (failed self.old) FileCall.MakeDirs (Some path.now) result }
         ensures locks { tells → locks self.new ≡ locks self.old };
 
-    /// Makes the file at a path, which then has these bytes; the folder that it is in gains its
-    /// entry, and no other path changes. It fails, and nothing changes, where something is there,
-    /// and where the folder that it is in isn't there. After a fault the file may have a part of
-    /// the bytes, from the front.
+    /// Creates the file at a path, which then has these bytes; the folder that it is in gains its
+    /// entry, and no other path changes. It fails, and nothing changes, if something is there, or
+    /// if the folder that it is in isn't there. After a fault the file may have a part of the
+    /// bytes, from the front.
     fn create(&mut self, path: &str, bytes: &[u8]) -> Result<(), FileFault>
         ensures cause { HasCause FileFault.NoMemory (faults self.old) (faults self.new) result }
         ensures created { tells
@@ -276,7 +276,8 @@ pub trait Files {
         ensures locks { tells → locks self.new ≡ locks self.old };
 
     /// Opens the file at a path to be locked: to be read, or exclusively to be written, which may
-    /// make an empty file where nothing is. An error is want of memory, and nothing was done then.
+    /// create an empty file if nothing is there. An error means out of memory, and nothing was
+    /// done.
     fn open_lock(
         &mut self,
         path: &str,
@@ -292,9 +293,9 @@ pub trait Files {
         ensures locks { tells → locks self.new
             ≡ after_opening path.now exclusive result (locks self.old) };
 
-    /// Takes the lock of an opened file, for oneself (`exclusive`) or with others; waits for its
-    /// turn where it may (`block`), and else is contested where another one holds it. An error is
-    /// want of memory, and nothing was done then.
+    /// Takes the lock of an opened file, alone (`exclusive`) or with others. If another holds it,
+    /// the call waits if it may (`block`), and else is contested. An error means out of memory, and
+    /// nothing was done.
     fn take_lock(
         &mut self,
         path: &str,

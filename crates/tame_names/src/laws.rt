@@ -4,9 +4,9 @@ ghost use Rattle.std.specs.Str.{IsUtf8};
 ghost use Rattle.tame_names.specs.NameRules.{IsCargoName, IsCratesIoName};
 ghost use Rattle.tame_names.specs.Names.{strict_refusal};
 
-/// Cargo and crates.io accept exactly the texts that meet their rules, said in no order: there is a
-/// character, the first is an ASCII letter or `_`, each is an ASCII letter or digit, `-` or `_`,
-/// and the text isn't reserved; crates.io wants besides that there are at most 64.
+/// Cargo and crates.io accept exactly the strings that meet their rules, said in no order: there is
+/// a character, the first is an ASCII letter or `_`, each is an ASCII letter or digit, `-` or `_`,
+/// and the string isn't reserved; crates.io also requires at most 64 characters.
 pub fn names_by_their_rules()
     ensures cargo { (text : List ℕ) → IsUtf8 text
         → (strict_refusal None text ≡ None) ↔ IsCargoName text }

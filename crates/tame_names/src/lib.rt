@@ -1,11 +1,11 @@
-//! Crate names with their place in an index, texts and lists that contracts see as lists, and the
+//! Crate names with their path in an index, strings and lists that contracts see as lists, and the
 //! traits through which the product reaches files and their locks (`Files`), bytes that come in
 //! (`Source`) and output (`Sink`).
 //!
 //! Promises: a name is accepted exactly by its rule, and its path is a function of it; what a call
 //! on a host answers is a function of what the host has, and so is what a call that writes leaves;
-//! a fault of a sink leaves a part of the piece from the front.
-//! Stands on `memchr` and `thiserror`, and on no crate here.
+//! after a fault of a sink, it holds a part of the piece from the front. Depends on `memchr` and
+//! `thiserror`, and on no crate here.
 //!
 //! ```ignore
 //! // crates/uses/src/indexes.rt: path_in_index

@@ -1,18 +1,18 @@
-//! Locks that a cache is used under.
+//! Locks under which a cache is used.
 use crate::host::OpenedLock;
 
 /// How a lock is held.
 #[derive(Clone, Copy, Debug, PartialEq, Eq)]
 pub enum LockState {
-    /// For oneself alone.
+    /// By one holder alone.
     Exclusive,
-    /// Beside others that hold it so.
+    /// Together with others that hold it so.
     Shared,
     /// Not at all.
     Unlocked,
 }
 
-/// That a file's lock is held, or that none is. It doesn't keep others out by itself.
+/// Shows that a file's lock is held, or that none is. It doesn't keep others out by itself.
 #[derive(Debug, Drop)]
 pub struct FileLock {
     state: LockState,
@@ -32,7 +32,7 @@ impl FileLock {
         }
     }
 
-    /// The lock of an opened file, held in this way; it is given back as this is dropped.
+    /// The lock of an opened file, held in this way; it is released when this is dropped.
     pub fn holding(opened: OpenedLock, state: LockState) -> FileLock
         ensures state { result.state ≡ state }
         ensures opened { result.opened ≡ opened }

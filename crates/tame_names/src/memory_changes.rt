@@ -1,4 +1,4 @@
-//! What calls that write make of the files in memory. What is new stands in front, where it counts
+//! How calls that write change the files in memory. What is new is at the front, where it counts
 //! before what was there.
 ghost use Rattle.std.specs.Prelude.{◌≡◌, ◌≢◌, ◌<◌, ◌++◌, ◌∷◌, [], ℕ, List, length, slice_index, take, true, false, Some, Ok, IfOk, OnOk, OnErr, option_map};
 ghost use Rattle.tame_names.specs.Changes.{AreFolders, is_folder, with_folder_at, with_folders_at, with_gain, with_standing};
@@ -14,7 +14,7 @@ use crate::paths::{file_name, parent};
 use crate::texts::Text;
 use std::alloc::Global;
 
-/// Whether a file can be made in a folder.
+/// Whether a file can be created in a folder.
 fn can_hold(files: &[MemFile], folder: Option<&str>) -> bool
     ensures { result
         ≡ spec.can_hold (option_map (λ path. path.now) folder.entry) (standing_in files.now) }
@@ -25,7 +25,7 @@ fn can_hold(files: &[MemFile], folder: Option<&str>) -> bool
     }
 }
 
-/// Whether a file can be made at a path.
+/// Whether a file can be created at a path.
 pub(crate) fn can_create(files: &[MemFile], path: &str) -> bool
     ensures { result ≡ spec.can_create path.now (standing_in files.now) }
 {
@@ -35,7 +35,7 @@ pub(crate) fn can_create(files: &[MemFile], path: &str) -> bool
     }
 }
 
-/// A folder with these entries and that of what came at a path.
+/// A folder with these entries and that of what was added at a path.
 fn folder_node(
     alloc: Global,
     folder: &str,
@@ -57,7 +57,7 @@ fn folder_node(
     })
 }
 
-/// The folder that a path is in, with one entry more, where a folder is there.
+/// The folder that a path is in, with one entry more, if a folder is there.
 fn folder_with(
     alloc: Global,
     files: &[MemFile],
@@ -82,7 +82,7 @@ fn folder_with(
     }
 }
 
-/// What changes where something comes at a path: the folder that it is in, where it is new.
+/// What changes if something is added at a path: the folder that it is in, if nothing was there.
 fn gains(
     alloc: Global,
     files: &[MemFile],
@@ -129,7 +129,7 @@ pub(crate) fn place(
     Ok(())
 }
 
-/// Makes an empty folder at a path where nothing is, and answers whether a folder is there then.
+/// Creates an empty folder at a path if nothing is there; answers whether a folder is there then.
 fn add_folder(alloc: Global, files: &mut Items<MemFile>, path: &str) -> Result<bool, NoMemory>
     ensures ok { OnOk result
         (standing_in files.new ≡ with_folder_at path.now (standing_in files.old)) }
@@ -147,7 +147,7 @@ fn add_folder(alloc: Global, files: &mut Items<MemFile>, path: &str) -> Result<b
     }
 }
 
-/// Makes folders at these paths, up to the first at which something else is, and answers whether
+/// Creates folders at these paths, up to the first at which something else is, and answers whether
 /// there are folders at all of them.
 pub(crate) fn add_folders(
     alloc: Global,
@@ -169,7 +169,7 @@ pub(crate) fn add_folders(
     Ok(true)
 }
 
-/// The part of a path that ends in front of a `/` at this place.
+/// The part of a path that ends before a `/` at this position.
 fn way_to(path: &str, at: usize) -> &str
     requires within { at < length path.now }
     requires slash { slice_index path.now at ≡ 47 }

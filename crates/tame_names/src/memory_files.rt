@@ -23,12 +23,12 @@ use crate::memory_variables::{MemVariable, value_of};
 use crate::texts::Text;
 use std::alloc::Global;
 
-/// A host in memory. Of paths that are equal but for slashes at their ends the first counts, and
-/// so of variables; a folder has the entries that were stated, and gains those of what a call makes
-/// in it. The calls whose numbers are listed, counted from 1, fail. The n-th call on a lock is to
-/// give the n-th answer; one that has none, or one of the other kind, fails, as does one that is to
-/// be contested though it waits for its turn, and a taking of a file of the system. No opening of a
-/// lock makes a file.
+/// A host in memory. Of paths that differ only in slashes at their ends the first counts, and of
+/// variables with one name too; a folder has the entries that were stated, and gains those of what
+/// a call creates in it. The calls whose numbers are listed, counted from 1, fail. The n-th call on
+/// a lock gives the n-th answer. It fails if it has none, or one of the other kind, or if its
+/// answer is contested though it waits for its turn; and so does a taking of a file of the system.
+/// No opening of a lock creates a file.
 #[derive(Drop)]
 pub struct MemFiles {
     pub(crate) alloc: Global,
@@ -44,7 +44,7 @@ pub struct MemFiles {
 }
 
 impl MemFiles {
-    /// The fault of a call on a path or a variable, which is counted unless memory runs out.
+    /// The fault of a call on a path or a variable, which is counted unless it is out of memory.
     pub(crate) fn fail(&mut self, call: FileCall, path: Option<&str>) -> FileFault
         ensures files { self.new.files ≡ self.old.files }
         ensures input { self.new.input ≡ self.old.input }
@@ -72,7 +72,7 @@ impl MemFiles {
         }
     }
 
-    /// Counts a call on a path or a variable, which fails where its number is listed.
+    /// Counts a call on a path or a variable, which fails if its number is listed.
     pub(crate) fn begin(&mut self, call: FileCall, path: Option<&str>) -> Result<(), FileFault>
         ensures files { self.new.files ≡ self.old.files }
         ensures input { self.new.input ≡ self.old.input }

@@ -11,7 +11,7 @@ use crate::memory_files::MemFiles;
 use crate::texts::Text;
 use std::alloc::Global;
 
-/// What a call on a lock in memory is to answer.
+/// The answer that a call on a lock in memory must give.
 #[derive(Clone, Copy, Debug, PartialEq, Eq)]
 pub enum LockAnswer {
     /// The answer of an opening: why it is refused, if it is.
@@ -20,7 +20,7 @@ pub enum LockAnswer {
     Take(Option<LockTakeFault>),
 }
 
-/// The answers that calls on locks are to give, how many such calls there were, and their steps.
+/// The answers that calls on locks must give, how many such calls there were, and their steps.
 #[derive(Drop)]
 pub(crate) struct MemLocks {
     answers: Items<LockAnswer>,
@@ -29,7 +29,7 @@ pub(crate) struct MemLocks {
 }
 
 impl MemLocks {
-    /// No call yet, with these answers to be given.
+    /// No call yet, with these answers to give.
     pub(crate) fn new(alloc: Global, answers: Items<LockAnswer>) -> MemLocks
         ensures answers { result.answers ≡ answers }
         ensures asked { result.asked ≡ 0 }
@@ -51,7 +51,7 @@ impl MemLocks {
         locks
     }
 
-    /// The steps, the first in front.
+    /// The steps, in order.
     pub(crate) fn steps(&self) -> &[LockStep]
         ensures { result.now ≡ self.now.steps }
     {
@@ -93,7 +93,7 @@ impl MemLocks {
     }
 }
 
-/// What an opening answers that is to give this answer.
+/// What an opening answers, given the answer stated for it.
 pub(crate) fn opening_fault(answer: Option<LockAnswer>) -> Option<LockOpenFault>
     ensures given { result ≢ Some LockOpenFault.Failed → answer ≡ Some (LockAnswer.Open result) }
     ensures stated { result ≡ opening_stated answer }
@@ -104,7 +104,7 @@ pub(crate) fn opening_fault(answer: Option<LockAnswer>) -> Option<LockOpenFault>
     }
 }
 
-/// What a taking answers that is to give this answer; one that waits for its turn is never
+/// What a taking answers, given the answer stated for it; one that waits for its turn is never
 /// contested.
 pub(crate) fn taking_fault(answer: Option<LockAnswer>, block: bool) -> Option<LockTakeFault>
     ensures given { result ≢ Some LockTakeFault.Failed → answer ≡ Some (LockAnswer.Take result) }
@@ -121,8 +121,8 @@ pub(crate) fn taking_fault(answer: Option<LockAnswer>, block: bool) -> Option<Lo
 }
 
 impl MemFiles {
-    /// Counts a call on a lock, and gives the answer that was stated for it; none where its number
-    /// is listed, and where no answer is left.
+    /// Counts a call on a lock, and gives the answer that was stated for it; none if its number is
+    /// listed, or if no answer is left.
     pub(crate) fn begin_lock(&mut self) -> Option<LockAnswer>
         ensures same { self.new ≡ record self.old {
           calls = next_call self.old.calls;
@@ -161,8 +161,8 @@ impl MemFiles {
         self.locks.add(self.alloc, path, exclusive, call)
     }
 
-    /// Adds a step that fails, and with it a failed call, which is counted; or, where memory runs
-    /// out, neither.
+    /// Adds a step that fails, and with it a failed call, which is counted; if out of memory,
+    /// neither.
     pub(crate) fn add_failed_step(
         &mut self,
         path: &str,

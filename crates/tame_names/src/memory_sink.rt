@@ -19,7 +19,7 @@ pub struct MemSink {
 }
 
 impl MemSink {
-    /// An empty output whose puts of these numbers are to fail.
+    /// An empty output whose puts of these numbers fail.
     pub fn new(alloc: Global, fails: Items<u64>) -> MemSink
         ensures bytes { result.bytes.items ≡ [] }
         ensures fails { result.fails ≡ fails }
@@ -34,7 +34,7 @@ impl MemSink {
         }
     }
 
-    /// The same with room for a number of bytes: a put within it fails only where it is listed.
+    /// The same with room for a number of bytes: a put within it fails only if it is listed.
     pub fn with_room(alloc: Global, fails: Items<u64>, room: usize) -> Result<MemSink, NoMemory>
         ensures bytes { IfOk result (λ sink. sink.bytes.items ≡ []) }
         ensures room { IfOk result (λ sink. vec_capacity sink.bytes ≡ room) }
@@ -87,7 +87,7 @@ impl Sink for MemSink {
         ensures count { self.new.calls ≡ next_call self.old.calls }
         ensures listed { self.new.fails ≡ self.old.fails }
         ensures fails { IsListed self.new.calls self.old.fails → IsErr result }
-        // any other fails only where it has no room and memory runs out
+        // any other fails only if it has no room and is out of memory
         ensures unlisted { ¬ (IsListed self.new.calls self.old.fails)
             → OnErr result (vec_capacity self.old.bytes
             < vec_len self.old.bytes + length piece.now) }

@@ -20,7 +20,7 @@ pub struct MemSource {
 }
 
 impl MemSource {
-    /// These bytes; the takes of these numbers are to fail.
+    /// These bytes; the takes of these numbers fail.
     pub fn new(bytes: Items<u8>, fails: Items<u64>) -> MemSource
         ensures left { drop result.at result.bytes ≡ bytes }
         ensures fails { result.fails ≡ fails }

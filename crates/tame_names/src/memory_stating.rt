@@ -12,7 +12,7 @@ use std::alloc::Global;
 
 impl MemFiles {
     /// These files, with an empty input, no variable, the empty path as current folder, and no
-    /// answer for calls on locks; the calls of these numbers are to fail.
+    /// answer for calls on locks; the calls of these numbers fail.
     pub fn new(alloc: Global, files: Items<MemFile>, fails: Items<u64>) -> MemFiles
         ensures files { result.files ≡ files }
         ensures input { result.input ≡ [] }
@@ -67,7 +67,7 @@ impl MemFiles {
         files
     }
 
-    /// The same with these answers of the calls on locks.
+    /// The same with these answers to the calls on locks.
     pub fn with_locks(self, answers: Items<LockAnswer>) -> MemFiles
         ensures { result ≡ record self { locks = record self.locks { answers = answers } } }
     {
@@ -76,14 +76,14 @@ impl MemFiles {
         files
     }
 
-    /// The steps on locks, the first in front.
+    /// The steps on locks, in order.
     pub fn steps(&self) -> &[LockStep]
         ensures { result.now ≡ self.now.locks.steps }
     {
         self.locks.steps()
     }
 
-    /// The calls that have failed, the first in front.
+    /// The calls that have failed, in order.
     pub fn failed(&self) -> &[FailedCall]
         ensures { result.now ≡ self.now.failed }
     {

@@ -11,10 +11,10 @@ use crate::texts::Text;
 use std::alloc::{AllocError, Global};
 use std::fmt;
 
-/// The most characters that crates.io takes for a name.
+/// The most characters that crates.io accepts in a name.
 const CRATES_IO_LIMIT: usize = 64;
 
-/// The name of a crate: not empty, and of ASCII letters, digits, `-` and `_` alone.
+/// The name of a crate: not empty, and only of ASCII letters, digits, `-` and `_`.
 ///
 /// Cargo Book, "Registry Index", index files.
 #[derive(Clone, Copy)]
@@ -30,7 +30,7 @@ fn is_name_char(character: char) -> bool
     character.is_ascii_alphanumeric() || character == '-' || character == '_'
 }
 
-/// Whether a character may stand at its place in a name of cargo.
+/// Whether a character may be at its position in a name of cargo.
 fn is_char_at(place: usize, character: char) -> bool
     ensures { result ≡ spec.is_char_at (place, character) }
 {
@@ -41,7 +41,7 @@ fn is_char_at(place: usize, character: char) -> bool
     }
 }
 
-/// The first character that a name may not have, with its place among the characters.
+/// The first character that a name must not have, with its position among the characters.
 fn first_invalid(name: &str) -> Option<(usize, char)>
     ensures { result ≡ spec.first_invalid name.now }
 {
@@ -78,7 +78,7 @@ fn is_longer(limit: Option<usize>, count: usize) -> bool
     }
 }
 
-/// Why a text is no name to cargo, if it isn't.
+/// Why a string is no name to cargo, if it isn't.
 fn strict_refusal(name: &str, limit: Option<usize>) -> Option<InvalidKrateName>
     ensures { option_map refusal result ≡ spec.strict_refusal limit name.now }
 {
@@ -105,8 +105,8 @@ fn strict_refusal(name: &str, limit: Option<usize>) -> Option<InvalidKrateName>
 impl<'n> KrateName<'n> {
     ghost use Rattle.tame_names.specs.KrateNames.{text_of};
 
-    /// The text as a name. The empty text is `InvalidLength(0)`; any other text that isn't a
-    /// name has its first character that a name may not have as the reason.
+    /// The string as a name. The empty string is `InvalidLength(0)`; for any other that isn't a
+    /// name the reason is its first character that a name must not have.
     pub fn try_from(name: &'n str) -> Result<KrateName<'n>, InvalidKrateName>
         ensures ok { IfOk result (λ n. (text_of n ≡ name.now) × (refusal_of name.now ≡ None)) }
         ensures refused { IfErr result (λ e. refusal_of name.now ≡ Some (refusal e)) }
@@ -132,7 +132,7 @@ impl<'n> KrateName<'n> {
         }
     }
 
-    /// The text as a name that crates.io takes: a name of cargo of at most 64 characters. A bad
+    /// The string as a name that crates.io accepts: a name of cargo of at most 64 characters. A bad
     /// character among the first 64 comes before the length, and reserved names come last.
     pub fn crates_io(name: &'n str) -> Result<KrateName<'n>, InvalidKrateName>
         ensures ok { IfOk result (λ n. (text_of n ≡ name.now)
@@ -145,7 +145,7 @@ impl<'n> KrateName<'n> {
         KrateName::strict(name, Some(CRATES_IO_LIMIT))
     }
 
-    /// The text as a name that cargo takes: it begins with a letter or `_`, and isn't reserved.
+    /// The string as a name that cargo accepts: it begins with a letter or `_`, and isn't reserved.
     pub fn cargo(name: &'n str) -> Result<KrateName<'n>, InvalidKrateName>
         ensures ok { IfOk result (λ n. (text_of n ≡ name.now)
             × (spec.strict_refusal None name.now ≡ None)) }
@@ -156,9 +156,9 @@ impl<'n> KrateName<'n> {
         KrateName::strict(name, None)
     }
 
-    /// Appends the folders of this name in an index, parted by `sep`; they keep the name's case.
+    /// Appends the folders of this name in an index, separated by `sep`; they keep the name's case.
     ///
-    /// Where memory runs out a part of them may have been appended.
+    /// If out of memory, a part of them may have been appended.
     fn push_prefix(&self, acc: &mut String, sep: char) -> Result<(), AllocError>
         ensures { OnOk result (string_bytes acc.new
             ≡ string_bytes acc.old ++ spec.prefix (encode_utf8 sep) (text_of self.now)) }
@@ -180,7 +180,7 @@ impl<'n> KrateName<'n> {
         acc.push_str(&self.text[2..4])
     }
 
-    /// Appends the folders of this name in an index, parted by `sep`; they keep the name's case.
+    /// Appends the folders of this name in an index, separated by `sep`; they keep the name's case.
     pub fn prefix(&self, acc: &mut String, sep: char) -> Result<(), NoMemory>
         ensures appended { OnOk result
             (string_bytes acc.new ≡ string_bytes acc.old
@@ -193,8 +193,8 @@ impl<'n> KrateName<'n> {
         Ok(())
     }
 
-    /// The place of this name's file in an index: its folders and the name, parted by `sep`
-    /// (`/` where none is given), all in ASCII lower case.
+    /// The path of this name's file in an index: its folders and the name, separated by `sep` (`/`
+    /// if none is given), all in ASCII lower case.
     pub fn relative_path(&self, alloc: Global, sep: Option<char>) -> Result<Text, NoMemory>
         ensures parts { IfOk result (λ p. p
             ≡ spec.relative_path (separator sep) (text_of self.now)) }
@@ -214,7 +214,7 @@ impl<'n> KrateName<'n> {
         Ok(Text::from_string(path))
     }
 
-    /// The name as text.
+    /// The name as a string.
     pub fn as_str(&self) -> &'n str
         ensures { result.now ≡ text_of self.now }
     {
@@ -241,7 +241,7 @@ impl<'n> TryFrom<&'n str> for KrateName<'n> {
 impl KrateName<'static> {
     ghost use Rattle.tame_names.specs.KrateNames.{text_of};
 
-    /// The name that a text of the program is, which crates.io has to accept.
+    /// The name in a string of the program, which crates.io must accept.
     pub fn from_static(name: &'static str) -> KrateName<'static>
         requires { spec.strict_refusal (Some 64) name.now ≡ None }
         ensures { text_of result ≡ name.now }

@@ -14,13 +14,13 @@ pub trait Sink {
     /// That it tells what it holds.
     ghost tells: { Type 0 };
 
-    /// The bytes that it holds, where it tells them.
+    /// The bytes that it holds, if it tells them.
     ghost holds: { Self → List ℕ };
 
     /// How often a put has failed.
     ghost faults: { Self → ℕ };
 
-    /// How often a put has failed; the count stays at 2^64 - 1 once it is there.
+    /// How often a put has failed; the count stays at 2^64 - 1 once it reaches it.
     fn sink_faults(&self) -> u64
         ensures { result ≡ faults self.now };
 

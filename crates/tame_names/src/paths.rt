@@ -1,4 +1,4 @@
-//! Paths as text.
+//! Paths as strings.
 ghost use Rattle.std.specs.Prelude.{◌≡◌, ◌≤◌, ◌<◌, bytes_eq, length, option_map, slice_index, take, IfOk, IfSome};
 ghost use Rattle.tame_names.specs.Paths as spec;
 
@@ -24,7 +24,7 @@ fn ends_with_slash(path: &str) -> bool
     !bytes.is_empty() && bytes[bytes.len() - 1] == b'/'
 }
 
-/// Whether two paths stand for the same, whatever slashes stand at their ends.
+/// Whether two paths are the same, apart from slashes at their ends.
 pub fn is_same_path(one: &str, other: &str) -> bool
     ensures { result ≡ bytes_eq (spec.plain_path one.now) (spec.plain_path other.now) }
 {
@@ -37,8 +37,8 @@ pub fn is_same_path(one: &str, other: &str) -> bool
     }
 }
 
-/// A path below a folder: the path itself where the folder is empty or the path begins with `/`,
-/// else both, with a `/` between them where the folder ends with none.
+/// A path below a folder: the path itself if the folder is empty or the path begins with `/`, else
+/// both, with a `/` between them if the folder ends with none.
 pub fn join(alloc: Global, folder: &str, path: &str) -> Result<Text, NoMemory>
     ensures { IfOk result (λ whole. whole ≡ spec.join folder.now path.now) }
 {
@@ -65,7 +65,7 @@ fn plain_len(path: &[u8]) -> usize
     }
 }
 
-/// The path that a path stands for: without the slashes at its end, but for `/` itself.
+/// The path without the slashes at its end, except `/` itself.
 pub fn plain_path(path: &str) -> &str
     ensures { result.now ≡ spec.plain_path path.now }
 {
@@ -73,7 +73,7 @@ pub fn plain_path(path: &str) -> &str
     &path[..len]
 }
 
-/// What stands in front of the last slash, and what stands behind it.
+/// The text before the last slash, and the text after it.
 fn cut_at_last_slash(path: &str) -> Option<(&str, &str)>
     ensures { option_map (λ p. (p.0.now, p.1.now)) result ≡ spec.cut_at_last 47 path.now }
 {
@@ -83,7 +83,7 @@ fn cut_at_last_slash(path: &str) -> Option<(&str, &str)>
     }
 }
 
-/// The folder that a path is in, where the path is `/` or has no slash at its end.
+/// The folder that a path is in, if the path is `/` or has no slash at its end.
 fn parent_of_plain(path: &str) -> Option<&str>
     ensures { option_map (λ folder. folder.now) result ≡ spec.parent_of_plain path.now }
 {
@@ -96,8 +96,8 @@ fn parent_of_plain(path: &str) -> Option<&str>
     }
 }
 
-/// The folder that a path is in: the text before the last `/`, `/` of `/x`, and the empty text of
-/// `x`. None of the empty path and of `/`. Slashes at the end don't count. It is shorter than the
+/// The folder that a path is in: the text before the last `/`, `/` for `/x`, and the empty text for
+/// `x`. None for the empty path and for `/`. Slashes at the end don't count. It is shorter than the
 /// path.
 pub fn parent(path: &str) -> Option<&str>
     ensures folder { option_map (λ folder. folder.now) result ≡ spec.parent path.now }
@@ -106,7 +106,7 @@ pub fn parent(path: &str) -> Option<&str>
     parent_of_plain(plain_path(path))
 }
 
-/// The name of a path in its folder: the text behind the last `/`. Slashes at the end don't count.
+/// The name of a path in its folder: the text after the last `/`. Slashes at the end don't count.
 pub fn file_name(path: &str) -> &str
     ensures { result.now ≡ spec.file_name path.now }
 {

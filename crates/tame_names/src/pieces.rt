@@ -8,7 +8,7 @@ ghost use Rattle.std.specs.List.{join_with_byte};
 use memchr::memchr;
 use std::marker::Model;
 
-/// The first piece, and what is left behind its needle.
+/// The first piece, and what is left after its needle.
 fn first_piece(bytes: &[u8], needle: u8) -> (&[u8], &[u8])
     requires { 0 < length bytes.now }
     ensures { pieces needle bytes.now ≡ result.0.now ∷ pieces needle result.1.now }
@@ -19,7 +19,7 @@ fn first_piece(bytes: &[u8], needle: u8) -> (&[u8], &[u8])
     }
 }
 
-/// The pieces between needles, from front to back. Contracts see the list of what is left.
+/// The pieces between needles, first to last. Contracts see the list of what is left.
 #[derive(Drop)]
 pub struct SplitIter<'a> {
     left: &'a [u8],

@@ -13,7 +13,7 @@ const KEYWORDS: [&str; 51] = [
     "unsafe", "unsized", "use", "virtual", "where", "while", "yield",
 ];
 
-/// Folders that cargo makes in its target folder.
+/// Folders that cargo creates in its target folder.
 const ARTIFACTS: [&str; 4] = ["build", "deps", "examples", "incremental"];
 
 /// Devices that Windows finds in every folder.
@@ -25,7 +25,7 @@ const WINDOWS: [&str; 22] = [
 /// Crates that come with the compiler.
 const LIBRARIES: [&str; 6] = ["alloc", "core", "proc-macro", "proc_macro", "std", "test"];
 
-/// The text of a table that equals a name.
+/// The entry of a table that equals a name.
 fn found_in(table: &'static [&'static str], name: &str) -> Option<&'static str>
     ensures found { is_some result ≡ stands_in name.now (map (λ word. word.now) table.now) }
     ensures same { IfSome result (λ word. word.now ≡ name.now) }
@@ -38,7 +38,7 @@ fn found_in(table: &'static [&'static str], name: &str) -> Option<&'static str>
     None
 }
 
-/// The name, and what it is reserved as.
+/// The name, and why it is reserved.
 pub fn reserved_name(name: &str) -> Option<(&'static str, ReservedNameKind)>
     ensures name { IfSome result (λ r. r.0.now ≡ name.now) }
     ensures kind { option_map (λ r. r.1) result ≡ reserved_kind name.now }

@@ -2,7 +2,7 @@ use Rattle.std.proofs.Common.{◌≡◌, ◌≤◌, length, take}
 use Rattle.tame_names.specs.Pieces.{without_end}
 use Rattle.tame_names.proofs.pieces.without_end.Given as goal
 
--- the bytes behind the end are needles
+-- the bytes after the end are needles
 abbrev pub invariant-loop-end : goal.invariant-loop-end
 invariant-loop-end l = record {
   within : l.end ≤ length l.bytes;
