@@ -2,8 +2,8 @@
 use Rattle.std.proofs.Common.{◌≡◌, ℕ, List, [], ◌++◌, Result, sym, ap, ◌∙◌, subst, append_assoc, append-nil}
 use Rattle.std.specs.Prelude.{IsErr}
 use Rattle.tame_names.specs.Output.{AddsPrefix}
-use Rattle.audit_report.specs.Outputs.{IsPut}
-use Rattle.audit_report.proofs.Puts.{if_err, part_first, part_then, put_none, put_then}
+use Rattle.report_parts.specs.Outputs.{IsPut}
+use Rattle.report_parts.proofs.Puts.{if_err, part_first, part_then, put_none, put_then}
 
 -- what was put so far, and what is left, make the whole text
 pub record IsReached (before whole now left : List ℕ) : Type 0 where

@@ -10,7 +10,8 @@ use crate::outputs::push_unchecked_lines;
 use audit_advisory::OutputConfig;
 use audit_binaries::{BinaryAnswer, BinaryFault, PackagesFound};
 use audit_core::Audited;
-use audit_report::{Found, binary_line_in, push_number};
+use audit_report::{Found, binary_line_in};
+use report_parts::push_number;
 use std::alloc::{AllocError, Global};
 
 /// A number of bytes behind a text.

@@ -1,7 +1,7 @@
 //! The output of the audits of binaries.
 ghost use Rattle.std.specs.Prelude.{◌≡◌, ◌≤◌, ◌⊎◌, false, Err, IfErr, OnOk};
 ghost use Rattle.tame_names.specs.Counts.{CountRose};
-ghost use Rattle.audit_report.specs.Outputs.{IsPut};
+ghost use Rattle.report_parts.specs.Outputs.{IsPut};
 ghost use Rattle.audit_output.specs.BinaryOutputs.{AreReportsOf, IsAnswerOf, answer_printed, answers_output, binaries_output, binaries_printed, binaries_shown_on, binary_printed, binary_report, binary_status_lines, binary_verdicts, refused_line, reports_output, with_trees};
 ghost use Rattle.audit_output.specs.Outputs.{loaded_by, presenter_of};
 

@@ -5,7 +5,7 @@ ghost use Rattle.audit_output.specs.Printed as spec;
 
 use audit_core::{Cause, Judged, Verdict};
 use audit_lock::{Package, package_at};
-use audit_report::push_quoted;
+use report_parts::push_quoted;
 use std::alloc::{AllocError, Global};
 
 /// Adds the word for a cause at the end of a text; an error only where memory runs out.

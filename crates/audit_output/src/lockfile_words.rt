@@ -4,7 +4,7 @@ ghost use Rattle.audit_output.specs.LockfileWords.{lockfile_words, of_package};
 ghost use Rattle.audit_output.specs.LockfileWords as spec;
 
 use audit_lock::{LockRule, LockfileFault};
-use audit_report::push_number;
+use report_parts::push_number;
 use std::alloc::{AllocError, Global};
 
 /// Appends two texts.

@@ -2,7 +2,7 @@
 ghost use Rattle.std.specs.Prelude.{◌≡◌, ◌≢◌, ◌≤◌, ◌⊎◌, Err, IfOk, IfErr, OnOk, option_map};
 ghost use Rattle.tame_names.specs.Counts.{CountRose};
 ghost use Rattle.audit_core.specs.Auditors.{IsReportOf, self_advisories};
-ghost use Rattle.audit_report.specs.Outputs.{IsPut};
+ghost use Rattle.report_parts.specs.Outputs.{IsPut};
 ghost use Rattle.audit_report.specs.Printed.{printed};
 ghost use Rattle.audit_report.specs.SelfReports.{self_summary, self_text};
 ghost use Rattle.audit_output.specs.BinaryOutputs.{with_trees};
@@ -11,7 +11,8 @@ ghost use Rattle.audit_output.specs.Outputs.{presenter_of};
 use crate::putting::PrintFault;
 use audit_advisory::OutputConfig;
 use audit_core::{Audited, Auditor};
-use audit_report::{Presenter, PrintError};
+use audit_report::Presenter;
+use report_parts::PrintError;
 use std::alloc::Global;
 use tame_names::{NoMemory, Sink};
 

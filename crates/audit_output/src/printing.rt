@@ -2,7 +2,7 @@
 ghost use Rattle.std.specs.Prelude.{◌≡◌, ◌≤◌, ◌⊎◌, Err, IfOk, IfErr, string_bytes};
 ghost use Rattle.tame_names.specs.Counts.{CountRose};
 ghost use Rattle.audit_core.specs.Auditors.{IsReportOf};
-ghost use Rattle.audit_report.specs.Outputs.{IsPut};
+ghost use Rattle.report_parts.specs.Outputs.{IsPut};
 ghost use Rattle.audit_output.specs.Outputs.{output_of, report_output, shown_on};
 ghost use Rattle.audit_output.specs.Outputs as spec;
 ghost use Rattle.audit_output.specs.Printed.{verdict_lines};

@@ -1,7 +1,7 @@
 //! Putting texts.
 ghost use Rattle.std.specs.Prelude.{◌≡◌, ◌≤◌, ◌++◌, codes, [], Err, IfOk, IfErr, IsOk, string_bytes};
 ghost use Rattle.tame_names.specs.Counts.{CountRose};
-ghost use Rattle.audit_report.specs.Outputs.{IsPut};
+ghost use Rattle.report_parts.specs.Outputs.{IsPut};
 
 use std::alloc::{AllocError, Global};
 use tame_names::{NoMemory, Sink, put_counted};

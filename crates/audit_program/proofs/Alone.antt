@@ -3,7 +3,7 @@ use Rattle.std.proofs.Common.{◌≡◌, ◌⊎◌, inl, inr, ℕ, List, [], Opt
 use Rattle.std.specs.Prelude.{IfSome}
 use Rattle.tame_names.specs.Standing.{Host}
 use Rattle.tame_names.specs.declared.host.FailedCall.{FailedCall}
-use Rattle.audit_report.proofs.Puts.{part_none}
+use Rattle.report_parts.proofs.Puts.{part_none}
 use Rattle.audit_core.proofs.Exchanged.{keeps_nothing}
 use Rattle.audit_words.specs.declared.commands.Command.{Command}
 use Rattle.audit_words.specs.declared.commands.Command.TheVariants as command

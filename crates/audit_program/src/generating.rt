@@ -3,7 +3,7 @@ ghost use Rattle.std.specs.Prelude.{◌≡◌, ◌⊎◌, ◌≤◌, Err, Some, 
 ghost use Rattle.tame_names.specs.Counts.{CountRose};
 ghost use Rattle.audit_generator.specs.Moments.{IsGenerated};
 ghost use Rattle.audit_generator.specs.Summaries.{summary_for};
-ghost use Rattle.audit_report.specs.Outputs.{IsPut};
+ghost use Rattle.report_parts.specs.Outputs.{IsPut};
 ghost use Rattle.audit_program.specs.Outcomes.{PutsAlone};
 
 use crate::outcomes::{Outcome, failed};

@@ -5,7 +5,7 @@ use Rattle.tame_names.specs.Output.{AddsPrefix}
 use Rattle.audit_remedies.specs.declared.faults.RunFault.{RunFault}
 use Rattle.audit_remedies.specs.declared.faults.RunFault.TheVariants as fault
 use Rattle.audit_remedies.specs.Faults.{IsPrintFault}
-use Rattle.audit_report.proofs.Puts.{part_first, part_none, part_then}
+use Rattle.report_parts.proofs.Puts.{part_first, part_none, part_then}
 use Rattle.audit_remedies.specs.Outputs.{IsPutBy, IsPutFirst, IsWhole}
 use Rattle.audit_remedies.proofs.FaultCases.{print_case}
 

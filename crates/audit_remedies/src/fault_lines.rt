@@ -8,8 +8,8 @@ ghost use Rattle.audit_remedies.specs.FaultLines as spec;
 use crate::faults::RunFault;
 use audit_lock::{LockRule, LockfileFault};
 use audit_output::{push_lockfile_words, push_numbered, push_package, push_two};
-use audit_report::push_number;
 use audit_settings::SettingsFault;
+use report_parts::push_number;
 use std::alloc::{AllocError, Global};
 use vendor_registry::VendorFault;
 

@@ -3,7 +3,7 @@ ghost use Rattle.std.specs.Prelude.{◌≡◌, ◌≤◌, ◌⊎◌, ◌++◌, �
 ghost use Rattle.tame_names.specs.Counts.{CountRose, CountRoseBy};
 ghost use Rattle.audit_core.specs.Auditors.{IsReportOf};
 ghost use Rattle.audit_output.specs.Outputs.{output_of, shown_on};
-ghost use Rattle.audit_report.specs.Outputs.{IsPut};
+ghost use Rattle.report_parts.specs.Outputs.{IsPut};
 ghost use Rattle.audit_remedies.specs.Finishes.{IsFinishFault, IsFinished, end_of};
 ghost use Rattle.audit_remedies.specs.Outputs.{IsPutBy, IsPutFirst, remedy_lines};
 ghost use Rattle.audit_remedies.specs.Statuses.{fix_plan_of, made_status};

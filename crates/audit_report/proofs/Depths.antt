@@ -3,12 +3,13 @@ use Rattle.std.proofs.Common.{◌≤◌, max, ◌+◌, ℕ, suc, List, [], ◌�
 use Rattle.std.specs.List.{flat_map}
 use Rattle.json.specs.Json.{Json, string, max_depth}
 use Rattle.json.specs.Tree.{depth, items_depth, members_depth}
+use Rattle.report_parts.proofs.Nested.{array_within, both, count_within, items_within, le_suc, low, member_if_within, members_both, text_within, texts_within, up, zero_le}
 use Rattle.audit_report.specs.Documents.{found_object, hit_at, hit_of, kind_member, member_if, occurs, report_object, kind_warning_at, warning_of, warnings_object}
 use Rattle.audit_report.specs.Objects.{hit_object, metadata_object, metadata_or_null, package_object, settings_object, versions_object, warning_object}
-use Rattle.audit_report.specs.Values.{array_of, count_or_null, items_of, members_of, text_or_null, texts}
+use Rattle.report_parts.specs.Values.{array_of, count_or_null, items_of, members_of, text_or_null, texts}
 use Rattle.audit_report.specs.Blocks.{advisory_at}
 use Rattle.audit_advisory.specs.Exits.{same_kind}
-use Rattle.audit_report.specs.Words.{informational_word, kind_word, severity_word}
+use Rattle.report_parts.specs.Words.{informational_word, kind_word, severity_word}
 use Rattle.audit_advisory.specs.declared.advisories.Advisory.{Advisory}
 use Rattle.audit_advisory.specs.declared.metadata.Metadata.{Metadata}
 use Rattle.audit_lock.specs.declared.resolving.Package.{Package}
@@ -19,54 +20,10 @@ use Rattle.audit_advisory.specs.declared.reports.Warning.{Warning}
 use Rattle.audit_advisory.specs.declared.outputs.WarningKind.{WarningKind}
 use Rattle.audit_advisory.specs.declared.outputs.WarningKind.TheVariants as kind
 
--- ---- members and items of bounded depth
-
-pub both : (a b n : ℕ) → a ≤ n → b ≤ n → max a b ≤ n
-both a b n h k = omega (arith, h, k)
-
-pub zero_le : (n : ℕ) → 0 ≤ n
-zero_le n = omega arith
-
-pub members_both : (n : ℕ) (xs ys : List (List ℕ × Json))
-    → members_depth (members_of xs) ≤ n → members_depth (members_of ys) ≤ n → members_depth (members_of (xs ++ ys)) ≤ n
-members_both n [] ys h k = k
-members_both n (x ∷ xs) ys h k = omega (arith, h, members_both n xs ys (omega (arith, h)) k)
-
-items_both : (n : ℕ) (xs ys : List Json)
-    → items_depth (items_of xs) ≤ n → items_depth (items_of ys) ≤ n → items_depth (items_of (xs ++ ys)) ≤ n
-items_both n [] ys h k = k
-items_both n (x ∷ xs) ys h k = omega (arith, h, items_both n xs ys (omega (arith, h)) k)
-
-items_within : {X : Type 0} (n : ℕ) (g : X → List Json) → ((x : X) → items_depth (items_of (g x)) ≤ n)
-    → (xs : List X) → items_depth (items_of (flat_map g xs)) ≤ n
-items_within n g h [] = omega arith
-items_within n g h (x ∷ xs) = items_both n (g x) (flat_map g xs) (h x) (items_within n g h xs)
-
-pub le_suc : (m n : ℕ) → m ≤ n → suc m ≤ n + 1
-le_suc m n h = omega (arith, h)
-
 -- ---- the parts
-
-text_within : (t : Option (List ℕ)) → depth (text_or_null t) ≤ 0
-text_within None = omega arith
-text_within (Some t) = omega arith
-
-count_within : (n : Option ℕ) → depth (count_or_null n) ≤ 0
-count_within None = omega arith
-count_within (Some n) = omega arith
-
-texts_items : (ts : List (List ℕ)) → items_depth (items_of (map string ts)) ≤ 0
-texts_items [] = omega arith
-texts_items (t ∷ ts) = omega (arith, texts_items ts)
-
-pub texts_within : (ts : List (List ℕ)) → depth (texts ts) ≤ 1
-texts_within ts = omega (arith, texts_items ts)
 
 one_le : 1 ≤ 5
 one_le = omega arith
-
-pub low : 0 ≤ 0
-low = omega arith
 
 metadata_within : (m : Metadata) → depth (metadata_object m) ≤ 1
 metadata_within m = le_suc _ 0 (both _ _ _ low
@@ -88,9 +45,6 @@ package_within p = le_suc _ 0 (both _ _ _ low
     (both _ _ _ (text_within p.source)
     (both _ _ _ (text_within p.checksum)
     (zero_le 0)))))
-
-pub up : (j : Json) (n k : ℕ) → n ≤ k → depth j ≤ n → depth j ≤ k
-up j n k h d = omega (arith, h, d)
 
 versions_within : (a : Advisory) → depth (versions_object a) ≤ 2
 versions_within a = le_suc _ 1 (both _ _ _ (texts_within a.versions.patched)
@@ -131,13 +85,6 @@ warning_at_within k xs ps w =
       | true ↦ warning_of_within k (slice_get ps w.«package») (advisory_at xs w.advisory)
       | false ↦ omega arith
     ]
-
-pub array_within : (n : ℕ) (js : List Json) → items_depth (items_of js) ≤ n → depth (array_of js) ≤ n + 1
-array_within n js h = omega (arith, h)
-
-member_if_within : (n : ℕ) (stands : Bool) (k : List ℕ) (j : Json) → depth j ≤ n → members_depth (members_of (member_if stands k j)) ≤ n
-member_if_within n true k j h = omega (arith, h)
-member_if_within n false k j h = omega arith
 
 kind_within : (k : WarningKind) (xs : List Advisory) (ps : List Package) (ws : List Warning) → members_depth (members_of (kind_member k xs ps ws)) ≤ 4
 kind_within k xs ps ws = member_if_within 4 (occurs k ws) (kind_word k) (array_of (flat_map (kind_warning_at k xs ps) ws))

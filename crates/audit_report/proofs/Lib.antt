@@ -1,15 +1,6 @@
 pub mod Depths
-pub mod FirstUses
-pub mod Joining
 pub mod Kept
-pub mod Newline
 pub mod Once
-pub mod Placed
 pub mod Pouring
-pub mod Puts
-pub mod Reading
-pub mod SarifDepths
 pub mod Showing
-pub mod Telling
 pub mod Treed
-pub mod Writing

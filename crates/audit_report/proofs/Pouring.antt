@@ -5,10 +5,10 @@ use Rattle.std.proofs.lemmas.List.{take-append-drop}
 use Rattle.std.specs.List.{flat_map}
 use Rattle.tame_names.specs.Output.{AddsPrefix}
 use Rattle.audit_report.specs.Blocks.{Block}
-use Rattle.audit_report.specs.Outputs.{IsPut}
+use Rattle.report_parts.specs.Outputs.{IsPut}
 use Rattle.audit_report.specs.Shown.{blocks_text, shown_after}
 use Rattle.audit_report.specs.declared.shown_trees.ShownTree.{ShownTree}
-use Rattle.audit_report.proofs.Puts.{part_first, part_then, put_then}
+use Rattle.report_parts.proofs.Puts.{part_first, part_then, put_then}
 use Rattle.audit_report.proofs.Showing.{blocks_text-append, flat_map_more, shown_after-append}
 
 -- the text of the first items is the front of that of all

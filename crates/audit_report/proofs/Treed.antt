@@ -1,9 +1,9 @@
 -- A tree put behind the lines of its block.
 use Rattle.std.proofs.Common.{◌≡◌, ℕ, codes, List, ◌++◌, Result, ap, ◌∙◌, append_assoc, subst}
 use Rattle.tame_names.specs.Output.{AddsPrefix}
-use Rattle.audit_report.specs.Outputs.{IsPut}
+use Rattle.report_parts.specs.Outputs.{IsPut}
 use Rattle.audit_report.specs.Shown.{tree_text, tree_title}
-use Rattle.audit_report.proofs.Puts.{part_first, part_then, put_then}
+use Rattle.report_parts.proofs.Puts.{part_first, part_then, put_then}
 
 -- in the order in which it is put: the lines with the title, the tree, the empty line
 pieces : (lines tree : List ℕ) → ((lines ++ codes "Dependency tree:\n") ++ tree) ++ codes "\n" ≡ lines ++ tree_text tree

@@ -9,7 +9,7 @@ use Rattle.audit_advisory.specs.Hits.{point_of_parts}
 use Rattle.audit_advisory.specs.Requirements.{meets_any}
 use Rattle.audit_advisory.specs.declared.advisories.Advisory.{Advisory}
 use Rattle.audit_advisory.specs.declared.affected.Function.{Function}
-use Rattle.audit_report.specs.Attributes.{attribute}
+use Rattle.report_parts.specs.Attributes.{attribute}
 use Rattle.audit_report.specs.Symbols.{Segments, is_kept}
 
 -- a version meets one of these requirements; no version meets none

@@ -13,9 +13,9 @@ use Rattle.audit_advisory.specs.declared.reports.Report.{Report}
 use Rattle.audit_advisory.specs.declared.reports.Vulnerability.{Vulnerability}
 use Rattle.audit_advisory.specs.declared.reports.Warning.{Warning}
 use Rattle.audit_report.specs.Affected.{affected_line}
-use Rattle.audit_report.specs.Attributes.{attribute, attribute_if, score, url_of}
+use Rattle.report_parts.specs.Attributes.{attribute, attribute_if, score, url_of}
 use Rattle.audit_report.specs.Symbols.{Segments}
-use Rattle.audit_report.specs.Words.{kind_word}
+use Rattle.report_parts.specs.Words.{kind_word}
 
 -- ---- lines
 

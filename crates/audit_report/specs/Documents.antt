@@ -6,10 +6,11 @@ use Rattle.json.specs.Json.{Json, boolean, document}
 use Rattle.json.specs.Token.{Token, key}
 use Rattle.json.specs.Tree.{json_tokens}
 use Rattle.audit_report.specs.Objects.{hit_object, settings_object, warning_object}
-use Rattle.audit_report.specs.Values.{array_of, count, json_text, object_of}
+use Rattle.report_parts.specs.Values.{array_of, count, json_text, object_of}
+pub use Rattle.report_parts.specs.Values.{listed_tokens, member_if}
 use Rattle.audit_report.specs.Blocks.{advisory_at}
 use Rattle.audit_advisory.specs.Exits.{same_kind}
-use Rattle.audit_report.specs.Words.{kind_word}
+use Rattle.report_parts.specs.Words.{kind_word}
 use Rattle.audit_advisory.specs.declared.advisories.Advisory.{Advisory}
 use Rattle.audit_lock.specs.declared.resolving.Package.{Package}
 use Rattle.audit_advisory.specs.declared.reports.Report.{Report}
@@ -46,14 +47,6 @@ kind_warning_at kind advisories packages w =
     if same_kind w.kind kind
     then warning_of kind (slice_get packages w.«package») (advisory_at advisories w.advisory)
     else []
-
--- the tokens of these members, without brackets
-abbrev pub listed_tokens : List (List ℕ × Json) → List Token
-listed_tokens ms = flat_map (λ m. key m.0 ∷ json_tokens m.1) ms
-
--- a member, or none
-abbrev pub member_if : Bool → List ℕ → Json → List (List ℕ × Json)
-member_if stands name j = if stands then (name, j) ∷ [] else []
 
 abbrev pub occurs : WarningKind → List Warning → Bool
 occurs kind warnings = list_any (λ w. same_kind w.kind kind) warnings

@@ -1,8 +1,8 @@
 -- The objects of the JSON form (this project, after cargo-audit).
 use Rattle.std.specs.Prelude.{codes, [], ◌∷◌, map, Option, Some, None, option_map}
 use Rattle.json.specs.Json.{Json, null, string}
-use Rattle.audit_report.specs.Values.{count_or_null, object_of, text_or_null, texts}
-use Rattle.audit_report.specs.Words.{informational_word, kind_word, severity_word}
+use Rattle.report_parts.specs.Values.{count_or_null, object_of, text_or_null, texts}
+use Rattle.report_parts.specs.Words.{informational_word, kind_word, severity_word}
 use Rattle.audit_advisory.specs.declared.advisories.Advisory.{Advisory}
 use Rattle.audit_advisory.specs.declared.metadata.Metadata.{Metadata}
 use Rattle.audit_lock.specs.declared.resolving.Package.{Package}

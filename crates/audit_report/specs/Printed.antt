@@ -9,8 +9,8 @@ use Rattle.audit_advisory.specs.declared.outputs.OutputFormat.TheVariants as for
 use Rattle.audit_advisory.specs.declared.reports.Report.{Report}
 use Rattle.audit_report.specs.Blocks.{blocks_of}
 use Rattle.audit_report.specs.Documents.{report_line}
-use Rattle.audit_report.specs.Sarif.{sarif_log, uri_of}
-use Rattle.audit_report.specs.SarifObjects.{sarif_line}
+use Rattle.audit_sarif.specs.Sarif.{sarif_log, uri_of}
+use Rattle.audit_sarif.specs.SarifObjects.{sarif_line}
 use Rattle.audit_report.specs.Shown.{blocks_text, shown_after}
 use Rattle.audit_report.specs.Summaries.{summary}
 use Rattle.audit_report.specs.declared.presenters.Presenter.{Presenter}

@@ -5,10 +5,10 @@ ghost use Rattle.semver.specs.Identifiers.{parts_of};
 ghost use Rattle.audit_report.specs.Affected.{affected_line, affected_paths, path_text, paths_line};
 ghost use Rattle.audit_report.specs.Affected as spec;
 
-use crate::attributes::push_attribute;
 use crate::symbols::SymbolSet;
 use audit_advisory::{Advisory, Function, FunctionPath, Requirement, meets_any, read_version};
 use audit_lock::Package;
+use report_parts::push_attribute;
 use semver::Version;
 use std::alloc::{AllocError, Global};
 use tame_names::{NoMemory, Text};

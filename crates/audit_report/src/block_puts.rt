@@ -7,16 +7,16 @@ ghost use Rattle.audit_lock.specs.Parents.{tree_of};
 ghost use Rattle.audit_lock.specs.declared.resolving.Package.{Package};
 ghost use Rattle.audit_advisory.specs.declared.advisories.Advisory.{Advisory};
 ghost use Rattle.audit_report.specs.Blocks.{Block, blocks_of, vulnerability_blocks, warning_blocks};
-ghost use Rattle.audit_report.specs.Outputs.{IsPut};
+ghost use Rattle.report_parts.specs.Outputs.{IsPut};
 ghost use Rattle.audit_report.specs.Shown.{blocks_text, shown_after};
 ghost use Rattle.audit_report.specs.Symbols.{Segments};
 
 use crate::blocks::{vulnerability_lines, warning_lines};
 use crate::findings::{Findings, Sheet};
-use crate::putting::PrintError;
 use crate::tree_puts::put_block;
 use audit_advisory::{Report, Vulnerability, Warning, advisory_at, listed_at};
 use audit_lock::package_at;
+use report_parts::PrintError;
 use std::alloc::Global;
 use tame_names::Sink;
 

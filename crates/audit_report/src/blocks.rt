@@ -4,11 +4,10 @@ ghost use Rattle.audit_report.specs.Blocks.{crate_lines, metadata_lines, or_text
 ghost use Rattle.audit_report.specs.Blocks as spec;
 
 use crate::affected::push_affected;
-use crate::attributes::{push_attribute, push_severity, push_url};
 use crate::symbols::SymbolSet;
-use crate::words::kind_word;
 use audit_advisory::{Advisory, Metadata, Requirement, WarningKind};
 use audit_lock::Package;
+use report_parts::{kind_word, push_attribute, push_severity, push_url};
 use std::alloc::{AllocError, Global};
 use tame_names::NoMemory;
 
@@ -31,13 +30,6 @@ pub fn push_metadata(alloc: Global, out: &mut String, metadata: &Metadata) -> Re
     push_attribute(out, "ID:", metadata.id.as_str())?;
     push_url(out, metadata)?;
     push_severity(alloc, out, metadata.score_tenths)
-}
-
-/// The text of a requirement.
-pub fn requirement_text(requirement: &Requirement) -> &str
-    ensures { result.now ≡ requirement.now }
-{
-    requirement.text.as_str()
 }
 
 fn push_or_texts(out: &mut String, texts: &[Requirement]) -> Result<(), AllocError>

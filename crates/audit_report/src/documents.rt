@@ -4,15 +4,15 @@ ghost use Rattle.json.specs.Json.{document};
 ghost use Rattle.json.specs.Tree.{json_tokens};
 ghost use Rattle.audit_report.specs.Documents.{ReadsBack, found_object, report_object, warnings_object};
 ghost use Rattle.audit_report.specs.Documents as spec;
-ghost use Rattle.audit_report.specs.WrittenTokens.{WritesTokens};
-ghost use Rattle.audit_report.specs.Values.{count, json_text, object_of};
+ghost use Rattle.report_parts.specs.WrittenTokens.{WritesTokens};
+ghost use Rattle.report_parts.specs.Values.{count, json_text, object_of};
 
 use crate::listed::{write_found, write_warnings};
-use crate::members::{close_object, open_object, write_count, write_name};
 use crate::settings::write_settings;
 use audit_advisory::{Advisory, Report};
 use audit_lock::Package;
 use json::Writer;
+use report_parts::{close_object, open_object, write_count, write_name};
 use std::alloc::{AllocError, Global};
 
 fn write_counted(out: &mut Writer, name: &str, number: usize) -> Result<(), AllocError>

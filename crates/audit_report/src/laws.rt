@@ -1,12 +1,8 @@
 //! What holds of everything that a presenter prints.
 ghost use Rattle.std.specs.Prelude.{◌≡◌, ◌↔◌, ℕ, List, [], ◌∷◌, ◌++◌, map, Bool, IsTrue, true, not, ◌&&◌, ◌||◌};
 ghost use Rattle.std.specs.List.{Any};
-ghost use Rattle.audit_advisory.specs.declared.advisories.Advisory.{Advisory};
-ghost use Rattle.audit_advisory.specs.declared.reports.Report.{Report};
 ghost use Rattle.audit_lock.specs.declared.resolving.Package.{Package};
 ghost use Rattle.audit_report.specs.Blocks.{Block};
-ghost use Rattle.audit_report.specs.Rules.{HasRulesOfResults};
-ghost use Rattle.audit_report.specs.Sarif.{sarif_log};
 ghost use Rattle.audit_report.specs.Shown.{blocks_text, is_among, shown_after, tree_lines, was_shown};
 ghost use Rattle.audit_report.specs.Symbols.{Names, Segments, is_kept, plain};
 ghost use Rattle.audit_report.specs.declared.shown_trees.ShownTree.{ShownTree};
@@ -30,11 +26,4 @@ pub fn each_tree_stands_once()
 pub fn kept_paths_are_symbols_with_gaps()
     ensures { (symbols : List Segments) (path : Segments)
         → IsTrue (is_kept symbols path) ↔ Any (Names (map plain path)) symbols }
-{}
-
-/// The log that is printed of a report as SARIF has one rule for each id that a result names, in
-/// the order of first use, and no others (SARIF 2.1.0, section 3.19.23).
-pub fn printed_rules_are_those_of_results()
-    ensures { (uri : List ℕ) (advisories : List Advisory) (packages : List Package)
-        (report : Report) → HasRulesOfResults (sarif_log uri advisories packages report).run }
 {}

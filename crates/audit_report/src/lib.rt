@@ -3,7 +3,8 @@
 //!
 //! Promises: the bytes put are a function of the presenter, the report, the advisories and the
 //! packages; a refusal leaves the presenter as it was; JSON and SARIF read back to what they say.
-//! Stands on the sinks of `tame_names`, on `audit_lock` and `audit_advisory`, and on `serde_json`.
+//! Depends on the sinks of `tame_names`, on `audit_lock`, `audit_advisory`, `report_parts` and
+//! `audit_sarif`.
 //!
 //! ```text
 //! Crate:     tiny-json
@@ -28,7 +29,6 @@
 #![tactic(auto)]
 
 mod affected;
-mod attributes;
 mod binaries;
 mod block_puts;
 mod blocks;
@@ -36,21 +36,9 @@ mod documents;
 mod findings;
 mod laws;
 mod listed;
-mod members;
 mod objects;
 mod pages;
-mod placing;
 mod presenters;
-mod putting;
-mod sarif_lines;
-mod sarif_logs;
-mod sarif_objects;
-mod sarif_results;
-mod sarif_rule_objects;
-mod sarif_rules;
-mod sarif_runs;
-mod sarif_texts;
-mod sarif_words;
 mod self_reports;
 mod settings;
 mod shown_trees;
@@ -58,18 +46,10 @@ mod status_lines;
 mod summaries;
 mod symbols;
 mod tree_puts;
-mod words;
 
-pub use attributes::push_number;
 pub use binaries::Found;
-pub use laws::{
-    each_tree_stands_once, kept_paths_are_symbols_with_gaps, printed_rules_are_those_of_results,
-};
+pub use laws::{each_tree_stands_once, kept_paths_are_symbols_with_gaps};
 pub use presenters::Presenter;
-pub use putting::PrintError;
-pub use sarif_logs::{
-    Level, MultiformatMessageString, Precision, Rule, Run, SarifLog, SarifResult,
-};
 pub use status_lines::{
     binary_line_in, push_loaded, push_unchecked, push_updating, scanning_line_in,
 };

@@ -6,18 +6,15 @@ ghost use Rattle.json.specs.Token.{key};
 ghost use Rattle.json.specs.Tree.{json_tokens};
 ghost use Rattle.audit_report.specs.Documents.{found_object, hit_at, hit_of, kind_member, listed_tokens, member_if, kind_warning_at, warning_of, warnings_object};
 ghost use Rattle.audit_report.specs.Documents as spec;
-ghost use Rattle.audit_report.specs.WrittenTokens.{WritesTokens};
-ghost use Rattle.audit_report.specs.Words.{kind_word};
-ghost use Rattle.audit_report.specs.Values.{array_of, count};
+ghost use Rattle.report_parts.specs.WrittenTokens.{WritesTokens};
+ghost use Rattle.report_parts.specs.Words.{kind_word};
+ghost use Rattle.report_parts.specs.Values.{array_of, count};
 
-use crate::members::{
-    close_array, close_object, open_array, open_object, write_count, write_flag, write_name,
-};
 use crate::objects::{write_hit, write_warning};
-use crate::words::kind_word;
 use audit_advisory::{Advisory, Vulnerability, Warning, WarningKind, advisory_at, listed_at};
 use audit_lock::{Package, package_at};
 use json::Writer;
+use report_parts::{close_array, close_object, kind_word, open_array, open_object, write_count, write_flag, write_name};
 use std::alloc::AllocError;
 
 fn write_hit_of(

@@ -3,19 +3,15 @@ ghost use Rattle.std.specs.Prelude.{◌≡◌, ◌++◌, ◌∷◌, codes, OnOk,
 ghost use Rattle.json.specs.Json.{string};
 ghost use Rattle.json.specs.Token.{key};
 ghost use Rattle.json.specs.Tree.{json_tokens};
-ghost use Rattle.audit_report.specs.WrittenTokens.{WritesTokens};
+ghost use Rattle.report_parts.specs.WrittenTokens.{WritesTokens};
 ghost use Rattle.audit_report.specs.Objects.{hit_object, metadata_object, metadata_or_null, package_object, versions_object, warning_object};
-ghost use Rattle.audit_report.specs.Words.{informational_word, kind_word};
-ghost use Rattle.audit_report.specs.Values.{text_or_null, texts};
+ghost use Rattle.report_parts.specs.Words.{informational_word, kind_word};
+ghost use Rattle.report_parts.specs.Values.{text_or_null, texts};
 
-use crate::members::{
-    close_object, open_object, write_name, write_optional, write_requirements, write_score,
-    write_str, write_text, write_word,
-};
-use crate::words::{kind_word, stated_informational};
 use audit_advisory::{Advisory, Informational, Metadata, WarningKind};
 use audit_lock::Package;
 use json::Writer;
+use report_parts::{close_object, kind_word, open_object, stated_informational, write_name, write_optional, write_requirements, write_score, write_str, write_text, write_word};
 use std::alloc::AllocError;
 
 /// Writes the member that tells what an informational advisory tells, or null.

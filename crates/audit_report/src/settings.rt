@@ -2,15 +2,14 @@
 ghost use Rattle.std.specs.Prelude.{◌≡◌, ◌++◌, ◌∷◌, codes, map, option_map, OnOk};
 ghost use Rattle.json.specs.Token.{key};
 ghost use Rattle.json.specs.Tree.{json_tokens};
-ghost use Rattle.audit_report.specs.WrittenTokens.{WritesTokens};
+ghost use Rattle.report_parts.specs.WrittenTokens.{WritesTokens};
 ghost use Rattle.audit_report.specs.Objects.{settings_object};
-ghost use Rattle.audit_report.specs.Values.{text_or_null, texts};
-ghost use Rattle.audit_report.specs.Words.{informational_word, severity_word};
+ghost use Rattle.report_parts.specs.Values.{text_or_null, texts};
+ghost use Rattle.report_parts.specs.Words.{informational_word, severity_word};
 
-use crate::members::{close_object, open_object, write_texts, write_word};
-use crate::words::{informational_word, stated_severity};
 use audit_advisory::{Informational, Settings, Severity};
 use json::Writer;
+use report_parts::{close_object, informational_word, open_object, stated_severity, write_texts, write_word};
 use std::alloc::AllocError;
 use tame_names::Items;
 

@@ -4,19 +4,10 @@ ghost use Rattle.json.specs.Print.{quoted};
 ghost use Rattle.audit_report.specs.StatusLines.{loaded_line, unchecked_line, unchecked_title, updating_line};
 ghost use Rattle.audit_report.specs.StatusLines as spec;
 
-use crate::attributes::push_number;
 use crate::binaries::Found;
 use audit_advisory::OutputConfig;
-use serde_json::Value;
+use report_parts::{push_number, push_quoted};
 use std::alloc::{AllocError, Global};
-
-/// Appends a text as a JSON string.
-pub fn push_quoted(alloc: Global, out: &mut String, text: &str) -> Result<(), AllocError>
-    ensures { OnOk result (string_bytes out.new ≡ string_bytes out.old ++ quoted text.now) }
-{
-    let quoted = Value::String(String::from_str(alloc, text)?).to_string(alloc)?;
-    out.push_str(quoted.as_str())
-}
 
 /// Appends the line that tells how many advisories the database at a path has.
 #[tactic(auto, unfolding(crate::specs::StatusLines::loaded_line))]

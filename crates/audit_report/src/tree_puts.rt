@@ -3,14 +3,14 @@ ghost use Rattle.std.specs.Prelude.{◌≡◌, ◌≢◌, ◌<◌, ◌≤◌, �
 ghost use Rattle.tame_names.specs.Counts.{CountRose};
 ghost use Rattle.audit_lock.specs.Parents.{tree_of};
 ghost use Rattle.audit_report.specs.Blocks.{tree_at};
-ghost use Rattle.audit_report.specs.Outputs.{IsPut};
+ghost use Rattle.report_parts.specs.Outputs.{IsPut};
 ghost use Rattle.audit_report.specs.Shown.{is_due, shown_with, tree_lines, tree_text};
 
 use crate::findings::{Findings, Sheet};
 use crate::pages::Page;
-use crate::putting::{PrintError, put_text};
 use crate::shown_trees::{add_due, is_due};
 use audit_lock::{Package, RenderFault};
+use report_parts::{PrintError, put_text};
 use std::alloc::Global;
 use tame_names::Sink;
 

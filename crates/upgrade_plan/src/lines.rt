@@ -1,21 +1,13 @@
 //! The lines of a plan, and the status that it ends with.
 ghost use Rattle.std.specs.Prelude.{◌≡◌, ◌++◌, IfOk, OnOk, string_bytes, slice_get};
-ghost use Rattle.json.specs.Print.{quoted};
 ghost use Rattle.upgrade_plan.specs.Lines.{cause_word, item_line, line_at, outcome_words};
 ghost use Rattle.upgrade_plan.specs.Lines as spec;
 
 use crate::plans::{PlanItem, PlanOutcome};
 use crate::records::NoRecord;
 use audit_lock::{Package, package_at};
-use serde_json::Value;
+use report_parts::push_quoted;
 use std::alloc::{AllocError, Global};
-
-fn push_quoted(alloc: Global, out: &mut String, text: &str) -> Result<(), AllocError>
-    ensures { OnOk result (string_bytes out.new ≡ string_bytes out.old ++ quoted text.now) }
-{
-    let quoted = Value::String(String::from_str(alloc, text)?).to_string(alloc)?;
-    out.push_str(quoted.as_str())
-}
 
 fn push_cause(out: &mut String, cause: NoRecord) -> Result<(), AllocError>
     ensures { OnOk result (string_bytes out.new ≡ string_bytes out.old ++ cause_word cause) }

@@ -5,7 +5,7 @@ use Rattle.std.specs.Prelude.{bytes_eq}
 use Rattle.tame_names.specs.Output.{AddsPrefix}
 use Rattle.audit_lock.specs.Rendering.{rendering}
 use Rattle.audit_lock.specs.declared.resolving.Package.{Package}
-use Rattle.audit_report.proofs.Puts.{part_first, part_then}
+use Rattle.report_parts.proofs.Puts.{part_first, part_then}
 use Rattle.uses.specs.Trees.{trees_from}
 
 -- behind a part of the whole a part of the next text, where that and the rest complete the whole

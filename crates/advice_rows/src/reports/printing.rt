@@ -1,7 +1,9 @@
 //! What is printed.
 use crate::row_words::{found, place, places};
 use crate::stage::{Laid, Stage};
-use audit_report::{PrintError, SarifLog, push_loaded, push_unchecked, push_updating};
+use audit_report::{push_loaded, push_unchecked, push_updating};
+use audit_sarif::SarifLog;
+use report_parts::PrintError;
 use row_fixtures::{Row, RowFault};
 use std::alloc::{AllocError, Global};
 use tame_names::{Items, MemSink, utf8_text};

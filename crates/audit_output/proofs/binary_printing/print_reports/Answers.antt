@@ -1,4 +1,4 @@
-use Rattle.audit_report.proofs.Puts.{if_err, part_first, put_then}
+use Rattle.report_parts.proofs.Puts.{if_err, part_first, put_then}
 use Rattle.audit_output.proofs.binary_printing.print_reports.Goals as goal
 
 pub returns-in_err-print_loaded-clause-err : goal.returns-in_err-print_loaded-clause-err

@@ -1,7 +1,7 @@
 use Rattle.std.proofs.Common.{◌≡◌, [], Some, Err, length, rules, arith}
 use Rattle.std.proofs.lemmas.Grind.{common_steps}
 use Rattle.audit_remedies.specs.declared.faults.RunFault.TheVariants as fault
-use Rattle.audit_report.proofs.Puts.{part_none}
+use Rattle.report_parts.proofs.Puts.{part_none}
 use Rattle.audit_remedies.specs.Faults.{by_print}
 use Rattle.audit_remedies.specs.Finishes.{end_of}
 use Rattle.audit_remedies.specs.Statuses.{fix_plan_of}

@@ -1,7 +1,7 @@
 use Rattle.std.proofs.Common.{refl, sym, append-nil, arith, ◌++◌}
 use Rattle.std.proofs.lemmas.List.{take_all}
 use Rattle.audit_report.proofs.Pouring.{poured_cut, poured_next, trees_next}
-use Rattle.audit_report.proofs.Puts.{all_put, if_err}
+use Rattle.report_parts.proofs.Puts.{all_put, if_err}
 use Rattle.audit_report.proofs.block_puts.put_each.Goals as goal
 
 pub loop-item-init : goal.loop-item-init

@@ -3,7 +3,7 @@ use Rattle.std.proofs.lemmas.Result.{on_ok_weaker}
 use Rattle.std.specs.List.{flat_map}
 use Rattle.audit_report.specs.Blocks.{vulnerability_blocks, warning_blocks}
 use Rattle.audit_report.proofs.Pouring.{both_put, both_shown, first_cut}
-use Rattle.audit_report.proofs.Puts.{if_err}
+use Rattle.report_parts.proofs.Puts.{if_err}
 use Rattle.audit_report.proofs.block_puts.put_report.Goals as goal
 
 pub returns-in_err-put_each-clause-put : goal.returns-in_err-put_each-clause-put

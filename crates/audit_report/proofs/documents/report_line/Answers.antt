@@ -1,8 +1,8 @@
 use Rattle.std.proofs.Common.{ap, sym, ◌∙◌}
 use Rattle.json.specs.Json.{document}
 use Rattle.audit_report.specs.Documents.{report_line, report_object}
-use Rattle.audit_report.specs.Values.{json_text}
-use Rattle.audit_report.proofs.Newline.{document-newline}
+use Rattle.report_parts.specs.Values.{json_text}
+use Rattle.report_parts.proofs.Newline.{document-newline}
 use Rattle.audit_report.proofs.documents.report_line.Goals as goal
 
 pub returns-clause-reads_back : goal.returns-clause-reads_back

@@ -2,7 +2,7 @@ use Rattle.std.proofs.Common.{arith}
 use Rattle.std.proofs.lemmas.Grind.{common_steps}
 use Rattle.audit_report.proofs.Depths.{report_within}
 use Rattle.audit_report.specs.Documents.{report_object}
-use Rattle.audit_report.proofs.Reading.{reads_back}
+use Rattle.report_parts.proofs.Reading.{reads_back}
 use Rattle.audit_report.proofs.documents.report_text.Goals as goal
 
 pub returns-clause-reads_back : goal.returns-clause-reads_back

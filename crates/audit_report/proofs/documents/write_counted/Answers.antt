@@ -1,4 +1,4 @@
-use Rattle.audit_report.proofs.Writing.{behind}
+use Rattle.report_parts.proofs.Writing.{behind}
 use Rattle.audit_report.proofs.documents.write_counted.Goals as goal
 
 pub returns : goal.returns

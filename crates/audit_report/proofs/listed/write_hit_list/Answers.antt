@@ -1,5 +1,5 @@
 use Rattle.std.specs.List.{flat_map}
-use Rattle.audit_report.proofs.Writing.{adds_array, behind}
+use Rattle.report_parts.proofs.Writing.{adds_array, behind}
 use Rattle.audit_report.specs.Documents.{hit_at}
 use Rattle.audit_report.proofs.listed.write_hit_list.Goals as goal
 

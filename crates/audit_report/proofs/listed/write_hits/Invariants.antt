@@ -1,7 +1,7 @@
 use Rattle.std.proofs.Common.{take}
 use Rattle.std.specs.List.{flat_map}
 use Rattle.json.specs.Tree.{json_tokens}
-use Rattle.audit_report.specs.WrittenTokens.{WritesTokens}
+use Rattle.report_parts.specs.WrittenTokens.{WritesTokens}
 use Rattle.audit_report.specs.Documents.{hit_at}
 use Rattle.audit_report.proofs.listed.write_hits.Given as goal
 

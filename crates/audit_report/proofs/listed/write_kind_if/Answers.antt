@@ -1,10 +1,10 @@
 use Rattle.std.proofs.Common.{arith}
 use Rattle.std.specs.List.{flat_map}
 use Rattle.audit_report.specs.Documents.{kind_warning_at}
-use Rattle.audit_report.proofs.Writing.{behind}
-use Rattle.audit_report.specs.Values.{array_of}
-use Rattle.audit_report.proofs.Joining.{adds_member_if}
-use Rattle.audit_report.specs.Words.{kind_word}
+use Rattle.report_parts.proofs.Writing.{behind}
+use Rattle.report_parts.specs.Values.{array_of}
+use Rattle.report_parts.proofs.Joining.{adds_member_if}
+use Rattle.report_parts.specs.Words.{kind_word}
 use Rattle.audit_report.proofs.listed.write_kind_if.Goals as goal
 
 pub returns : goal.returns

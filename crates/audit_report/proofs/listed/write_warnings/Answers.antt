@@ -1,5 +1,5 @@
-use Rattle.audit_report.proofs.Writing.{behind}
-use Rattle.audit_report.proofs.Joining.{adds_four}
+use Rattle.report_parts.proofs.Writing.{behind}
+use Rattle.report_parts.proofs.Joining.{adds_four}
 use Rattle.audit_report.specs.Documents.{kind_member}
 use Rattle.audit_advisory.specs.declared.outputs.WarningKind.TheVariants as kind
 use Rattle.audit_report.proofs.listed.write_warnings.Goals as goal

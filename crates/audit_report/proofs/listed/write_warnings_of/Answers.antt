@@ -1,4 +1,4 @@
-use Rattle.audit_report.proofs.Writing.{adds_next, adds_none}
+use Rattle.report_parts.proofs.Writing.{adds_next, adds_none}
 use Rattle.audit_report.specs.Documents.{kind_warning_at}
 use Rattle.audit_report.proofs.listed.write_warnings_of.Goals as goal
 

@@ -1,8 +1,8 @@
 use Rattle.std.proofs.Common.{◌≡◌, ◌++◌, drop, map}
 use Rattle.json.specs.Json.{string}
 use Rattle.json.specs.Tree.{items_tokens}
-use Rattle.audit_report.specs.Words.{informational_word}
-use Rattle.audit_report.specs.Values.{items_of}
+use Rattle.report_parts.specs.Words.{informational_word}
+use Rattle.report_parts.specs.Values.{items_of}
 use Rattle.audit_report.proofs.settings.write_informational.Given as goal
 
 -- what is written, and what is left to write

@@ -1,4 +1,4 @@
-use Rattle.audit_report.proofs.Puts.{if_err}
+use Rattle.report_parts.proofs.Puts.{if_err}
 use Rattle.audit_report.proofs.Treed.{cut_in_lines, cut_in_tree, put_treed}
 use Rattle.audit_report.proofs.tree_puts.put_tree_text.Goals as goal
 

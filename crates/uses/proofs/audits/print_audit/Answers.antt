@@ -1,6 +1,6 @@
 use Rattle.std.proofs.Common.{◌≡◌, ◌++◌, codes, length, ◌∙◌}
 use Rattle.tame_names.specs.Output.{AddsPrefix}
-use Rattle.audit_report.proofs.Puts.{if_err, part_first, put_then}
+use Rattle.report_parts.proofs.Puts.{if_err, part_first, put_then}
 use Rattle.audit_report.specs.StatusLines.{scanning_line_in}
 use Rattle.uses.proofs.Presenting.{fresh}
 use Rattle.uses.proofs.audits.print_audit.Goals as goal

@@ -4,7 +4,7 @@ use Rattle.tame_names.specs.Output.{AddsPrefix}
 use Rattle.audit_lock.specs.Rendering.{rendering}
 use Rattle.audit_lock.specs.declared.resolving.Package.{Package}
 use Rattle.audit_lock.proofs.Steps.{drop_at}
-use Rattle.audit_report.proofs.Puts.{part_whole}
+use Rattle.report_parts.proofs.Puts.{part_whole}
 use Rattle.uses.proofs.Parts.{part_next, put_next, trees_next, trees_passed}
 use Rattle.uses.specs.Trees.{trees_from, trees_of}
 use Rattle.uses.proofs.audits.put_trees.Goals as goal

@@ -1,6 +1,6 @@
 use Rattle.std.proofs.Common.{arith}
 use Rattle.std.proofs.lemmas.Grind.{common_steps}
-use Rattle.audit_report.proofs.Placed.{placed_in}
+use Rattle.report_parts.proofs.Placed.{placed_in}
 use Rattle.audit_report.proofs.presenters.Presenter.print_report.Goals as goal
 
 pub returns-then-not-is_placed-clause-placed : goal.returns-then-not-is_placed-clause-placed

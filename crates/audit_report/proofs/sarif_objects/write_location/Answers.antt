@@ -1,9 +1,0 @@
-use Rattle.audit_report.proofs.Writing.{behind}
-use Rattle.audit_report.proofs.sarif_objects.write_location.Goals as goal
-
-pub returns : goal.returns
-returns c =
-    behind (behind (behind c.in_ok-close_object.ensures
-    c.in_ok-write_physical.ensures)
-    c.in_ok-write_name.ensures)
-    c.in_ok-open_object.ensures

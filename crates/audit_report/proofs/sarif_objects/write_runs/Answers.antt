@@ -1,8 +1,0 @@
-use Rattle.audit_report.proofs.Writing.{behind}
-use Rattle.audit_report.proofs.sarif_objects.write_runs.Goals as goal
-
-pub returns : goal.returns
-returns c =
-    behind (behind c.in_ok-close_array.ensures
-    c.in_ok-write_run.ensures)
-    c.in_ok-open_array.ensures

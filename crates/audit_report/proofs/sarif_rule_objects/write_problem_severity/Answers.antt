@@ -1,4 +1,0 @@
-use Rattle.audit_report.proofs.sarif_rule_objects.write_problem_severity.Goals as goal
-
-pub returns : goal.returns
-returns c = rw c.problem_severity.ensures at c.write_word_if.ensures

@@ -1,0 +1,3 @@
+pub mod FirstUses
+pub mod SarifDepths
+pub mod Telling

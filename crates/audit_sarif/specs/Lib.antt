@@ -1,0 +1,6 @@
+pub mod Firsts
+pub mod Rules
+pub mod Sarif
+pub mod SarifObjects
+pub mod SarifRuns
+pub mod SarifTexts
