@@ -1,4 +1,4 @@
--- Steps of which each may refuse.
+-- Steps, each of which may fail.
 use Rattle.std.specs.Prelude.{Option, Some, None, Result, Ok, Err}
 
 abbrev pub and_then : {A B E : Type 0} → (A → Result B E) → Result A E → Result B E

@@ -1,4 +1,4 @@
-//! Floats, however deep they stand.
+//! Floats at any depth.
 ghost use Rattle.std.specs.Prelude.{◌≡◌};
 ghost use Rattle.toml.specs.View.{view, table_view, array_view};
 ghost use Rattle.toml_tables.specs.Floats.{members_have_float};
@@ -30,7 +30,7 @@ fn items_have_float(items: &Vec<Value>) -> bool
     false
 }
 
-/// Whether a value in a table, however deep, is a float (TOML, "Float"): a number with a point or
+/// Whether a value in a table, at any depth, is a float (TOML, "Float"): a number with a point or
 /// an exponent, an infinity, or `nan`.
 #[cycle(floats)]
 pub fn table_has_float(table: &Table) -> bool

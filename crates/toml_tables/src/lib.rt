@@ -1,8 +1,8 @@
-//! Tables of TOML, and what stands at their keys.
+//! Tables of TOML, and the values at their keys.
 //!
-//! Promises: a text is the table that it is in TOML, or none; what stands at a key is read exactly
-//! by its form: present, absent, or another value.
-//! Stands on the texts and lists of `tame_names`, and on `toml`.
+//! Promises: a string is the table that it is in TOML, or none; the value at a key is read exactly
+//! by its form: present, absent, or another value. Depends on the strings and lists of
+//! `tame_names`, and on `toml`.
 //!
 //! ```ignore
 //! let table = parse_table(alloc, "name = \"serde\"")?;

@@ -1,5 +1,5 @@
-//! What stands at a key: a value of the wanted form, another one, or none. Each function takes the
-//! member that was found, or nothing where the key is absent.
+//! The value at a key: one of the wanted form, another one, or none. Each function takes the member
+//! that was found, or nothing if the key is absent.
 ghost use Rattle.std.specs.Prelude.{◌≡◌, [], Ok, Some, None, IfOk, option_map};
 ghost use Rattle.toml.specs.Data.{as_bool, as_str, as_table};
 ghost use Rattle.toml.specs.View.{view, table_view, items_view};
@@ -10,7 +10,7 @@ use std::alloc::Global;
 use tame_names::{Items, NoMemory, Text};
 use toml::{Table, Value};
 
-/// A text; nothing where the member is absent or of another form.
+/// A string; nothing if the member is absent or of another form.
 pub fn required_text<'a>(member: Option<&'a Value>) -> Option<&'a str>
     ensures { option_map (λ s. s.now) result
         ≡ required as_str (option_map (λ v. view v.now) member.entry) }
@@ -21,7 +21,7 @@ pub fn required_text<'a>(member: Option<&'a Value>) -> Option<&'a str>
     }
 }
 
-/// A text, or that the member is absent; nothing where it is of another form.
+/// A string, or that the member is absent; nothing if it is of another form.
 pub fn optional_text<'a>(member: Option<&'a Value>) -> Option<Option<&'a str>>
     ensures { option_map (option_map (λ s. s.now)) result
         ≡ optional as_str (option_map (λ v. view v.now) member.entry) }
@@ -33,7 +33,7 @@ pub fn optional_text<'a>(member: Option<&'a Value>) -> Option<Option<&'a str>>
     }
 }
 
-/// A flag, or that the member is absent; nothing where it is of another form.
+/// A flag, or that the member is absent; nothing if it is of another form.
 pub fn optional_flag(member: Option<&Value>) -> Option<Option<bool>>
     ensures { result ≡ optional as_bool (option_map (λ v. view v.now) member.entry) }
 {
@@ -44,7 +44,7 @@ pub fn optional_flag(member: Option<&Value>) -> Option<Option<bool>>
     }
 }
 
-/// A whole number from 0 to 2^63 - 1, or that the member is absent; nothing where it is another
+/// A whole number from 0 to 2^63 - 1, or that the member is absent; nothing if it is another
 /// number, or of another form.
 pub fn optional_number(member: Option<&Value>) -> Option<Option<u64>>
     ensures { result ≡ optional natural (option_map (λ v. view v.now) member.entry) }
@@ -56,7 +56,7 @@ pub fn optional_number(member: Option<&Value>) -> Option<Option<u64>>
     }
 }
 
-/// A table; nothing where the member is absent or of another form.
+/// A table; nothing if the member is absent or of another form.
 pub fn required_table<'a>(member: Option<&'a Value>) -> Option<&'a Table>
     ensures { option_map (λ t. table_view t.now) result
         ≡ required as_table (option_map (λ v. view v.now) member.entry) }
@@ -67,7 +67,7 @@ pub fn required_table<'a>(member: Option<&'a Value>) -> Option<&'a Table>
     }
 }
 
-/// A table, or that the member is absent; nothing where it is of another form.
+/// A table, or that the member is absent; nothing if it is of another form.
 pub fn optional_table<'a>(member: Option<&'a Value>) -> Option<Option<&'a Table>>
     ensures { option_map (option_map (λ t. table_view t.now)) result
         ≡ optional as_table (option_map (λ v. view v.now) member.entry) }
@@ -92,7 +92,7 @@ fn texts_in(alloc: Global, items: &[Value]) -> Result<Option<Items<Text>>, NoMem
     Ok(Some(texts))
 }
 
-/// The texts of an array; nothing where the value is another one, or holds another one.
+/// The strings of an array; nothing if the value is no array, or holds anything else.
 pub fn texts_of(alloc: Global, value: &Value) -> Result<Option<Items<Text>>, NoMemory>
     ensures { IfOk result (λ texts. texts ≡ spec.texts_of (view value.now)) }
 {
@@ -102,7 +102,7 @@ pub fn texts_of(alloc: Global, value: &Value) -> Result<Option<Items<Text>>, NoM
     }
 }
 
-/// The texts of an array, none where the member is absent; nothing where it is of another form.
+/// The strings of an array, none if the member is absent; nothing if it is of another form.
 pub fn optional_texts(
     alloc: Global,
     member: Option<&Value>,

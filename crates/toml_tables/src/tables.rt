@@ -1,4 +1,4 @@
-//! A text's table, and the values at its keys.
+//! A string's table, and the values at its keys.
 ghost use Rattle.std.specs.Prelude.{◌≡◌, IfOk, IsErrOf, Some, None, option_map};
 ghost use Rattle.toml.specs.Data.{get_member};
 ghost use Rattle.toml.specs.Parse.{parse_document};
@@ -7,17 +7,17 @@ ghost use Rattle.toml.specs.View.{view, table_view};
 use std::alloc::Global;
 use toml::{Table, Value};
 
-/// Why a text gave no table.
+/// Why a string gave no table.
 #[derive(Clone, Copy, Debug, PartialEq, Eq)]
 pub enum TableFault {
-    /// The text is no TOML.
+    /// The string is no TOML.
     Toml,
-    /// Memory ran out.
+    /// Out of memory.
     NoMemory,
 }
 
-/// The table that a text is, as the toolchain's `toml` reads it: TOML 1.1, arrays and inline tables
-/// nested at most 80 deep. `Toml` exactly where the text is none.
+/// The table in a string, as the toolchain's `toml` reads it: TOML 1.1, arrays and inline tables
+/// nested at most 80 deep. `Toml` exactly if the string is none.
 pub fn parse_table(alloc: Global, text: &str) -> Result<Table, TableFault>
     ensures ok { IfOk result (λ table. parse_document text.now ≡ Some (table_view table)) }
     ensures refused { IsErrOf result TableFault.Toml → parse_document text.now ≡ None }
