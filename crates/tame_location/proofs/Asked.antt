@@ -51,14 +51,14 @@ module _ (may wide : FailedCall → Type 0) (more : (call : FailedCall) → may 
   wider T (Ok a) h = h
   wider T (Err e) h = wider_err e h
 
--- ---- the walk over files
+-- ---- the search in files
 
 module _ (A : Type 0) (answer : List ℕ → Members → Option A) (host : Host) (paths : List (List ℕ)) (i : ℕ) (path : List ℕ)
     (low : i < length paths) (is : path ≡ get_or paths i path) (none : answer_at answer host path ≡ Ok None) where
   left : drop i paths ≡ path ∷ drop (i + 1) paths
   left = rw add-one (drop-cons paths i path low ∙ ap (λ p. p ∷ drop (suc i) paths) (sym is))
 
-  -- a file that has no answer leaves it to those behind it
+  -- a file that has no answer leaves it to those after it
   pub answer_rest : first_answer answer host (drop i paths) ≡ first_answer answer host (drop (i + 1) paths)
   answer_rest = ap (first_answer answer host) left ∙ ap (and_then (λ found. or_next found (first_answer answer host (drop (i + 1) paths)))) none
 
@@ -72,7 +72,7 @@ module _ (A : Type 0) (answer : List ℕ → Members → Option A) (host : Host)
 
 -- ---- calls in a row
 
--- those behind a look that gave no answer
+-- those after a search that gave no answer
 pub asked_behind : {A : Type 0} (xs ys : List FailedCall) (r : Result (Option A) Error) → r ≡ Ok None
     → (call : FailedCall) → Contains ys call → Contains (xs ++ unless_answered r ys) call
 asked_behind {A} xs ys r none call h =

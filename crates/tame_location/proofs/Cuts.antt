@@ -17,7 +17,7 @@ starts_not n s h = elim (cases_Bool (starts_with nat_eq s n)) [
   | inr x ↦ x
 ]
 
--- where the text stands nowhere, nothing is cut
+-- if the text occurs nowhere, nothing is cut
 pub cut_none : (n s : List ℕ) → ((i : ℕ) → i ≤ length s → (rest : List ℕ) → drop i s ≢ n ++ rest) → cut_at n s ≡ None
 cut_none n [] h = refl
 cut_none n (b ∷ bs) h =
@@ -30,7 +30,7 @@ too_short n i back some e =
     let left : 0 - i ≡ length n + length back = sym (length-drop i none) ∙ ap length e ∙ length-append n back in
     omega (arith, left, some)
 
--- what is cut stands round the first place
+-- what is cut is around the first occurrence
 pub cut_first : (n s : List ℕ) (i : ℕ) → 0 < length n → ((k : ℕ) → k < i → (rest : List ℕ) → drop k s ≢ n ++ rest)
     → (back : List ℕ) → drop i s ≡ n ++ back → cut_at n s ≡ Some (take i s, drop (i + length n) s)
 cut_first n [] i some h back e = absurd (too_short n i back some e)

@@ -10,11 +10,11 @@ use Rattle.tame_location.specs.Locks.{AreTries, GoesOn, IsHeld, IsLeft, IsTakenA
 use Rattle.tame_location.specs.declared.locks.LockRefusal.{LockRefusal}
 use Rattle.tame_location.specs.declared.locks.LockRefusal.TheVariants as refusal
 
--- one try more is left in front of the tries that are left
+-- one try more is left before the tries that are left
 one-more : (times number : ℕ) → number < times → suc (times - (number + 1)) ≡ times - number
 one-more times number low = omega (arith, low)
 
--- a try in front of those that are left
+-- a try before those that are left
 pub try-on : (times number : ℕ) (path : List ℕ) (exclusive : Bool) (before middle now : LockMoment) (told why : Option LockTakeFault) (r : Result Unit LockError)
     → number < times → told ≡ why → Takes path exclusive false told before middle
     → GoesOn (AreTries (times - (number + 1)) path exclusive middle now r) why middle now r

@@ -20,7 +20,7 @@ current_call = record { call = file_call.CurrentDir; path = None }
 abbrev pub read_call : List ℕ → FailedCall
 read_call path = record { call = file_call.Read; path = Some path }
 
--- a call that failed is told by `Io` with `Failed`; the read of a file with its path
+-- the error of a failed call is `Io` with `Failed`; with the path if it reads a file
 abbrev pub error_by : FileCall → Option (List ℕ) → Error
 error_by file_call.Read (Some path) = error.IoPath io.Failed path
 error_by _ _ = error.Io io.Failed
@@ -30,19 +30,19 @@ error_of call = error_by call.call call.path
 
 -- ---- what a failed one does
 
--- what a host has tells the reason; a call that failed and want of memory are told by no host
+-- what a host has tells the reason, except that a call failed or that it is out of memory
 abbrev pub IsTold : Error → Type 0
 IsTold (error.Io io.Failed) = ⊥
 IsTold (error.IoPath io.Failed path) = ⊥
 IsTold error.NoMemory = ⊥
 IsTold _ = Unit {0}
 
--- memory didn't run out
+-- it wasn't out of memory
 abbrev pub HadMemory : {T : Type 0} → Result T Error → Type 0
 HadMemory result = IfErr result (λ e. e ≢ error.NoMemory)
 
--- an error that is a failed call's is that of one that may be asked, which was added to the failed
--- ones; any other added none
+-- an error of a failed call is that of one that may be asked, which was added to the failed ones;
+-- any other added none
 abbrev pub AddsBy : (FailedCall → Type 0) → List FailedCall → List FailedCall → Error → Type 0
 AddsBy may before now (error.IoPath io.Failed path) =
     (now ≡ before ++ read_call path ∷ []) × may (read_call path)

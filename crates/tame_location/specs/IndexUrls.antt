@@ -12,18 +12,18 @@ sparse_index = codes "sparse+https://index.crates.io/"
 abbrev pub git_index : List ℕ
 git_index = codes "https://github.com/rust-lang/crates.io-index"
 
--- a url is one of an index that is asked by the sparse protocol
+-- a url is one of an index that uses the sparse protocol
 abbrev pub is_sparse_url : List ℕ → Bool
 is_sparse_url url = starts_with nat_eq url (codes "sparse+http")
 
--- the url as text; of a local registry its path
+-- the url as text; for a local registry its path
 abbrev pub url_text : IndexUrl → List ℕ
 url_text url.CratesIoSparse = sparse_index
 url_text url.CratesIoGit = git_index
 url_text (url.NonCratesIo text) = cow_str_bytes text
 url_text (url.Local path) = path
 
--- an index is asked by the sparse protocol
+-- an index uses the sparse protocol
 abbrev pub is_sparse : IndexUrl → Bool
 is_sparse url.CratesIoSparse = true
 is_sparse url.CratesIoGit = false

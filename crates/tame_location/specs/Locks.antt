@@ -38,8 +38,8 @@ abbrev pub lock_moment : Locks → Host → ℕ → List FailedCall → LockMome
 lock_moment locks host faults failed =
     record { locks = locks; host = host; faults = faults; failed = failed }
 
--- the calls that have failed after an opening that was refused so, a taking, and the making of a
--- folder that was made or wasn't
+-- the calls that have failed after an opening that was refused so, a taking, and the creation of a
+-- folder that was created or wasn't
 abbrev pub with_opening : List ℕ → Option LockOpenFault → List FailedCall → List FailedCall
 with_opening path (Some open_fault.Failed) calls =
     calls ++ record { call = file_call.OpenLock; path = Some path } ∷ []
@@ -56,7 +56,7 @@ with_making folder false calls =
     calls ++ record { call = file_call.MakeDirs; path = Some folder } ∷ []
 
 -- an opening of the file, and why it was refused, if it was: it is a step, a failed one was
--- counted, and an exclusive one that wasn't refused, or failed, may have made an empty file
+-- counted, and an exclusive one that wasn't refused, or failed, may have created an empty file
 pub record Opens (path : List ℕ) (exclusive : Bool) (why : Option LockOpenFault)
     (before now : LockMoment) : Type 0 where
   pub step : now.locks.steps ≡ before.locks.steps ++ open_step path exclusive why ∷ []
@@ -89,12 +89,12 @@ abbrev pub IsShared : List ℕ → LockMoment → LockMoment → Result LockStat
 IsShared path before now result =
     (why : Option LockOpenFault) × Opens path false why before now × (result ≡ by_shared why)
 
--- what follows an exclusive opening that was denied: a shared one, where that may take its place
+-- what follows an exclusive opening that was denied: a shared one, if that may take its place
 abbrev pub FallsBack : Bool → List ℕ → LockMoment → LockMoment → Result LockState LockError → Type 0
 FallsBack true path before now result = IsShared path before now result
 FallsBack false path before now result = (result ≡ Err error.Readonly) × (now ≡ before)
 
--- what follows an exclusive opening once the folder is made
+-- what follows an exclusive opening once the folder is created
 abbrev pub Follows : Bool → List ℕ → Option LockOpenFault → LockMoment → LockMoment
     → Result LockState LockError → Type 0
 Follows fallback path None before now result = (result ≡ Ok state.Exclusive) × (now ≡ before)
@@ -105,32 +105,32 @@ Follows fallback path (Some open_fault.NotFound) before now result =
 Follows fallback path (Some open_fault.Failed) before now result =
     (result ≡ Err error.Open) × (now ≡ before)
 
--- an exclusive opening once the folder is made
+-- an exclusive opening once the folder is created
 abbrev pub IsAgain : Bool → List ℕ → LockMoment → LockMoment → Result LockState LockError → Type 0
 IsAgain fallback path before now result = (why : Option LockOpenFault)
     × (middle : LockMoment) × Opens path true why before middle
     × Follows fallback path why middle now result
 
--- all folders on these ways are made, or some of them from the front
+-- all folders on these ways are created, or the first few of them
 abbrev pub AreMade : Bool → List (List ℕ) → Host → Host → Type 0
 AreMade true ways before now = now ≡ with_folders ways before
 AreMade false ways before now = (n : ℕ) × (now ≡ with_folders (take n ways) before)
 
--- the making of a folder, which may fail: it is no step, and a failure was counted
+-- the creation of a folder, which may fail: it is no step, and a failure was counted
 pub record MakesFolder (made : Bool) (folder : List ℕ) (before now : LockMoment) : Type 0 where
   pub locks : now.locks ≡ before.locks
   pub cause : HasLockCause (made ≡ false) before.faults now.faults
   pub failed : now.failed ≡ with_making folder made before.failed
   pub folders : AreMade made (ways_to folder) before.host now.host
 
--- whether the folder that the file is in is made: it is in none; it is in the current one, which is
--- there; or it is one that has to be made
+-- whether the folder that the file is in is created: it is in none; it is in the current one, which
+-- is there; or it is one that must be created
 abbrev pub IsMade : Bool → Option (List ℕ) → LockMoment → LockMoment → Type 0
 IsMade made None before now = (made ≡ false) × (now ≡ before)
 IsMade made (Some []) before now = (made ≡ true) × (now ≡ before)
 IsMade made (Some (b ∷ bs)) before now = MakesFolder made (b ∷ bs) before now
 
--- what follows an exclusive opening that found nothing: another one, where the folder is made
+-- what follows an exclusive opening that found nothing: another one, if the folder is created
 abbrev pub Retries : Bool → Bool → List ℕ → LockMoment → LockMoment → Result LockState LockError → Type 0
 Retries true fallback path before now result = IsAgain fallback path before now result
 Retries false fallback path before now result = (result ≡ Err error.CreateDir) × (now ≡ before)
@@ -174,12 +174,12 @@ by_taking (Some take_fault.Contested) = Err error.Contested
 by_taking (Some take_fault.NotSupported) = Err error.NotSupported
 by_taking (Some take_fault.Failed) = Err error.Lock
 
--- one taking, which waits for its turn or doesn't
+-- one taking, which may or may not wait for its turn
 abbrev pub IsTaking : List ℕ → Bool → Bool → LockMoment → LockMoment → Result Unit LockError → Type 0
 IsTaking path exclusive block before now result = (why : Option LockTakeFault)
     × Takes path exclusive block why before now × (result ≡ by_taking why)
 
--- a taking was contested, and then this holds; or its answer is the result
+-- if a taking was contested, this holds; else its answer is the result
 abbrev pub GoesOn : Type 0 → Option LockTakeFault → LockMoment → LockMoment → Result Unit LockError → Type 0
 GoesOn more (Some take_fault.Contested) before now result = more
 GoesOn more why before now result = (result ≡ by_taking why) × (now ≡ before)
@@ -207,7 +207,7 @@ IsWaiting says path exclusive before now result = (why : Option LockTakeFault)
 
 -- ---- the whole of it
 
--- a state, where its lock was taken
+-- a state, if its lock was taken
 abbrev pub with_state : LockState → Result Unit LockError → Result LockState LockError
 with_state s (Ok done) = Ok s
 with_state s (Err e) = Err e
@@ -289,7 +289,7 @@ Holds (Err why) before now = now.taken ≡ before.taken
 
 -- ---- why it isn't
 
--- why a file isn't opened: no taking says so
+-- why a file isn't opened: no taking gives these reasons
 abbrev pub IsOpenRefusal : LockRefusal → Type 0
 IsOpenRefusal (refusal.Lock error.Open) = Unit {0}
 IsOpenRefusal (refusal.Lock error.Readonly) = Unit {0}
@@ -297,7 +297,7 @@ IsOpenRefusal (refusal.Lock error.CreateDir) = Unit {0}
 IsOpenRefusal (refusal.Lock _) = ⊥
 IsOpenRefusal refusal.NoMemory = Unit {0}
 
--- why one taking takes no lock: another one holds it only where it doesn't wait
+-- why one taking takes no lock: another holds it only if it doesn't wait
 abbrev pub IsTakeRefusal : Bool → LockRefusal → Type 0
 IsTakeRefusal block (refusal.Lock error.Contested) = block ≡ false
 IsTakeRefusal block (refusal.Lock error.NotSupported) = Unit {0}
@@ -318,7 +318,7 @@ abbrev pub IsRefusal : LockError → LockRefusal → Type 0
 IsRefusal never (refusal.Lock e) = e ≢ never
 IsRefusal never refusal.NoMemory = Unit {0}
 
--- the error of it: with the path, and each reason but this one; or want of memory
+-- the error of it: with the path, and each reason but this one; or out of memory
 abbrev pub IsLockedError : List ℕ → LockError → Error → Type 0
 IsLockedError path never (fault.Lock e) = (e.path ≡ path) × (e.source ≢ never)
 IsLockedError path never fault.NoMemory = Unit {0}
@@ -331,26 +331,26 @@ IsLockFault _ = ⊥
 
 -- ---- what is told
 
--- what holds of a taking or of why there is none; nothing of want of memory
+-- what holds of a taking or of why there is none; nothing if out of memory
 abbrev pub TellsTaken : (Result Unit LockError → Type 0) → Result Unit LockRefusal → Type 0
 TellsTaken holds (Ok done) = holds (Ok tt)
 TellsTaken holds (Err (refusal.Lock e)) = holds (Err e)
 TellsTaken holds (Err refusal.NoMemory) = Unit {0}
 
--- what holds of a state or of why there is none; nothing of want of memory
+-- what holds of a state or of why there is none; nothing if out of memory
 abbrev pub Tells : (Result LockState LockError → Type 0) → Result (OpenedLock × LockState) LockRefusal
     → Type 0
 Tells holds (Ok opened) = holds (Ok opened.1)
 Tells holds (Err (refusal.Lock e)) = holds (Err e)
 Tells holds (Err refusal.NoMemory) = Unit {0}
 
--- what holds of a held lock's state or of why there is none; nothing of want of memory
+-- what holds of a held lock's state or of why there is none; nothing if out of memory
 abbrev pub TellsHeld : (Result LockState LockError → Type 0) → Result FileLock LockRefusal → Type 0
 TellsHeld holds (Ok held) = holds (Ok held.state)
 TellsHeld holds (Err (refusal.Lock e)) = holds (Err e)
 TellsHeld holds (Err refusal.NoMemory) = Unit {0}
 
--- the same of an answer: an error is one of the lock with its path, or want of memory
+-- the same of an answer: an error is one of the lock with its path, or out of memory
 abbrev pub TellsLock : List ℕ → (Result LockState LockError → Type 0) → Result FileLock Error
     → Type 0
 TellsLock path holds (Ok held) = holds (Ok held.state)
@@ -363,19 +363,19 @@ abbrev pub folder_ways : Option (List ℕ) → List (List ℕ)
 folder_ways None = []
 folder_ways (Some folder) = ways_to folder
 
--- what a host has stays, but that an exclusive opening may make folders on the way to the file,
--- from the first on, and then an empty file where nothing is
+-- what a host has stays, but that an exclusive opening may create folders on the way to the file,
+-- from the first on, and then an empty file if nothing is there
 abbrev pub Leaves : Bool → List ℕ → Host → Host → Type 0
 Leaves false path before now = now ≡ before
 Leaves true path before now = (n : ℕ)
     × MayMake true path (with_folders (take n (folder_ways (parent path))) before) now
 
--- the lock of cargo's package cache, in the root that is given or in cargo's home
+-- the lock of cargo's package cache, in the given root or in cargo's home
 abbrev pub package_lock : Option (List ℕ) → Host → Result (List ℕ) Error
 package_lock root host =
     and_then (λ folder. Ok (join folder (codes ".package-cache"))) (root_of root host)
 
--- the answer of a call: with the path of the file where its lock isn't held
+-- the answer of a call: with the path of the file if its lock isn't held
 abbrev pub answer_of : List ℕ → Result FileLock LockRefusal → Result FileLock Error
 answer_of path (Ok held) = Ok held
 answer_of path (Err (refusal.Lock why)) = Err (fault.Lock (record { path = path; source = why }))

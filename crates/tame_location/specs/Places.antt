@@ -9,8 +9,8 @@ use Rattle.tame_location.specs.Homes.{IsHomeCall, home_of}
 
 -- ---- the folders from one upwards
 
--- these are a folder, if there is one, and those above it: each is the parent of the one in front
--- of it, and the last has none
+-- these are a folder, if there is one, and those above it: each is the parent of the one before it,
+-- and the last has none
 abbrev pub AreUpwards : Option (List ℕ) → List (List ℕ) → Type 0
 AreUpwards None [] = Unit {0}
 AreUpwards None (first ∷ more) = ⊥
@@ -25,7 +25,7 @@ folder_file folder = join folder (codes ".cargo/config.toml")
 abbrev pub home_file : List ℕ → List ℕ
 home_file home = join home (codes "config.toml")
 
--- the file in cargo's home, where this is told
+-- the file in cargo's home, if this is known
 abbrev pub home_files : Option (List ℕ) → List (List ℕ)
 home_files None = []
 home_files (Some home) = home_file home ∷ []
@@ -37,7 +37,7 @@ AreFiles folder home paths = (folders : List (List ℕ)) × AreUpwards folder fo
 
 -- ---- where they are looked for
 
--- the folder that is given; else the current one, or none where asking for it failed
+-- the given folder; else the current one, or none if asking for it failed
 abbrev pub IsStart : Option (List ℕ) → Host → List FailedCall → List FailedCall
     → Option (List ℕ) → Type 0
 IsStart (Some root) host before now folder = (folder ≡ Some root) × (now ≡ before)
@@ -48,15 +48,14 @@ abbrev pub home_told : Result (List ℕ) Error → Option (List ℕ)
 home_told (Ok home) = Some home
 home_told (Err e) = None
 
--- the home that is given; else cargo's home where it is told, or none where asking for it failed
+-- the given home; else cargo's home if it is known, or none if asking for it failed
 abbrev pub IsHome : Option (List ℕ) → Host → List FailedCall → List FailedCall
     → Option (List ℕ) → Type 0
 IsHome (Some given) host before now home = (home ≡ Some given) × (now ≡ before)
 IsHome None host before now home = ((home ≡ home_told (home_of host)) × (now ≡ before))
     ⊎ ((home ≡ None) × ((call : FailedCall) × (now ≡ before ++ call ∷ []) × IsHomeCall host call))
 
--- these are the files for the root and the home that are given or told; what can't be told is
--- passed over
+-- these are the files for the root and the home that are given or found; what is unknown is skipped
 abbrev pub AreSettingsFiles : Option (List ℕ) → Option (List ℕ) → Host → List FailedCall
     → List FailedCall → List (List ℕ) → Type 0
 AreSettingsFiles root home host before now paths = (folder : Option (List ℕ))

@@ -4,7 +4,7 @@ use Rattle.tame_names.specs.declared.errors.Error.TheVariants as error
 use Rattle.tame_names.specs.declared.errors.IoKind.TheVariants as io
 
 -- the reasons why a file of settings can't be used: it can't be read, isn't UTF-8 or is no TOML; or
--- memory ran out
+-- out of memory
 abbrev pub IsFileError : Error → Type 0
 IsFileError (error.IoPath io.Failed path) = Unit {0}
 IsFileError (error.IoPath io.InvalidData path) = Unit {0}

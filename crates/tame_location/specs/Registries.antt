@@ -23,7 +23,7 @@ use Rattle.tame_location.specs.declared.index_urls.IndexUrl.TheVariants as url
 use Rattle.tame_location.specs.declared.settings.HeldUrl.{HeldUrl}
 use Rattle.tame_location.specs.declared.settings.HeldUrl.TheVariants as held
 
--- a url with a text of its own, however that is held
+-- a url with a text of its own, owned or borrowed
 abbrev pub held_url : IndexUrl → HeldUrl
 held_url url.CratesIoSparse = held.CratesIoSparse
 held_url url.CratesIoGit = held.CratesIoGit
@@ -35,12 +35,12 @@ held_url (url.Local path) = held.Local path
 abbrev pub protocol_variable : List ℕ
 protocol_variable = codes "CARGO_REGISTRIES_CRATES_IO_PROTOCOL"
 
--- whether a variable asks for the sparse protocol; another value than the two words asks nothing
+-- whether a variable asks for the sparse protocol; a value other than the two words asks nothing
 abbrev pub protocol_set : EnvValue → Option Bool
 protocol_set (value.Value word) = protocol word
 protocol_set _ = None
 
--- cargo asks the sparse index since 1.70.0
+-- cargo uses the sparse index since 1.70.0
 abbrev pub by_version : Option (List ℕ) → Result Bool Error
 by_version None = Err error.NoCargoVersion
 by_version (Some text) =
@@ -67,13 +67,12 @@ or_crates_io host paths version (Some found) = Ok found
 or_crates_io host paths version None = and_then (λ sparse. Ok (crates_io_by sparse))
     (is_sparse_by (protocol_set (host.environment protocol_variable)) host paths version)
 
--- what takes the place of crates.io by the first of these files that says so, else one of its two
--- indices
+-- what replaces crates.io by the first of these files that says so, else one of its two indices
 abbrev pub crates_io_in : Host → List (List ℕ) → Option (List ℕ) → Result HeldUrl Error
 crates_io_in host paths version = and_then (or_crates_io host paths version)
     (first_answer (replacement (codes "crates-io") git_index) host paths)
 
--- the calls behind the asking for the variable: none where it decides
+-- the calls after asking for the variable: none if it decides
 abbrev pub protocol_calls : Option Bool → Host → List (List ℕ) → List FailedCall
 protocol_calls (Some sparse) host paths = []
 protocol_calls None host paths = reads (λ path. protocol_in) host paths
@@ -82,9 +81,9 @@ abbrev pub variable_calls : Host → List (List ℕ) → List FailedCall
 variable_calls host paths = env_call protocol_variable
     ∷ protocol_calls (protocol_set (host.environment protocol_variable)) host paths
 
--- the calls that this takes, in their order: the reads of files for what takes its place; where
--- none says so the variable is asked for, and then the files are read for the protocol. No file
--- behind one that answers is read
+-- the calls that this takes, in their order: the reads of files for the replacement; if none has
+-- one, the variable is asked for, and then the files are read for the protocol. No file after one
+-- that answers is read
 abbrev pub crates_io_calls : Host → List (List ℕ) → List FailedCall
 crates_io_calls host paths =
     reads (replacement (codes "crates-io") git_index) host paths
@@ -93,7 +92,7 @@ crates_io_calls host paths =
 
 -- ---- other registries
 
--- a letter raised, and `-` as `_`
+-- a letter in upper case, and `-` as `_`
 abbrev pub raised : ℕ → ℕ
 raised b = if b == 45 then 95 else to_ascii_uppercase b
 
@@ -105,24 +104,24 @@ abbrev pub or_index : List ℕ → Option HeldUrl → HeldUrl
 or_index index (Some found) = found
 or_index index None = held.NonCratesIo index
 
--- what takes the place of a registry with this index, else that
+-- what replaces a registry with this index, else that index
 abbrev pub indexed : Host → List (List ℕ) → List ℕ → Option (List ℕ) → Result HeldUrl Error
 indexed host paths name None = Err (error.UnknownRegistry name)
 indexed host paths name (Some index) = and_then (λ found. Ok (or_index index found))
     (first_answer (replacement name index) host paths)
 
--- the registry of a name by these files: its index first, and then what takes its place
+-- the registry of a name by these files: its index first, and then its replacement
 abbrev pub registry_in : Host → List (List ℕ) → List ℕ → Result HeldUrl Error
 registry_in host paths name =
     and_then (indexed host paths name) (first_answer (λ path. index_in name) host paths)
 
--- the calls behind the look for an index: the reads of files for what takes its place
+-- the calls after the search for an index: the reads of files for the replacement
 abbrev pub indexed_calls : Host → List (List ℕ) → List ℕ → Result (Option (List ℕ)) Error
     → List FailedCall
 indexed_calls host paths name (Ok (Some index)) = reads (replacement name index) host paths
 indexed_calls host paths name _ = []
 
--- the calls that this takes, in their order; no file behind one that answers is read
+-- the calls that this takes, in their order; no file after one that answers is read
 abbrev pub registry_calls : Host → List (List ℕ) → List ℕ → List FailedCall
 registry_calls host paths name =
     reads (λ path. index_in name) host paths
@@ -130,16 +129,16 @@ registry_calls host paths name =
 
 -- ---- what asking answers
 
--- the answer by the files of settings for the root and the home that are given, and the call that
--- failed, if one did
+-- the answer by the files of settings for the given root and home, and the call that failed, if one
+-- did
 pub record IsByFiles (root home : Option (List ℕ)) (host : Host) (before now : List FailedCall)
     (calls : List (List ℕ) → List FailedCall) (answer : List (List ℕ) → Result HeldUrl Error)
     (result : Result HeldUrl Error) : Type 0 where
-  -- the files, and the failed calls once they are told
+  -- the files, and the failed calls once they are known
   pub paths : List (List ℕ)
   pub middle : List FailedCall
   pub files : AreSettingsFiles root home host before middle paths
-  -- a failed call behind that is one of those that these files take
+  -- a failed call after that is one of those that these files take
   pub failed : AddsFailed (Contains (calls paths)) middle now result
   -- the answer is theirs
   pub ok : IfOk result (λ found. answer paths ≡ Ok found)
@@ -163,8 +162,8 @@ IsRegistryBy value.Unset root home host before now name result =
     IsByFiles root home host before now (λ paths. registry_calls host paths name)
     (λ paths. registry_in host paths name) result
 
--- the registry of a name: its variable is asked for first, and either that failed or the registry
--- is by its value
+-- the registry of a name: its variable is asked for first; either that failed or the registry is by
+-- its value
 abbrev pub IsRegistry : Option (List ℕ) → Option (List ℕ) → Host → List FailedCall
     → List FailedCall → List ℕ → Result HeldUrl Error → Type 0
 IsRegistry root home host before now name result =
@@ -172,8 +171,8 @@ IsRegistry root home host before now name result =
     × (now ≡ before ++ env_call (index_variable name) ∷ []))
     ⊎ IsRegistryBy (host.environment (index_variable name)) root home host before now name result
 
--- the reasons why crates.io has no url: no version where one is needed, one that is none, those of
--- the files, and that the variable can't be asked for
+-- the reasons why crates.io has no url: no version if one is needed, one that is none, those of the
+-- files, and that the variable can't be asked for
 abbrev pub IsCratesIoError : Error → Type 0
 IsCratesIoError error.NoCargoVersion = Unit {0}
 IsCratesIoError error.Semver = Unit {0}

@@ -1,4 +1,4 @@
--- What cargo's settings say of indices (Cargo Book, "Configuration" and "Source Replacement").
+-- What cargo's settings say about indices (Cargo Book, "Configuration" and "Source Replacement").
 use Rattle.std.specs.Prelude.{ℕ, codes, List, [], ◌∷◌, bytes_eq, Bool, true, false, ◌||◌, Option, Some, None, option_map, option_and_then, if◌then◌else◌, Result, Ok, Err}
 use Rattle.std.specs.Option.{option_or}
 use Rattle.toml.specs.Data.{Data, table, Members, no_members, member, as_str, as_table, get_member}
@@ -18,12 +18,12 @@ use Rattle.tame_location.specs.declared.settings.HeldUrl.TheVariants as held
 
 -- ---- a file of settings
 
--- the table that bytes are
+-- the table in these bytes
 abbrev pub table_of : List ℕ → List ℕ → Result Members Error
 table_of path bytes = and_then (λ text. or_fault error.Toml (parse_document text))
     (or_fault (error.IoPath io.InvalidData path) (utf8_text bytes))
 
--- the table of what stands at a path, if anything does; only a file can be read
+-- the table of what is at a path, if anything is; only a file can be read
 abbrev pub table_in : List ℕ → Standing → Result (Option Members) Error
 table_in path Nothing = Ok None
 table_in path (File bytes) = and_then (λ config. Ok (Some config)) (table_of path bytes)
@@ -46,14 +46,14 @@ abbrev pub answer_at : {A : Type 0} → (List ℕ → Members → Option A) → 
 answer_at answer host path =
     and_then (λ config. Ok (answer_in answer path config)) (table_in path (host.stands path))
 
--- the first answer of these files in their order; files behind it aren't read
+-- the first answer of these files in their order; files after it aren't read
 abbrev pub first_answer : {A : Type 0} → (List ℕ → Members → Option A) → Host → List (List ℕ)
     → Result (Option A) Error
 first_answer answer host [] = Ok None
 first_answer answer host (path ∷ more) =
     and_then (λ found. or_next found (first_answer answer host more)) (answer_at answer host path)
 
--- the calls behind a step that may answer: none where it answers or refuses
+-- the calls after a step that may answer: none if it answers or refuses
 abbrev pub unless_answered : {A : Type 0} → Result (Option A) Error → List FailedCall
     → List FailedCall
 unless_answered (Ok None) calls = calls
@@ -81,8 +81,7 @@ abbrev pub is_text : Option (List ℕ) → List ℕ → Bool
 is_text None text = false
 is_text (Some found) text = bytes_eq found text
 
--- the source that takes the place of this one, where it is that of the registry: by its name, or
--- by its url
+-- the source that replaces this one, if it is that of the registry: by its name, or by its url
 abbrev pub replaced_by : List ℕ → List ℕ → List ℕ → Data → Option (List ℕ)
 replaced_by name url key (table source) =
     if bytes_eq key name || is_text (text_at (codes "registry") source) url
@@ -111,7 +110,7 @@ source_by path source None = local_at path (text_at (codes "local-registry") sou
 abbrev pub source_url : List ℕ → Members → Option HeldUrl
 source_url path source = source_by path source (get_member (codes "registry") source)
 
--- the source that takes the place of a registry, among the sources of a file
+-- the source that replaces a registry, among the sources of a file
 abbrev pub replacement_in : List ℕ → List ℕ → List ℕ → Members → Option HeldUrl
 replacement_in name url path sources = option_and_then (source_url path)
     (option_and_then (λ key. table_at key sources) (replacing name url sources))
@@ -131,7 +130,7 @@ registry_text name key config = option_and_then (text_at key)
 abbrev pub index_in : List ℕ → Members → Option (List ℕ)
 index_in name config = registry_text name (codes "index") config
 
--- whether a word names the sparse protocol; another than the two names none
+-- whether a word names the sparse protocol; nothing unless it is one of the two
 abbrev pub protocol : List ℕ → Option Bool
 protocol word =
     if bytes_eq word (codes "sparse") then Some true

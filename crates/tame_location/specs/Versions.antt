@@ -1,4 +1,4 @@
--- Versions as cargo tells them (`cargo -V`), and their order (Semantic Versioning 2.0.0, 11).
+-- Versions as cargo prints them (`cargo -V`), and their order (Semantic Versioning 2.0.0, 11).
 use Rattle.std.specs.Prelude.{ℕ, List, Bool, Option, option_map, Result, Ok, Err, []}
 use Rattle.std.specs.Ordering.{is_ge, nat_cmp, ordering_then}
 use Rattle.std.specs.Str.{trim}
@@ -18,21 +18,21 @@ abbrev pub parsed : {E : Type 0} → Result Parts E → Result Parts Error
 parsed (Ok parts) = Ok parts
 parsed (Err e) = Err error.Semver
 
--- the version that a text is
+-- the version in a text
 abbrev pub version_of : List ℕ → Result Parts Error
 version_of text = parsed (version_parts text)
 
--- the reasons why a text is no version: it is none, or memory ran out
+-- the reasons why a text is no version: it is none, or out of memory
 abbrev pub IsVersionError : Error → Type 0
 IsVersionError error.Semver = Unit {0}
 IsVersionError error.NoMemory = Unit {0}
 IsVersionError _ = ⊥
 
--- what stands between the first and the second space of the trimmed text
+-- the text between the first and the second space of the trimmed text
 abbrev pub told_version : List ℕ → Option (List ℕ)
 told_version text = option_map (until 32) (behind_of 32 (trim text))
 
--- the version in what cargo tells of itself
+-- the version in what cargo prints about itself
 abbrev pub cargo_version : List ℕ → Result Parts Error
 cargo_version text = and_then version_of (or_fault (error.Io io.InvalidData) (told_version text))
 

@@ -1,4 +1,4 @@
-//! What the definitions give at published values.
+//! What the definitions give for published values.
 ghost use Rattle.std.specs.Prelude.{◌≡◌, ◌∷◌, [], codes, false, Ok, Err};
 ghost use Rattle.tame_names.specs.declared.errors.InvalidUrlError.TheVariants.{MissingScheme};
 ghost use Rattle.tame_location.specs.Folders.{dir_of};
@@ -6,7 +6,7 @@ ghost use Rattle.tame_location.specs.SipHash.{sip_hash_2_4};
 ghost use Rattle.tame_location.specs.Urls.{canonical_url, refused_url};
 
 /// Published values of SipHash-2-4 (its authors' reference vectors): the key 00 01 .. 0f, and the
-/// messages of the bytes 00 01 .. that are none, 7, 8 and 15.
+/// messages of the bytes 00 01 .. of length 0, 7, 8 and 15.
 pub fn sip_hash_examples()
     ensures empty { sip_hash_2_4 0x0706050403020100 0x0f0e0d0c0b0a0908
         [] ≡ 0x726fdb47dd0e0e31 }

@@ -18,9 +18,9 @@ use tame_names::{Error, Files, InvalidUrlError, Items, NoMemory, Text, join};
 /// The folder of a url.
 #[derive(Debug, Drop, PartialEq, Eq)]
 pub struct UrlDir {
-    /// Its name, which is one of its own for each url that cargo tells apart.
+    /// Its name, which is different for each url that cargo distinguishes.
     pub dir_name: Text,
-    /// The url that it is kept for.
+    /// The url for which it is kept.
     pub canonical: Text,
 }
 
@@ -28,7 +28,7 @@ const GIT_REGISTRY: u8 = 2;
 
 const SPARSE_REGISTRY: u8 = 3;
 
-/// The kind of index that a url with this modifier has, and the url that the modifier leaves.
+/// The kind of index of a url with this modifier, and the url without the modifier.
 fn kind_by<'u>(alloc: Global, url: &'u str, modifier: Option<&str>) -> Result<(u8, &'u str), Error>
     ensures ok { IfOk result (λ k. spec.kind_by url.now (option_map (λ m. m.now) modifier.entry)
         ≡ Ok (k.0, k.1.now)) }
@@ -50,7 +50,7 @@ fn kind_by<'u>(alloc: Global, url: &'u str, modifier: Option<&str>) -> Result<(u
     }
 }
 
-/// The bytes that tell folders of one host apart.
+/// The bytes that distinguish folders of one host.
 fn hashed(alloc: Global, kind: u8, url: &str) -> Result<Items<u8>, NoMemory>
     ensures { IfOk result (λ bytes. bytes ≡ spec.hashed kind url.now) }
 {
@@ -60,7 +60,7 @@ fn hashed(alloc: Global, kind: u8, url: &str) -> Result<Items<u8>, NoMemory>
     Ok(bytes)
 }
 
-/// The name of a folder: the host in what stands behind `://`, and the digits of a number.
+/// The name of a folder: the host in the text after `://`, and the digits of a number.
 fn folder_name(alloc: Global, rest: &str, number: u64) -> Result<Text, NoMemory>
     ensures { IfOk result (λ name. name ≡ spec.folder_name rest.now number) }
 {
@@ -104,7 +104,7 @@ fn dir_by<I: Ident>(
     })
 }
 
-/// The folder that cargo keeps for a url, and the url that it keeps it for: up to cargo 1.84 named
+/// The folder that cargo keeps for a url, and the url for which it keeps it: up to cargo 1.84 named
 /// by the url as it is, from 1.85.0 on (`stable`) by the canonical url with the number that `ident`
 /// gives. The url may begin with `sparse+` or `registry+`, of which the second is cut off.
 /// `InvalidUrl` with `MissingScheme` without `://`, and with `UnknownSchemeModifier` at another
@@ -136,7 +136,7 @@ fn index_path(alloc: Global, root: &str, name: &str) -> Result<Text, NoMemory>
     join(alloc, index.as_str(), name)
 }
 
-/// The root that is given, or else cargo's home.
+/// The given root, or else cargo's home.
 pub fn root_of<F: Files>(alloc: Global, files: &mut F, root: Option<&str>) -> Result<Text, Error>
     ensures ok { Told root.entry F.tells → IfOk result (λ folder.
         spec.root_of (option_map (λ r. r.now) root.entry) (F.host files.old) ≡ Ok folder) }
@@ -159,8 +159,8 @@ pub fn root_of<F: Files>(alloc: Global, files: &mut F, root: Option<&str>) -> Re
 }
 
 /// The path of the folder that cargo keeps for a url, below a root or else below cargo's home, and
-/// the url that it keeps it for. Errors are those of `url_to_local_dir`, and then those of
-/// `cargo_home` where no root is given: of a url without a folder the host isn't asked.
+/// the url for which it keeps it. Errors are those of `url_to_local_dir`, and then those of
+/// `cargo_home` if no root is given: if a url has no folder, the host isn't asked.
 pub fn get_index_details<F: Files, I: Ident>(
     alloc: Global,
     files: &mut F,

@@ -13,8 +13,7 @@ pub const CRATES_IO_HTTP_INDEX: &str = "sparse+https://index.crates.io/";
 /// The index of crates.io in a git repository.
 pub const CRATES_IO_INDEX: &str = "https://github.com/rust-lang/crates.io-index";
 
-/// Whether a url is one of an index that is asked by the sparse protocol (Cargo Book, "Registry
-/// Index").
+/// Whether a url is one of an index that uses the sparse protocol (Cargo Book, "Registry Index").
 pub fn is_sparse_url(url: &str) -> bool
     ensures { result ≡ spec.is_sparse_url url.now }
 {
@@ -28,14 +27,14 @@ pub enum IndexUrl<'u> {
     CratesIoSparse,
     /// The index of crates.io in a git repository.
     CratesIoGit,
-    /// Another index: sparse where its url begins with `sparse+http`, else in a git repository.
+    /// Another index: sparse if its url begins with `sparse+http`, else in a git repository.
     NonCratesIo(CowStr<'u>),
     /// The path of a local registry.
     Local(Text),
 }
 
 impl<'u> IndexUrl<'u> {
-    /// The url as text; of a local registry its path.
+    /// The url as text; for a local registry its path.
     pub fn as_str(&self) -> &str
         ensures { result.now ≡ url_text self.now }
     {
@@ -47,7 +46,7 @@ impl<'u> IndexUrl<'u> {
         }
     }
 
-    /// Whether it is asked by the sparse protocol.
+    /// Whether it uses the sparse protocol.
     pub fn is_sparse(&self) -> bool
         ensures { result ≡ spec.is_sparse self.now }
     {

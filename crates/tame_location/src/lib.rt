@@ -1,11 +1,10 @@
-//! Where cargo keeps what it has: its home, the folders of indices, which index a registry has, and
+//! Where cargo keeps its files: its home, the folders of indices, which index a registry has, and
 //! the locks of files.
 //!
 //! Promises: a folder, a url and an index are what a url, the variables, the settings and the
-//! current folder give, or the exact reason why they can't be told; a lock is held exactly where
-//! the last step on it took it.
-//! Stands on the host `Files`, the paths and the errors of `tame_names`, on `toml_tables`, and on
-//! `toml`, `semver` and `hex`.
+//! current folder give, or the exact reason why they are unknown; a lock is held exactly if the
+//! last step on it took it. Depends on the host `Files`, the paths and the errors of `tame_names`,
+//! on `toml_tables`, and on `toml`, `semver` and `hex`.
 //!
 //! ```text
 //! CARGO_HOME=/c            cargo_home          /c

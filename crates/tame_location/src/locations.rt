@@ -1,4 +1,4 @@
-//! Where the index of a url stands.
+//! Where the index of a url is.
 ghost use Rattle.std.specs.Prelude.{◌≡◌, ◌≢◌, ◌⊎◌, None, Ok, Err, IfOk, IfErr, option_map};
 ghost use Rattle.semver.specs.Identifiers.{parts_of};
 ghost use Rattle.tame_location.specs.Calls.{AddsFailed, HasCallCause};
@@ -18,23 +18,23 @@ use semver::Version;
 use std::alloc::Global;
 use tame_names::{Error, Files, NoMemory, Text};
 
-/// The place of an index on the disk.
+/// The path of an index on the disk.
 #[derive(Drop)]
 pub enum IndexPath {
     /// A folder of its own below cargo's home.
     CargoHome,
     /// A folder of its own below this one.
     UserSpecified(Text),
-    /// This folder, whatever the url is.
+    /// This folder, for any url.
     Exact(Text),
 }
 
-/// An index: its url, and where it stands on the disk.
+/// An index: its url, and where it is on the disk.
 #[derive(Drop)]
 pub struct IndexLocation<'l> {
     /// Its url.
     pub url: IndexUrl<'l>,
-    /// The folder that it stands in or below.
+    /// The folder in or below which it is.
     pub root: IndexPath,
     /// The version of cargo, by which the folder is named; not needed for an exact path.
     pub cargo_version: Option<Version>,
@@ -95,7 +95,7 @@ impl<'l> IndexLocation<'l> {
         }
     }
 
-    /// The same below this folder, or below cargo's home where none is given.
+    /// The same below this folder, or below cargo's home if none is given.
     pub fn with_root(self, root: Option<Text>) -> IndexLocation<'l>
         ensures { result ≡ record self.entry { root = path_of root } }
     {
@@ -104,7 +104,7 @@ impl<'l> IndexLocation<'l> {
         location
     }
 
-    /// The path of the index and its url, of one that is lent.
+    /// The path of the index and its url, for a borrowed location.
     fn parts<F: Files, I: Ident>(
         &self,
         alloc: Global,
@@ -137,8 +137,8 @@ impl<'l> IndexLocation<'l> {
     }
 
     /// The path of the index and its url: an exact path with the url as it is; else the folder of
-    /// the url below the given root or cargo's home, and the url that it is kept for, with a `/` at
-    /// its end. Errors are those of `cargo_home` where no root is given, then `NoCargoVersion`
+    /// the url below the given root or cargo's home, and the url for which it is kept, with a `/`
+    /// at its end. Errors are those of `cargo_home` if no root is given, then `NoCargoVersion`
     /// without a version, then those of `url_to_local_dir`.
     pub fn into_parts<F: Files, I: Ident>(
         self,

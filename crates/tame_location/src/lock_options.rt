@@ -1,4 +1,4 @@
-//! How the lock of a file is to be taken.
+//! How to take the lock of a file.
 ghost use Rattle.std.specs.Prelude.{◌≡◌, ◌≤◌, ℕ, Option, Ok, Err, IfOk, IfErr, IsSome, true, false, option_map};
 ghost use Rattle.std.specs.Cow.{cow_str_bytes};
 ghost use Rattle.std.specs.Fn.{FnReturnsAt};
@@ -19,7 +19,7 @@ use tame_names::{
     join,
 };
 
-/// The file whose lock is to be taken, and how.
+/// The file whose lock to take, and how.
 #[derive(Drop)]
 pub struct LockOptions<'p> {
     path: CowStr<'p>,
@@ -70,7 +70,7 @@ fn take_waiting<F: Files, G: Fn(&str) -> Option<u32>>(
     }
 }
 
-/// The answer of a call: with the path of the file where its lock isn't held.
+/// The answer of a call: with the path of the file if its lock isn't held.
 fn told(path: Text, held: Result<FileLock, LockRefusal>) -> Result<FileLock, Error>
     ensures { result ≡ spec.answer_of path held }
 {
@@ -96,7 +96,7 @@ impl<'p> LockOptions<'p> {
     }
 
     /// The lock that cargo takes on its package cache, exclusively: `.package-cache` in the given
-    /// folder or in cargo's home. Errors are those of `cargo_home` where no folder is given.
+    /// folder or in cargo's home. Errors are those of `cargo_home` if no folder is given.
     pub fn cargo_package_lock<F: Files>(
         alloc: Global,
         files: &mut F,
@@ -133,7 +133,7 @@ impl<'p> LockOptions<'p> {
         options
     }
 
-    /// The same, exclusive; shared where that is denied, if it may be (`shared_fallback`).
+    /// The same, exclusive; shared if that is denied, if it may be (`shared_fallback`).
     pub fn exclusive(self, shared_fallback: bool) -> LockOptions<'p>
         ensures { result ≡ record self.entry { exclusive = true; fallback = shared_fallback } }
     {
@@ -190,7 +190,7 @@ impl<'p> LockOptions<'p> {
         }
     }
 
-    /// The lock, for which the callback says how long to wait.
+    /// The lock; the callback says how long to wait.
     fn held_waiting<F: Files, G: Fn(&str) -> Option<u32>>(
         &self,
         files: &mut F,
@@ -224,11 +224,11 @@ impl<'p> LockOptions<'p> {
     }
 
     /// Takes the lock, if it can be taken at once. The file is opened to be read, or exclusively to
-    /// be written; then it is made where it isn't there, and so are the folders above it.
+    /// be written; then it is created if it isn't there, and so are the folders above it.
     ///
-    /// `Lock` with the path and: `Contested` where another one holds it; `NotSupported` where the
-    /// file system has no locks; `Readonly` where the opening was denied, `CreateDir` where a
-    /// missing folder can't be made, `Open` at another refused opening, `Lock` at a failed taking.
+    /// `Lock` with the path and: `Contested` if another holds it; `NotSupported` if the file system
+    /// has no locks; `Readonly` if the opening was denied, `CreateDir` if a missing folder can't be
+    /// created, `Open` at another refused opening, `Lock` at a failed taking.
     pub fn try_lock<F: Files>(&self, alloc: Global, files: &mut F) -> Result<FileLock, Error>
         ensures steps { F.tells → TellsLock (cow_str_bytes self.now.path)
             (IsLockedAtOnce self.now.exclusive self.now.fallback (cow_str_bytes self.now.path)
@@ -247,8 +247,8 @@ impl<'p> LockOptions<'p> {
         told(path, self.held_at_once(files))
     }
 
-    /// Takes the lock; where another one holds it, `wait` is asked with the path. At nothing this
-    /// waits for its turn; at a number it tries that often once more, and then is `TimedOut`. Other
+    /// Takes the lock; if another holds it, `wait` is called with the path. At nothing this waits
+    /// for its turn; at a number it tries that often once more, and then is `TimedOut`. Other
     /// errors are those of `try_lock`, but `Contested` never comes.
     pub fn lock<F: Files, G: Fn(&str) -> Option<u32>>(
         &self,

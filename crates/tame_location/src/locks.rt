@@ -16,7 +16,7 @@ use tame_names::{
 pub enum LockRefusal {
     /// What the steps on it answered.
     Lock(LockError),
-    /// Memory ran out.
+    /// Out of memory.
     NoMemory,
 }
 
@@ -80,8 +80,8 @@ pub fn open_shared<F: Files>(
     }
 }
 
-/// What follows an exclusive opening that was refused, but for its folder: a shared one where it
-/// was denied, and where that may take its place.
+/// What follows a refused exclusive opening, apart from its folder: a shared one if it was denied,
+/// and if that may take its place.
 fn fall_back<F: Files>(
     files: &mut F,
     path: &str,
@@ -110,7 +110,7 @@ fn fall_back<F: Files>(
     }
 }
 
-/// An exclusive opening once the folder is made.
+/// An exclusive opening once the folder is created.
 fn open_again<F: Files>(
     files: &mut F,
     path: &str,
@@ -132,7 +132,7 @@ fn open_again<F: Files>(
     }
 }
 
-/// Makes the folder above a path; whether it was made, or needn't be.
+/// Creates the folder above a path; whether it was created, or was there.
 fn make_folder<F: Files>(files: &mut F, path: &str) -> Result<bool, NoMemory>
     ensures made { F.tells → IfOk result (λ made. IsMade made (parent_of path.now)
         (lock_moment (F.locks files.old) (F.host files.old)
@@ -242,7 +242,7 @@ fn taken(answer: Result<(), LockTakeFault>) -> Result<(), LockError>
     }
 }
 
-/// One taking, which waits for its turn or doesn't.
+/// One taking, which may or may not wait for its turn.
 pub fn take<F: Files>(
     files: &mut F,
     path: &str,

@@ -42,7 +42,7 @@ fn folder_files(alloc: Global, folders: &[Text]) -> Result<Items<Text>, NoMemory
     Ok(paths)
 }
 
-/// These files, and the one in cargo's home, where this is told.
+/// These files, and the one in cargo's home, if it is known.
 fn with_home(alloc: Global, paths: Items<Text>, home: Option<&str>) -> Result<Items<Text>, NoMemory>
     ensures { IfOk result (λ all. all
         ≡ paths ++ spec.home_files (option_map (λ h. h.now) home.entry)) }
@@ -70,7 +70,7 @@ fn files_of(
     Ok(all)
 }
 
-/// The folder where the walk begins: the given one, else the current one, if it can be told.
+/// The folder where the search begins: the given one, else the current one, if it is known.
 fn start<F: Files>(
     alloc: Global,
     files: &mut F,
@@ -91,7 +91,7 @@ fn start<F: Files>(
     }
 }
 
-/// No home, where it can't be told for this reason; it is passed over unless memory ran out.
+/// No home, if it is unknown for this reason; it is skipped unless out of memory.
 fn untold(error: &Error) -> Result<Option<Text>, NoMemory>
     ensures none { IfOk result (λ home. home ≡ None) }
     ensures other { IsOk result → error.now ≢ Error.NoMemory }
@@ -103,7 +103,7 @@ fn untold(error: &Error) -> Result<Option<Text>, NoMemory>
     }
 }
 
-/// The home whose settings come last: the given one, else cargo's, if it can be told.
+/// The home whose settings come last: the given one, else cargo's, if it is known.
 fn settings_home<F: Files>(
     alloc: Global,
     files: &mut F,
@@ -123,7 +123,7 @@ fn settings_home<F: Files>(
     }
 }
 
-/// A text that may be absent, borrowed.
+/// A string that may be absent, borrowed.
 pub fn borrowed(text: &Option<Text>) -> Option<&str>
     ensures { option_map (λ t. t.now) result ≡ text.now }
 {
@@ -133,9 +133,9 @@ pub fn borrowed(text: &Option<Text>) -> Option<&str>
     }
 }
 
-/// The paths of the files of settings, the one that counts first in front: `.cargo/config.toml` in
-/// the given root or the current folder and in each folder above it, and then `config.toml` in the
-/// given home or cargo's. A folder or home that can't be told is passed over.
+/// The paths of the files of settings, the one that counts first at the front: `.cargo/config.toml`
+/// in the given root or the current folder and in each folder above it, and then `config.toml` in
+/// the given home or cargo's. An unknown folder or home is skipped.
 pub fn settings_files<F: Files>(
     alloc: Global,
     files: &mut F,

@@ -16,7 +16,7 @@ fn is_memory(error: semver::Error) -> bool
     error == semver::Error::from(AllocError)
 }
 
-/// The version that a text is; `Semver` where it is none.
+/// The version in a string; `Semver` if it is none.
 pub fn read_version(alloc: Global, text: &str) -> Result<Version, Error>
     ensures ok { IfOk result (λ version. version_of text.now ≡ Ok (parts_of version)) }
     ensures refused { IfErr result (λ e. e ≢ Error.NoMemory → version_of text.now ≡ Err e) }
@@ -34,8 +34,8 @@ pub fn read_version(alloc: Global, text: &str) -> Result<Version, Error>
     }
 }
 
-/// The version in what `cargo -V` prints: what stands between the first and the second space of the
-/// trimmed text. `Io` with `InvalidData` without a space, `Semver` where that is no version.
+/// The version in what `cargo -V` prints: the text between the first and the second space of the
+/// trimmed text. `Io` with `InvalidData` without a space, `Semver` if that is no version.
 pub fn parse_cargo_semver(alloc: Global, text: &str) -> Result<Version, Error>
     ensures ok { IfOk result (λ version. cargo_version text.now ≡ Ok (parts_of version)) }
     ensures refused { IfErr result (λ e. e ≢ Error.NoMemory → cargo_version text.now ≡ Err e) }

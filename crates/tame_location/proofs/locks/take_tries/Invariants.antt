@@ -3,7 +3,7 @@ use Rattle.tame_names.specs.declared.errors.LockError.{LockError}
 use Rattle.tame_location.specs.Locks.{AreTries, IsLeft, LockMoment, lock_moment}
 use Rattle.tame_location.proofs.locks.take_tries.Given as goal
 
--- the host as it was; the tries so far, in front of those that are left, are those that are wanted
+-- the host as it was; the tries so far, before those that are left, are those that are wanted
 abbrev pub invariant-loop-number : goal.invariant-loop-number
 invariant-loop-number g l = record {
   later : g.F.Files.faults l.fn.files ≤ g.F.Files.faults l.files;
