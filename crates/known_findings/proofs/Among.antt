@@ -1,4 +1,4 @@
--- A finding is among others exactly where it is an element of them.
+-- A finding is among others exactly if it is an element of them.
 use Rattle.std.proofs.Common.{◌≡◌, ℕ, zero, suc, ◌<◌, List, [], ◌∷◌, length, Bool, true, false, true≢false, arith, refl, sym}
 use Rattle.std.specs.Prelude.{◌||◌, Contains, slice_index_or}
 use Rattle.known_findings.specs.Findings.{is_among, is_same}

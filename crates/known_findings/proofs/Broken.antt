@@ -1,4 +1,4 @@
--- The first broken line is that behind all that aren't broken.
+-- The first broken line is that after all that aren't broken.
 use Rattle.std.proofs.Common.{◌≡◌, ℕ, suc, ◌+◌, List, [], ◌∷◌, ◌++◌, length, true, false, Some, None, arith, refl, ap, ◌∙◌}
 use Rattle.std.specs.Prelude.{Ok, Err}
 use Rattle.std.proofs.lemmas.List.Elements.{All-head, All-tail}

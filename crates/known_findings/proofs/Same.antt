@@ -1,4 +1,4 @@
--- Two findings are the same exactly where their lines are.
+-- Two findings are the same exactly if their lines are.
 use Rattle.std.proofs.Common.{◌≡◌, ℕ, List, [], ◌∷◌, map, Bool, true, false, true≢false, ◌&&◌, Some, bytes_eq, refl, sym, ap, ◌∙◌, subst, rules}
 use Rattle.std.specs.Prelude.{unwrap_or}
 use Rattle.std.specs.List.{list_any}
@@ -64,7 +64,7 @@ by_line f g =
     (λ h. subst (λ (x : Finding). is_same f x ≡ true) (sym (same_line g f ((bytes_eq-Decides (line g) (line f)).0 h))) (is_itself f))
     (λ h. bytes_same (line g) (line f) (ap line (sym (same_finding f g h))))
 
--- a finding is among these exactly where its line is among theirs
+-- a finding is among these exactly if its line is among theirs
 pub among_lines : (f : Finding) (fs : List Finding) → list_any (λ l. bytes_eq l (line f)) (map line fs) ≡ is_among f fs
 among_lines f [] = refl
 among_lines f (g ∷ gs) = rw (by_line f g, among_lines f gs) refl

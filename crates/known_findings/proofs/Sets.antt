@@ -1,4 +1,4 @@
--- Findings that are put one after the other are the set of them, in order; and there is one such
+-- Findings that are put one after another are the set of them, in order; and there is one such
 -- list.
 use Rattle.std.proofs.Common.{◌≡◌, ℕ, List, [], ◌∷◌, map, Bool, true, false, true≢false, Ordering, Less, Equal, Greater, nat_cmp, refl, sym, ap, ◌∙◌, subst}
 use Rattle.std.specs.Prelude.{◌||◌}

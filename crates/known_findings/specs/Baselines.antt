@@ -37,7 +37,7 @@ findings_in ls = flat_map line_findings ls
 
 -- ---- the set
 
--- with one finding more, at its line's place in byte order; findings of one line are one
+-- with one finding more, at its line's position in byte order; findings of one line are one
 abbrev pub put : List Finding → Finding → List Finding
 put [] f = f ∷ []
 put (g ∷ gs) f =

@@ -1,4 +1,4 @@
--- Findings and their lines: the compact text of a JSON array of five texts (RFC 8259; this
+-- Findings and their lines: the compact text of a JSON array of five strings (RFC 8259; this
 -- project).
 use Rattle.std.specs.Prelude.{ℕ, codes, List, Bool, ◌&&◌, bytes_eq, Option, Some, None, option_and_then, option_map, is_some, if◌then◌else◌}
 use Rattle.std.specs.List.{list_any}
@@ -44,11 +44,11 @@ line f = print (json_tokens (finding_tree f))
 
 -- ---- read
 
--- the text at a place of an array
+-- the text at a position of an array
 abbrev pub text_at : ℕ → Data → Option (List ℕ)
 text_at place d = option_and_then as_str (at place d)
 
--- the finding that an array of exactly five texts is whose first is a kind's word
+-- the finding in an array of exactly five texts, of which the first is a kind's word
 abbrev pub finding_of_data : Data → Option Finding
 finding_of_data d =
     if is_some (at 5 d) then None

@@ -32,7 +32,7 @@ NoneIsBroken ls = All (λ l. is_broken l ≡ false) ls
 abbrev pub AreInOrder : List Finding → Type 0
 AreInOrder fs = IsStrictlySortedBy (slice_cmp nat_cmp) (map line fs)
 
--- the same findings, whatever their order and however often each stands
+-- the same findings, in any order and any number
 abbrev pub HaveSame : List Finding → List Finding → Type 0
 HaveSame fs gs = (f : Finding) → is_among f fs ≡ is_among f gs
 

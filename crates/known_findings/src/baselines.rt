@@ -25,7 +25,7 @@ use tame_names::{Items, NoMemory, Sink, Text, put_counted};
 pub enum BaselineFault {
     /// The line of this number, from 0, is neither blank nor a finding; those before it are.
     Line { n: u64 },
-    /// Memory ran out.
+    /// Out of memory.
     NoMemory,
 }
 
@@ -44,7 +44,7 @@ impl From<NoMemory> for BaselineFault {
 pub enum BaselineWriteFault {
     /// A put failed.
     Io,
-    /// Memory ran out.
+    /// Out of memory.
     NoMemory,
 }
 
@@ -100,14 +100,14 @@ impl Eq for Baseline {
     ghost laws = { on_equiv (map line) (lists_equiv (on_texts_equal (λ t. t))) };
 }
 
-/// Whether a line has white space alone (Unicode, White_Space).
+/// Whether a line is only white space (Unicode, White_Space).
 fn is_blank(line: &str) -> bool
     ensures { result ≡ spec.is_blank line.now }
 {
     line.chars().all(|c| c.is_whitespace())
 }
 
-/// Puts the finding of a line that has one, and answers whether the line isn't broken.
+/// Puts the finding of a line that has one, and answers whether the line is not broken.
 fn take_line(alloc: Global, listing: &mut Listing, line: &str) -> Result<bool, NoMemory>
     ensures fits { IfOk result (λ fits. fits ≡ not (is_broken line.now)) }
     ensures taken { OnOk result (listing.new ≡ put_all listing.old (line_findings line.now)) }
@@ -203,7 +203,7 @@ impl Baseline {
     }
 
     /// The baseline of a text: the findings of its lines, each once. Lines of white space alone are
-    /// passed over; `Line` tells the first other line that is no finding.
+    /// skipped; `Line` is the first other line that is no finding.
     pub fn read(alloc: Global, text: &str) -> Result<Baseline, BaselineFault>
         ensures ok { IfOk result (λ b. baseline_of text.now ≡ Ok b) }
         ensures refused { IfErr result (λ e. e ≢ BaselineFault.NoMemory
@@ -220,7 +220,7 @@ impl Baseline {
         Ok(Baseline::of_listing(alloc, listing)?)
     }
 
-    /// Puts the lines of the findings in their byte order, each ended by a newline. `Io` where the
+    /// Puts the lines of the findings in their byte order, each ended by a newline. `Io` if the
     /// sink failed, which then holds a part of them from the front.
     pub fn write<S: Sink>(&self, alloc: Global, sink: &mut S) -> Result<(), BaselineWriteFault>
         ensures put { S.tells → OnOk result (S.holds sink.new

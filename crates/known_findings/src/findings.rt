@@ -8,25 +8,25 @@ use json::Writer;
 use std::alloc::{AllocError, Global};
 use tame_names::{NoMemory, Text};
 
-/// What a finding tells of a package.
+/// What a finding says about a package.
 #[derive(Clone, Copy, Debug, PartialEq, Eq)]
 pub enum FindingKind {
-    /// An advisory tells that the package is vulnerable.
+    /// An advisory says that the package is vulnerable.
     Vulnerability,
-    /// An advisory tells something to note.
+    /// An advisory gives a notice.
     Notice,
-    /// An advisory tells that nobody maintains the package.
+    /// An advisory says that nobody maintains the package.
     Unmaintained,
-    /// An advisory tells that the package is unsound.
+    /// An advisory says that the package is unsound.
     Unsound,
     /// The version is yanked.
     Yanked,
 }
 
-/// Something that an audit found of a package.
+/// What an audit found about a package.
 #[derive(Debug, Drop, PartialEq, Eq)]
 pub struct Finding {
-    /// What is told.
+    /// What it says.
     pub kind: FindingKind,
     /// The advisory's id; empty for a yanked package.
     pub id: Text,
@@ -34,12 +34,12 @@ pub struct Finding {
     pub name: Text,
     /// The package's version.
     pub version: Text,
-    /// The package's source; empty where it has none.
+    /// The package's source; empty if it has none.
     pub source: Text,
 }
 
 impl FindingKind {
-    /// The kind's word, as it stands in a line.
+    /// The kind's word, as it is in a line.
     pub fn word(self) -> &'static str
         ensures { result.now ≡ kind_word self }
     {

@@ -9,7 +9,7 @@ ghost use Rattle.known_findings.specs.declared.baselines.BaselineFault.TheVarian
 ghost use Rattle.known_findings.specs.declared.findings.Finding.{Finding};
 
 /// A line is the quoted texts in brackets, and is read as its finding. Findings are the same
-/// exactly where they are equal in all five members, and exactly where their lines are equal.
+/// exactly if they are equal in all five members, and exactly if their lines are equal.
 pub fn lines_tell_findings()
     ensures text { (f : Finding) → line f ≡ array_text f }
     ensures read { (f : Finding) → finding_of (line f) ≡ Some f }
@@ -18,14 +18,14 @@ pub fn lines_tell_findings()
     ensures among { (f : Finding) (fs : List Finding) → IsTrue (is_among f fs) ↔ Contains fs f }
 {}
 
-/// A line is read as a finding exactly where its JSON is the array of the finding's five texts, in
-/// whatever spacing and with whatever escapes.
+/// A line is read as a finding exactly if its JSON is the array of the finding's five texts, with
+/// any spacing and any escapes.
 pub fn findings_are_arrays_of_five_texts()
     ensures { (text : List ℕ) (f : Finding)
         → (finding_of text ≡ Some f) ↔ (read text ≡ Some (array_value f)) }
 {}
 
-/// A text whose lines are blank or findings is the set of these findings. Of any other text the
+/// A text whose lines are blank or findings is the set of these findings. For any other text the
 /// first other line is named, by the number of lines before it.
 pub fn first_broken_line_is_named()
     ensures whole { (text : List ℕ) → NoneIsBroken (pieces 10 text)
@@ -42,7 +42,7 @@ pub fn baselines_are_sets()
     ensures one { (fs gs : List Finding) → IsSetOf fs gs → gs ≡ listed fs }
 {}
 
-/// Two baselines are equal exactly where the bytes that they write are; `==` tells it.
+/// Two baselines are equal exactly if the bytes that they write are, and exactly if `==` holds.
 pub fn written_bytes_tell_baselines()
     ensures bytes { (fs gs : List Finding) → (written fs ≡ written gs) ↔ (fs ≡ gs) }
     ensures equal { (fs gs : List Finding) → IsTrue (is_equal fs gs) ↔ (fs ≡ gs) }

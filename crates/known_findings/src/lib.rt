@@ -2,8 +2,8 @@
 //!
 //! Promises: a finding and its line give each other; a text reads to its baseline, or its first
 //! line that is no finding is named; what a baseline writes is read as that baseline, and two
-//! baselines are equal exactly where what they write is.
-//! Stands on the texts, lists and sinks of `tame_names`, and on `serde_json` and `json`.
+//! baselines are equal exactly if what they write is. Depends on the strings, lists and sinks of
+//! `tame_names`, and on `serde_json` and `json`.
 //!
 //! ```ignore
 //! let baseline = Baseline::read(alloc, text)?;

@@ -1,4 +1,4 @@
-//! Findings put in the byte order of their lines.
+//! Findings in the byte order of their lines.
 ghost use Rattle.std.specs.Prelude.{◌≡◌, ℕ, List, [], map, IfOk, OnOk};
 ghost use Rattle.std.specs.Cmp.Lexicographic.{slice_cmp};
 ghost use Rattle.std.specs.List.Sorted.{IsStrictlySortedBy};
@@ -62,7 +62,7 @@ impl Listing {
         }
     }
 
-    /// Puts a finding at its line's place.
+    /// Puts a finding at its line's position.
     pub fn put(&mut self, alloc: Global, finding: Finding) -> Result<(), NoMemory>
         ensures { OnOk result (self.new ≡ put self.old finding) }
     {

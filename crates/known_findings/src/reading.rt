@@ -10,14 +10,14 @@ use serde_json::Value;
 use std::alloc::Global;
 use tame_names::{NoMemory, Text};
 
-/// The text at a place of an array.
+/// The text at a position of an array.
 fn text_at(value: &Value, place: usize) -> Option<&str>
     ensures { option_map (λ text. text.now) result ≡ spec.text_at place (view value.now) }
 {
     value.get(place).and_then(Value::as_str)
 }
 
-/// Whether an array has an item at a place.
+/// Whether an array has an item at a position.
 fn has_item(value: &Value, place: usize) -> bool
     ensures { result ≡ is_some (at place (view value.now)) }
 {
@@ -54,7 +54,7 @@ fn finding_of_value(alloc: Global, value: &Value) -> Result<Option<Finding>, NoM
     }))
 }
 
-/// The finding of a line; nothing where the line is none.
+/// The finding of a line; nothing if the line is none.
 pub fn read_finding(alloc: Global, line: &str) -> Result<Option<Finding>, NoMemory>
     ensures { IfOk result (λ found. found ≡ finding_of line.now) }
 {

@@ -2,7 +2,7 @@ use Rattle.std.proofs.Common.{◌≡◌, ◌++◌}
 use Rattle.std.specs.Map.{keys_of, values_of}
 use Rattle.known_findings.proofs.listings.part.Given as goal
 
--- what was parted, in front of what is left
+-- what was separated, before what is left
 abbrev pub invariant-loop-line : goal.invariant-loop-line
 invariant-loop-line l = record {
   lines : l.lines ++ keys_of l.line-iterator ≡ keys_of l.fn.by_line.entries;
