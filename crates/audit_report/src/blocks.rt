@@ -7,7 +7,7 @@ use crate::affected::push_affected;
 use crate::symbols::SymbolSet;
 use audit_advisory::{Advisory, Metadata, Requirement, WarningKind};
 use audit_lock::Package;
-use report_parts::{kind_word, push_attribute, push_severity, push_url};
+use report_parts::{kind_word, push_attribute, push_severity, push_url, requirement_text};
 use std::alloc::{AllocError, Global};
 use tame_names::NoMemory;
 
