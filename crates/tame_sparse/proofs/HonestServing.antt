@@ -16,7 +16,7 @@ use Rattle.tame_sparse.specs.declared.serving.Held.{Held}
 same_tag : (h : Held) → bytes_eq h.etag h.etag ≡ true
 same_tag h = (bytes_eq-Decides h.etag h.etag).1 refl
 
--- a body that a later file has, behind one of another path
+-- a body that a later file has, after one of another path
 behind : (h : Held) (hs : List Held) (path : List ℕ) (o : Option Representation) → bytes_eq h.path path ≡ false → IfSome o (IsMapped (map_of hs) path) → IfSome o (IsMapped (map_of (h ∷ hs)) path)
 behind h hs path None other is = tt
 behind h hs path (Some r) other is = go r.revision is

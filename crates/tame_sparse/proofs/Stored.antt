@@ -1,4 +1,4 @@
--- What a response leaves of a cache.
+-- What a response leaves in a cache.
 use Rattle.std.proofs.Common.{◌≡◌, ◌≢◌, ◌⊎◌, inl, ℕ, List, [], ◌∷◌, Bool, true, false, not, cond, length, map, Option, Some, None, IsTrue, refl, sym, ◌∙◌, ap, subst, rules, suc, arith}
 use Rattle.std.specs.Prelude.{◌==◌, ◌&&◌, IfSome, is_none}
 use Rattle.std.specs.List.{list_all}
@@ -77,7 +77,7 @@ stored_plain index r body right h =
     let P : Bool → Type 0 = λ b. (b && has_no_zero body) ≡ true in
     subst P (sym (ap is_none right)) whole
 
--- what the test of the code passes is what is to be stored
+-- what passes the code's test is what must be stored
 pub to_store : (index : List ℕ) (answer : WireAnswer) → answer.status ≡ 200 → invalid answer.body ≡ None → IsTrue (is_storable index (stored_under answer.revision) (pairs answer.body)) → IsToStore index answer
 to_store index answer sent right h = record {
   sent = sent;

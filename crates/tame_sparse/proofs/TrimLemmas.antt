@@ -40,7 +40,7 @@ printed (b ∷ bs) h =
     let bounds = both (nat_le 32 b) (nat_le b 126) first.0 in
     (low b bounds.0, high b bounds.1, printed bs first.1)
 
--- ---- such texts are characters as they stand
+-- ---- such texts are characters as they are
 
 ascii : (bs : List ℕ) → Printed bs → IsAscii bs
 ascii [] h i = lit< tt

@@ -7,7 +7,7 @@ use Rattle.tame_entry.specs.declared.revisions.OwnedRevision.{OwnedRevision}
 use Rattle.tame_entry.specs.declared.revisions.OwnedRevision.TheVariants.{Etag, LastModified}
 
 -- the field that makes a request conditional, and its text: the revision's, trimmed; the empty text
--- where nothing is named
+-- if nothing is named
 abbrev pub condition_name : Option OwnedRevision → List ℕ
 condition_name (Some (LastModified text)) = codes "if-modified-since"
 condition_name _ = codes "if-none-match"

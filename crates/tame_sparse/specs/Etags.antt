@@ -15,7 +15,7 @@ etag_at cache name = get_by_text cache.etags name
 abbrev pub with_etag : List ℕ → List ℕ → List ℕ → Option (List ℕ) → Option (List ℕ)
 with_etag name etag n before = if bytes_eq name n then Some etag else before
 
--- the tag that a response has
+-- the tag of a response
 abbrev pub etag_of : OwnedRevision → Option (List ℕ)
 etag_of (Etag etag) = Some etag
 etag_of (LastModified date) = None

@@ -26,7 +26,7 @@ AddsOne before now request answer =
       answer = answer;
     } ∷ [])
 
--- an answer and a fault are one exchange more each, want of memory is none
+-- an answer and a fault are one exchange more each, out of memory is none
 abbrev pub AddsExchange : List Exchange → List Exchange → Request → Result WireAnswer WireFault
     → Type 0
 AddsExchange before now request (Ok answer) = AddsOne before now request (Some answer)

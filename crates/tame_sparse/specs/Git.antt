@@ -4,7 +4,7 @@ use Rattle.std.specs.Prelude.{ℕ, List, [], ◌∷◌, map, Option, Some, None}
 use Rattle.tame_records.specs.declared.versions.IndexVersion.{IndexVersion}
 use Rattle.tame_entry.specs.Entry.{Pair, version_pair}
 
--- the id that an entry is stored under: that of the blob, else that of the head
+-- the id under which an entry is stored: that of the blob, else that of the head
 abbrev pub stored_id : Option (List ℕ) → Option (List ℕ) → Option (List ℕ)
 stored_id (Some blob) head = Some blob
 stored_id None head = head

@@ -1,4 +1,4 @@
--- Where an index of a kind stands (Cargo Book, "Registry Index" and "Cargo Home").
+-- Where an index of a kind is (Cargo Book, "Registry Index" and "Cargo Home").
 use Rattle.std.specs.Prelude.{◌≡◌, ◌⊎◌, ℕ, List, if◌then◌else◌, Result, Err}
 use Rattle.tame_names.specs.Standing.{Host}
 use Rattle.tame_names.specs.declared.errors.Error.{Error}
@@ -17,7 +17,7 @@ missing_sparse url = refused_url (url_text url) why.MissingSparse
 abbrev pub sparse_for_git : IndexUrl → Error
 sparse_for_git url = refused_url (url_text url) why.SparseForGit
 
--- the folder and the url of a sparse index at a location, which has to be that of one
+-- the folder and the url of a sparse index at a location, which must be that of one
 abbrev pub sparse_place : (ℕ → List ℕ → ℕ) → IndexLocation → Host
     → Result (List ℕ × List ℕ) Error
 sparse_place ident location host =
@@ -30,8 +30,8 @@ git_place ident location host =
     if is_sparse location.url then Err (sparse_for_git location.url)
     else located ident location host
 
--- the reasons why there is no such index: its url is of the other kind, its location has no place,
--- or memory ran out
+-- the reasons why there is no such index: its url is of the other kind, its location has no path,
+-- or out of memory
 abbrev pub IsPlaceError : Error → IndexLocation → Error → Type 0
 IsPlaceError other location e =
     (e ≡ other) ⊎ IsLocationError location.root e ⊎ (e ≡ error.NoMemory)

@@ -7,7 +7,7 @@ use Rattle.tame_sparse.specs.declared.network.WireAnswer.{WireAnswer}
 use Rattle.tame_sparse.specs.declared.network.WireFault.{WireFault}
 use Rattle.tame_sparse.specs.declared.network.WireFault.TheVariants as wire_fault
 
--- the item of a call by its number, from 0; behind the last one nothing is held and the call fails
+-- the item of a call by its number, from 0; after the last one nothing is held and the call fails
 abbrev pub item_at : List Scripted → ℕ → Scripted
 item_at script number = unwrap_or (slice_get script number) (record { held = None; answer = None })
 
@@ -22,7 +22,7 @@ MayAddItem before now request item =
       answer = item.answer;
     } ∷ [])
 
--- an item's answer is given, and a call fails exactly where it has none; memory may run out
+-- an item's answer is given, and a call fails exactly if it has none; it may be out of memory
 abbrev pub GivesItem : Scripted → Result WireAnswer WireFault → Type 0
 GivesItem item (Ok answer) = item.answer ≡ Some answer
 GivesItem item (Err wire_fault.Failed) = item.answer ≡ None

@@ -22,7 +22,7 @@ abbrev pub trimmed : OwnedRevision → OwnedRevision
 trimmed (Etag text) = Etag (trim text)
 trimmed (LastModified text) = LastModified (trim text)
 
--- nothing, where the text is empty
+-- nothing, if the text is empty
 abbrev pub unless_empty : OwnedRevision → Option OwnedRevision
 unless_empty r = if length (revision_text r) == 0 then None else Some r
 
@@ -34,13 +34,13 @@ if_visible r = if is_visible_text (revision_text r) then unless_empty r else Non
 abbrev pub named_http : OwnedRevision → Option OwnedRevision
 named_http r = if_visible (trimmed r)
 
--- of the revision of an entry; no other than an HTTP revision is named
+-- of the revision of an entry; only an HTTP revision is named
 abbrev pub named : EntryRevision → Option OwnedRevision
 named (Http r) = named_http r
 named (Commit digits) = None
 named Unknown = None
 
--- of what a file is read as; a refused one names nothing
+-- of the result of reading a file; a refused one names nothing
 abbrev pub named_read : Result ReadEntry CacheError → Option OwnedRevision
 named_read (Ok e) = named e.revision
 named_read (Err f) = None
@@ -50,29 +50,29 @@ abbrev pub named_file : List ℕ → File → Option OwnedRevision
 named_file index None = None
 named_file index (Some bytes) = named_read (read_entry index bytes)
 
--- of what a read of the cache handed out
+-- of what a read of the cache gave
 abbrev pub named_entry : IndexEntry → Option OwnedRevision
 named_entry (Remote json_lines) = None
 named_entry (Cache bytes url) = named_read (read_entry url bytes)
 named_entry (Local bytes) = None
 
--- a request names what the file's revision allows, where no call on the disk failed; else that or
+-- a request names what the file's revision allows, if no call on the disk failed; else that or
 -- nothing
 pub record NamesKept (index : List ℕ) (file : File) (before now : ℕ)
     (named : Option OwnedRevision) : Type 0 where
   pub quiet : CountStayed before now → named ≡ named_file index file
   pub else_nothing : (named ≡ None) ⊎ (named ≡ named_file index file)
 
--- it names what the file's revision allows, and no call on the disk failed; or it names nothing, and
--- the read of that file failed, no other call
+-- it names what the file's revision allows, and no call on the disk failed; or it names nothing,
+-- and the read of that file failed, and no other call
 abbrev pub NamesUnlessFailed : List ℕ → List ℕ → File → FailedDiskCalls → FailedDiskCalls
     → Option OwnedRevision → Type 0
 NamesUnlessFailed index q file before now named =
     ((named ≡ named_file index file) × (now ≡ before))
     ⊎ ((named ≡ None) × FailedReading q before now)
 
--- what a revision names that was handed in: it is refused where another byte stands in its trimmed
--- text, and the empty text names nothing
+-- what a given revision names: it is refused if its trimmed text has another byte, and the empty
+-- text names nothing
 abbrev pub handed : OwnedRevision → Result (Option OwnedRevision) Error
 handed r =
     if is_visible_text (revision_text (trimmed r)) then Ok (unless_empty (trimmed r))

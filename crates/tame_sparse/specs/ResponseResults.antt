@@ -1,4 +1,4 @@
--- What an index makes of an answer (Cargo Book, "Registry Index", sparse protocol; RFC 9110,
+-- The result of an answer for an index (Cargo Book, "Registry Index", sparse protocol; RFC 9110,
 -- section 15), and what it stores of it.
 use Rattle.std.specs.Prelude.{◌≡◌, ◌≢◌, ◌⊎◌, ℕ, ◌+◌, codes, List, Bool, false, IsTrue, Option, Some, None, drop, option_map, IfSome, Result, Ok, Err, IfOk, IfErr}
 use Rattle.tame_names.specs.Names.{path}
@@ -42,7 +42,7 @@ pub record IsBodyResult (body : List ℕ) (taken : ResponseResult) : Type 0 wher
   pub refused : IfErr taken (λ e. (e ≡ error.NoMemory)
       ⊎ ((why : InvalidJsonLines) × (e ≡ error.InvalidJsonLines why) × (invalid body ≡ Some why)))
 
--- the status that is refused, and the words for it
+-- the status that is refused, and its message
 abbrev pub status_fault : Error → Option (ℕ × List ℕ)
 status_fault (error.Http (http_error.StatusCode code msg)) = Some (code, msg.now)
 status_fault _ = None
@@ -51,7 +51,7 @@ abbrev pub IsStatusFault : ℕ → List ℕ → ResponseResult → Type 0
 IsStatusFault status text taken =
     (e : Error) × (taken ≡ Err e) × (status_fault e ≡ Some (status, text))
 
--- by the status; what comes at 304 is said beside it, over the file of the cache
+-- by the status; what comes at 304 is said separately, over the file of the cache
 pub record IsResponseResult (response : Response) (taken : ResponseResult) : Type 0 where
   pub sent : response.status_code ≡ 200 → IsBodyResult response.body.now taken
   pub not_modified : response.status_code ≡ 304
@@ -73,7 +73,7 @@ came response = record {
   body = response.body.now;
 }
 
--- what a body is stored under: the revision that came with it
+-- the revision under which a body is stored: the one that came with it
 abbrev pub stored_under : Option OwnedRevision → EntryRevision
 stored_under None = Unknown
 stored_under (Some r) = Http r
@@ -86,8 +86,8 @@ entry_of index answer = entry index (stored_under answer.revision) (pairs answer
 abbrev pub storing_calls : List ℕ → WireAnswer → ℕ
 storing_calls index answer = piece_count (drop 1 (entry_of index answer)) + 12
 
--- an answer is stored: a plain body was sent, and no zero byte stands in its revision and in the
--- url of the index
+-- an answer is stored: a plain body was sent, and no zero byte is in its revision or in the url of
+-- the index
 pub record IsToStore (index : List ℕ) (answer : WireAnswer) : Type 0 where
   pub sent : answer.status ≡ 200
   pub plain : IsTrue (plain answer.body)
@@ -98,9 +98,9 @@ pub record IsToStore (index : List ℕ) (answer : WireAnswer) : Type 0 where
 abbrev pub IsHeldBody : ServerMap → List ℕ → WireAnswer → Type 0
 IsHeldBody m p answer = answer.status ≡ 200 → IfSome answer.revision (λ r. Maps m p r answer.body)
 
--- what becomes of the files of a cache: the file of the name alone may change, and only where the
--- answer is stored; a crash at any moment leaves a file that it could have left before, a refused
--- one, or the entry whole; and a kept cache is kept at each moment
+-- the files of a cache afterwards: only the file of the name may change, and only if the answer is
+-- stored; a crash at any moment leaves a file that it could have left before, a refused one, or the
+-- entry whole; and a kept cache is kept at each moment
 pub record Stores (index root name : List ℕ) (answer : WireAnswer) (write : Bool)
     (old new : Disk) : Type 0 where
   pub unwanted : write ≡ false → (q : List ℕ) → new q ≡ old q
@@ -131,8 +131,8 @@ StoresUnlessFailed bytes q new before now =
 abbrev pub FailedAtMostWriting : List ℕ → FailedDiskCalls → FailedDiskCalls → Type 0
 FailedAtMostWriting q before now = (now ≡ before) ⊎ FailedWriting q before now
 
--- at not-modified the read of the file, where it is refused but for want of memory; else at most one
--- call that writes the file, and only where the answer is stored
+-- at not-modified the read of the file, if it is refused for another reason than out of memory;
+-- else at most one call that writes the file, and only if the answer is stored
 pub record FailsFor (index q : List ℕ) (answer : WireAnswer) (write : Bool)
     (before now : FailedDiskCalls) (taken : ResponseResult) : Type 0 where
   pub not_modified : answer.status ≡ 304

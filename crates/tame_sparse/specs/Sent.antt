@@ -6,7 +6,7 @@ use Rattle.http_header.specs.HeaderMap.{Entries, get}
 use Rattle.tame_entry.specs.declared.revisions.OwnedRevision.{OwnedRevision}
 use Rattle.tame_entry.specs.declared.revisions.OwnedRevision.TheVariants.{Etag, LastModified}
 
--- the text of a field, where each of its bytes is tab or 32 to 126
+-- the text of a field, if each of its bytes is tab or 32 to 126
 abbrev pub visible_value : Option FieldValue → Option (List ℕ)
 visible_value None = None
 visible_value (Some value) = if is_visible_text value.bytes then Some value.bytes else None

@@ -11,7 +11,7 @@ use Rattle.tame_entry.specs.Prefixes.{without_prefix}
 use Rattle.tame_entry.specs.declared.config.IndexConfig.{IndexConfig}
 pub use Rattle.tame_location.specs.IndexUrls.{is_sparse_url}
 
--- a url without what marks it as one of a sparse index
+-- a url without the prefix that marks it as one of a sparse index
 abbrev pub http_url : List ℕ → List ℕ
 http_url url = unwrap_or (without_prefix (codes "sparse+") url) url
 
@@ -25,8 +25,7 @@ crate_url url name = option_map (λ p. http_url url ++ p) (path name)
 abbrev pub config_file : List ℕ → List ℕ
 config_file root = join root (codes "config.json")
 
--- what stands there, read as a configuration, where the files tell it; and these refusals are all
--- there are
+-- what is there, read as a configuration, if the files tell it; and these are all the refusals
 abbrev pub IsConfigRead : Type 0 → List ℕ → Standing → Result IndexConfig Error → Type 0
 IsConfigRead told place standing (Ok config) =
     told → (bytes : List ℕ) × (standing ≡ File bytes) × (config_of bytes ≡ Some config)

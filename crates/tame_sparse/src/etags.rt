@@ -31,7 +31,7 @@ pub struct EtagCache {
 }
 
 impl EtagCache {
-    /// A memory without tags.
+    /// No tags.
     pub fn new(alloc: Global) -> EtagCache
         ensures { (n : List ℕ) → etag_at result n ≡ None }
     {
@@ -50,7 +50,7 @@ impl EtagCache {
         }
     }
 
-    /// Remembers the tag of a name in place of the one before.
+    /// Remembers the tag of a name, replacing the one before.
     fn remember(&mut self, alloc: Global, name: &str, etag: &str) -> Result<(), NoMemory>
         ensures remembered { OnOk result
             ((n : List ℕ) → etag_at self.new n
@@ -65,7 +65,7 @@ impl EtagCache {
         }
     }
 
-    /// Remembers the tag of a name, where there is one.
+    /// Remembers the tag of a name, if there is one.
     fn see(&mut self, alloc: Global, name: &str, seen: Option<&str>) -> Result<(), NoMemory>
         ensures remembered { OnOk result
             ((n : List ℕ) → etag_at self.new n
@@ -110,7 +110,7 @@ impl EtagCache {
             (λ e. (e ≡ Error.NoMemory)
             ⊎ ((etag : List ℕ) × (etag_at self.now (text_of name.entry) ≡ Some etag)
             × (handed (Etag etag) ≡ Err e))) }
-        // no file changes, and none is read where a tag was seen
+        // no file changes, and none is read if a tag was seen
         ensures same { D.tells → (q : List ℕ) → D.past disk.new q ≡ D.past disk.old q }
         ensures folders { D.tells → D.folders disk.new ≡ D.folders disk.old }
         ensures kept { D.tells → (m : ServerMap)
@@ -130,8 +130,8 @@ impl EtagCache {
         }
     }
 
-    /// Takes the answer for a crate as the index does, and remembers its tag, also where the
-    /// answer is refused. Where memory runs out nothing is remembered.
+    /// Takes the answer for a crate as the index does, and remembers its tag, also if the answer is
+    /// refused. If out of memory, nothing is remembered.
     pub fn parse_remote_response<'r, 'l, D: CacheDisk>(
         &mut self,
         alloc: Global,
@@ -196,7 +196,7 @@ impl EtagCache {
     }
 }
 
-/// The entity tag that a response has.
+/// The entity tag of a response.
 fn seen_etag(revision: Option<HttpRevision<'_>>) -> Option<&str>
     ensures { option_map (λ etag. etag.now) result ≡ spec.seen_etag revision.entry }
 {

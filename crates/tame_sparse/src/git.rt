@@ -1,4 +1,4 @@
-//! A git index: its cache alone.
+//! A git index: only its cache.
 ghost use Rattle.std.specs.Prelude.{◌≡◌, ◌≢◌, ◌⊎◌, ◌↔◌, ◌≤◌, ◌<◌, ◌+◌, ℕ, List, length, true, false, Ok, Err, Some, None, IsTrue, IfOk, IfErr, option_map};
 ghost use Rattle.hex.specs.Hex.{encode_lower};
 ghost use Rattle.tame_names.specs.Counts.{HasCause, CountRose};
@@ -25,7 +25,7 @@ use tame_location::is_sparse_url;
 use tame_names::{Error, FileLock, InvalidUrl, InvalidUrlError, IoKind, KrateName, Text};
 use tame_records::IndexKrate;
 
-/// A registry's git index: where its cache is, and its head, where that is known.
+/// A registry's git index: where its cache is, and its head, if that is known.
 #[derive(Drop)]
 pub struct GitIndex {
     pub(crate) cache: IndexCache,
@@ -34,7 +34,7 @@ pub struct GitIndex {
 
 impl GitIndex {
     /// The index at a url, with its cache in the folder of a path, and without a head.
-    /// `InvalidUrl(SparseForGit)` where the url begins with `sparse+http`.
+    /// `InvalidUrl(SparseForGit)` if the url begins with `sparse+http`.
     pub fn at(alloc: Global, path: Text, url: &str) -> Result<GitIndex, Error>
         ensures ok { IfOk result (λ index. (is_sparse_url url.now ≡ false)
             × (index.cache.path ≡ path) × (index.cache.index ≡ url.now) × (index.head ≡ None)) }
@@ -57,7 +57,7 @@ impl GitIndex {
         })
     }
 
-    /// Sets the commit of the head, by the bytes of its SHA-1, or that it isn't known.
+    /// Sets the commit of the head, by the bytes of its SHA-1, or that it is unknown.
     pub fn set_head_commit(&mut self, commit_id: Option<[u8; 20]>)
         ensures head { self.new.head ≡ option_map encode_lower commit_id }
         ensures cache { self.new.cache ≡ self.old.cache }
@@ -85,8 +85,7 @@ impl GitIndex {
         &self.cache
     }
 
-    /// The file of the cache of a crate; nothing where there is none. `Io(Failed)` where the disk
-    /// failed.
+    /// The file of the cache of a crate; nothing if there is none. `Io(Failed)` if the disk failed.
     pub fn cached_krate<'l, D: CacheDisk>(
         &self,
         alloc: Global,
@@ -110,9 +109,9 @@ impl GitIndex {
         self.cache.cached_krate(alloc, name, lock, disk)
     }
 
-    /// Stores the versions of a crate, of which there has to be one, under the id of a blob, or
-    /// under that of the head; nothing is done where neither is known. `InvalidKrateName` where
-    /// the first version's name is none, `Io(Failed)` where the disk failed.
+    /// Stores the versions of a crate, at least one, under the id of a blob, or under that of the
+    /// head; nothing is done if neither is known. `InvalidKrateName` if the first version's name is
+    /// none, `Io(Failed)` if the disk failed.
     pub fn write_to_cache<D: CacheDisk>(
         &self,
         alloc: Global,

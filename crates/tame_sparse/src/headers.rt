@@ -38,7 +38,7 @@ fn condition_text(named: &Option<OwnedRevision>) -> &str
     }
 }
 
-/// A field's value. `Http(InvalidHeaderValue)` where a byte isn't tab or 32 to 126.
+/// A field's value. `Http(InvalidHeaderValue)` if a byte isn't tab or 32 to 126.
 fn visible_value(alloc: Global, text: &str) -> Result<HeaderValue, Error>
     ensures ok { IfOk result (λ value. (value ≡ plain_value text.now)
         × (is_visible_text text.now ≡ true)) }
@@ -93,7 +93,7 @@ fn field_map(
     Ok(map)
 }
 
-/// The target that a text spells (RFC 3986). `Http(Http)` where it spells none.
+/// The target in a string (RFC 3986). `Http(Http)` if it is none.
 fn target(alloc: Global, text: &str) -> Result<Uri, Error>
     ensures ok { IfOk result (Spells text.now) }
     ensures refused { IfErr result
@@ -107,10 +107,9 @@ fn target(alloc: Global, text: &str) -> Result<Uri, Error>
 }
 
 impl Request {
-    /// The three header fields: the protocol's version, that plain text is wanted, and the
-    /// revision that need not be sent again, trimmed of white space, or the empty text where
-    /// nothing is named. `Http(InvalidHeaderValue)` where a byte of that text isn't tab or 32 to
-    /// 126.
+    /// The three header fields: the protocol's version, that plain text is wanted, and the revision
+    /// that need not be sent again, trimmed of white space, or the empty text if nothing is named.
+    /// `Http(InvalidHeaderValue)` if a byte of that text isn't tab or 32 to 126.
     pub fn headers(&self, alloc: Global) -> Result<[(HeaderName, HeaderValue); 3], Error>
         ensures ok { IfOk result (λ hs. (hs ≡ fields self.now.named)
             × (is_visible_text (spec.condition_text self.now.named) ≡ true)) }
@@ -134,7 +133,7 @@ impl Request {
     }
 
     /// The request of `http`: a GET of the url by HTTP/1.1 with the three header fields.
-    /// `Http(InvalidHeaderValue)` as `headers`, and then `Http(Http)` where the url is no target.
+    /// `Http(InvalidHeaderValue)` as `headers`, and then `Http(Http)` if the url is no target.
     pub fn into_http(self, alloc: Global) -> Result<http::Request<()>, Error>
         ensures method { IfOk result (λ request. (head_of request).method ≡ codes "GET") }
         ensures version { IfOk result (λ request. (head_of request).version ≡ HTTP_11) }

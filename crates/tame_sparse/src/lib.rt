@@ -1,10 +1,10 @@
 //! A registry's sparse index: what is asked of it, what it answers, and what the cache keeps of
-//! that. A git index has the cache alone.
+//! that. A git index has only the cache.
 //!
 //! Promises: a request asks for the file of a crate at the url of the index, and names the revision
 //! that the cache holds; an answer gives the lines that it sent, or at 304 those of the cache; over
 //! an honest server a kept cache stays kept; an index of a location has its folder and its url.
-//! Stands on `tame_names`, the locations of `tame_location`, `tame_records`, `tame_entry` and the
+//! Depends on `tame_names`, the locations of `tame_location`, `tame_records`, `tame_entry` and the
 //! cache of `tame_cache`, the requests of `http`, and a wire that its caller brings, of which
 //! `MemWire` is one in memory.
 //!

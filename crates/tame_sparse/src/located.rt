@@ -16,8 +16,8 @@ use tame_names::{Error, Files, InvalidUrlError};
 
 impl SparseIndex {
     /// The sparse index of a location, with its cache in its folder: the folder and the url are
-    /// those of `IndexLocation::into_parts`. `InvalidUrl(MissingSparse)` where the url isn't one of
-    /// a sparse index, and then the errors of `into_parts`.
+    /// those of `IndexLocation::into_parts`. `InvalidUrl(MissingSparse)` if the url isn't one of a
+    /// sparse index, and then the errors of `into_parts`.
     pub fn new<F: Files, I: Ident>(
         alloc: Global,
         files: &mut F,
@@ -52,8 +52,8 @@ impl SparseIndex {
 
 impl GitIndex {
     /// The git index of a location, with its cache in its folder, and without a head: the folder
-    /// and the url are those of `IndexLocation::into_parts`. `InvalidUrl(SparseForGit)` where the
-    /// url is one of a sparse index, and then the errors of `into_parts`.
+    /// and the url are those of `IndexLocation::into_parts`. `InvalidUrl(SparseForGit)` if the url
+    /// is one of a sparse index, and then the errors of `into_parts`.
     pub fn new<F: Files, I: Ident>(
         alloc: Global,
         files: &mut F,

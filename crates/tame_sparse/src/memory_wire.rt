@@ -12,9 +12,9 @@ use tame_names::{Items, NoMemory};
 /// What a server holds at a call, and the answer that it gives; without one the call fails.
 #[derive(Drop)]
 pub struct Scripted {
-    /// What the server holds at the path; none where it holds nothing.
+    /// What the server holds at the path; none if it holds nothing.
     pub held: Option<Representation>,
-    /// The answer; none where the call fails.
+    /// The answer; none if the call fails.
     pub answer: Option<WireAnswer>,
 }
 
@@ -49,7 +49,7 @@ impl MemWire {
     }
 }
 
-/// A copy of a revision, where there is one; an error only where memory runs out.
+/// A copy of a revision, if there is one; an error only if out of memory.
 pub fn copy_revision(
     alloc: Global,
     revision: &Option<OwnedRevision>,
@@ -98,7 +98,7 @@ struct Given {
     copy: Option<WireAnswer>,
 }
 
-/// The item of a call by its number; behind the last one nothing.
+/// The item of a call by its number; nothing after the last one.
 fn copied_item(alloc: Global, script: &[Scripted], number: usize) -> Result<Given, NoMemory>
     ensures held { IfOk result (λ given. given.held ≡ (item_at script.now number).held) }
     ensures answer { IfOk result (λ given. given.answer ≡ (item_at script.now number).answer) }

@@ -58,7 +58,7 @@ fn named_http(alloc: Global, revision: HttpRevision<'_>) -> Result<Option<OwnedR
     unless_empty(alloc, revision)
 }
 
-/// What may be named of what a read of the cache handed out.
+/// What may be named of what a read of the cache gave.
 pub fn named_entry(
     alloc: Global,
     entry: &IndexEntry<'_, '_>,
@@ -75,8 +75,8 @@ pub fn named_entry(
     }
 }
 
-/// What a revision names that was handed in. `Http(InvalidHeaderValue)` where its trimmed text has
-/// a byte that isn't tab or 32 to 126.
+/// What a given revision names. `Http(InvalidHeaderValue)` if its trimmed text has a byte that
+/// isn't tab or 32 to 126.
 pub fn named_handed(
     alloc: Global,
     revision: HttpRevision<'_>,

@@ -16,13 +16,13 @@ use tame_names::utf8_text;
 pub struct Response<'r> {
     /// The status code (RFC 9110, section 15).
     pub status_code: u16,
-    /// The revision of the body, where the response names one.
+    /// The revision of the body, if the response names one.
     pub revision: Option<HttpRevision<'r>>,
     /// The bytes of the body.
     pub body: &'r [u8],
 }
 
-/// The text of the first field of a name, where each of its bytes is tab or 32 to 126.
+/// The text of the first field of a name, if each of its bytes is tab or 32 to 126.
 fn visible_value<'r>(headers: &'r HeaderMap<HeaderValue>, name: HeaderName) -> Option<&'r str>
     ensures { option_map (λ text. text.now) result ≡ spec.visible_value (get headers.now name) }
 {
@@ -64,7 +64,7 @@ impl<'r> Response<'r> {
     }
 }
 
-/// The revision that a body is stored under.
+/// The revision under which a body is stored.
 pub fn stored_under(revision: Option<HttpRevision<'_>>) -> Revision<'_>
     ensures { revision_value result
         ≡ results_spec.stored_under (option_map http_value revision.entry) }

@@ -35,15 +35,15 @@ use tame_names::{
     NoMemory, ReadAnswer, Text, join,
 };
 
-/// A registry's sparse index, and the cache of it (Cargo Book, "Registry Index").
+/// A registry's sparse index and its cache (Cargo Book, "Registry Index").
 #[derive(Debug, Drop)]
 pub struct SparseIndex {
     pub(crate) cache: IndexCache,
 }
 
 impl SparseIndex {
-    /// The index at a url, with its cache in the folder of a path. `InvalidUrl(MissingSparse)`
-    /// where the url doesn't begin with `sparse+http`.
+    /// The index at a url, with its cache in the folder of a path. `InvalidUrl(MissingSparse)` if
+    /// the url doesn't begin with `sparse+http`.
     pub fn at(alloc: Global, path: Text, url: &str) -> Result<SparseIndex, Error>
         ensures ok { IfOk result (λ index. (is_sparse_url url.now ≡ true)
             × (index.cache.path ≡ path) × (index.cache.index ≡ url.now)) }
@@ -65,9 +65,9 @@ impl SparseIndex {
         })
     }
 
-    /// The configuration of the index, in the file `config.json` of its folder.
-    /// `IoPath(NotFound)` where nothing is there, `IoPath(Failed)` where it can't be read, and
-    /// `Json` of line 0 where it is no configuration.
+    /// The configuration of the index, in the file `config.json` of its folder. `IoPath(NotFound)`
+    /// if nothing is there, `IoPath(Failed)` if it can't be read, and `Json` of line 0 if it is no
+    /// configuration.
     pub fn index_config<F: Files>(&self, alloc: Global, files: &mut F) -> Result<IndexConfig, Error>
         ensures read { IsConfigRead F.tells (config_file self.now.cache.path)
             ((F.host files.old).stands (config_file self.now.cache.path)) result }
@@ -109,7 +109,7 @@ impl SparseIndex {
         Ok(Text::from_string(text))
     }
 
-    /// The url of the index, without what marks it as sparse.
+    /// The url of the index, without the prefix that marks it as sparse.
     pub fn url(&self) -> &str
         ensures { result.now ≡ http_url self.now.cache.index }
     {
@@ -123,8 +123,7 @@ impl SparseIndex {
         &self.cache
     }
 
-    /// The file of the cache of a crate; nothing where there is none. `Io(Failed)` where the disk
-    /// failed.
+    /// The file of the cache of a crate; nothing if there is none. `Io(Failed)` if the disk failed.
     pub fn cached_krate<'l, D: CacheDisk>(
         &self,
         alloc: Global,
@@ -148,10 +147,10 @@ impl SparseIndex {
         self.cache.cached_krate(alloc, name, lock, disk)
     }
 
-    /// The request for a crate's file. A revision that is handed in is named where it isn't empty,
-    /// and no file is read; without one the HTTP revision of the cache's entry is named, where the
-    /// entry can be read and its revision be named. `Http(InvalidHeaderValue)` where the revision
-    /// handed in, trimmed of white space, has a byte that isn't tab or 32 to 126.
+    /// The request for a crate's file. A given revision is named if it isn't empty, and no file is
+    /// read; without one the HTTP revision of the cache's entry is named, if the entry can be read
+    /// and its revision can be named. `Http(InvalidHeaderValue)` if the given revision, trimmed of
+    /// white space, has a byte that isn't tab or 32 to 126.
     pub fn make_remote_request<D: CacheDisk>(
         &self,
         alloc: Global,
@@ -181,7 +180,7 @@ impl SparseIndex {
         ensures refused { IfErr result
             (λ e. (e ≡ Error.NoMemory)
             ⊎ ((r : HttpRevision) × (revision.entry ≡ Some r) × (handed (http_value r) ≡ Err e))) }
-        // no file changes, and none is read for a revision that is handed in
+        // no file changes, and none is read if a revision is given
         ensures same { D.tells → (q : List ℕ) → D.past disk.new q ≡ D.past disk.old q }
         ensures folders { D.tells → D.folders disk.new ≡ D.folders disk.old }
         ensures kept { D.tells → (m : ServerMap)
@@ -235,7 +234,7 @@ impl SparseIndex {
         }
     }
 
-    /// What may be named of the cache's entry; nothing where it can't be read.
+    /// What may be named of the cache's entry; nothing if it can't be read.
     fn named_kept<D: CacheDisk>(
         &self,
         alloc: Global,
@@ -272,9 +271,9 @@ impl SparseIndex {
     }
 
     /// Takes the answer for a crate. At 200 the lines of its body, which are stored under its
-    /// revision where that is wanted; a disk that fails then changes nothing of the answer. At 304
-    /// the file of the cache, `Io(Failed)` where it can't be read. At 404, 410 and 451 nothing.
-    /// `InvalidJsonLines` where the body isn't valid, `Http(StatusCode)` at any other status.
+    /// revision if that is wanted; if the disk fails then, the answer stays the same. At 304 the
+    /// file of the cache, `Io(Failed)` if it can't be read. At 404, 410 and 451 nothing.
+    /// `InvalidJsonLines` if the body isn't valid, `Http(StatusCode)` at any other status.
     pub fn parse_remote_response<'r, 'l, D: CacheDisk>(
         &self,
         alloc: Global,
@@ -309,7 +308,7 @@ impl SparseIndex {
             → cache_file_of self.now.cache.path (text_of name.entry) ≡ Some q
             → FailsFor self.now.cache.index q (came response.entry) write_cache_entry
             (D.failed disk.old) (D.failed disk.new) result }
-        // without a file and an entry no memory is taken
+        // without a file and an entry no memory is needed
         ensures fed { response.entry.status_code ≢ 304 → write_cache_entry ≡ false
             → result ≢ Err Error.NoMemory }
         ensures folders { D.tells → MakesOnly

@@ -1,4 +1,4 @@
-//! What a body that was sent is taken as, and what the cache keeps of it.
+//! What is taken from a body that was sent, and what the cache keeps of it.
 ghost use Rattle.std.specs.Prelude.{◌≡◌, ◌≢◌, ◌⊎◌, ◌≤◌, ◌+◌, ℕ, List, true, false, drop, map, Err, Some, IsTrue, OnOk};
 ghost use Rattle.tame_names.specs.Counts.{CountStayed};
 ghost use Rattle.tame_names.specs.KrateNames.{text_of};
@@ -73,7 +73,7 @@ impl SparseIndex {
         Ok(Some(IndexEntry::Remote(lines)))
     }
 
-    /// Stores lines under a revision, where the disk does it.
+    /// Stores lines under a revision, if the disk does it.
     fn keep<D: CacheDisk>(
         &self,
         alloc: Global,
