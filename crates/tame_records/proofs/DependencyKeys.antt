@@ -1,4 +1,4 @@
--- What is known of a dependency's members, as one more is put.
+-- What is known of a dependency's members, as one more is added.
 use Rattle.std.proofs.Common.{◌≡◌, ℕ, List, codes, Bool, true, false, bytes_eq, refl, ap, ◌∙◌}
 use Rattle.std.specs.Prelude.{if◌then◌else◌}
 use Rattle.std.proofs.lemmas.Slice.Eq.{bytes_eq-Decides}

@@ -65,7 +65,7 @@ parses text bytes is len fits =
     let out : hex_bytes text ≡ bytes = ap (λ (r : Result (List ℕ) FromHexError). result_unwrap_or r []) back in
     sized _ _ _ long ∙ unless_none (first_bad_digit text) (hex_bytes text) bytes (no_bad_digit text ok.1) out
 
--- ---- exactly the texts of 64 digits parse
+-- ---- exactly the strings of 64 digits parse
 
 all_pass : (text : List ℕ) → first_bad_digit text ≡ None → IsTrue (list_all is_ascii_hexdigit text)
 all_pass [] h = refl

@@ -1,4 +1,4 @@
--- Members that are put one after the other, and what is known of those found.
+-- Members that are added one after the other, and what is known of those found.
 use Rattle.std.proofs.Common.{◌≡◌, ℕ, List, Bool, true, false, Option, Some, None, bytes_eq, is_eq, Ordering, Less, Equal, Greater, nat_cmp, true≢false, refl, sym, ap, ◌∙◌}
 use Rattle.std.specs.Prelude.{is_some}
 use Rattle.std.specs.Cmp.Lexicographic.{slice_cmp}
@@ -44,7 +44,7 @@ found_fits f k d (member l x ms) h e =
     let both = and_parts (f l x) (all_members f ms) h in
     found_at f (slice_cmp nat_cmp k l) k l d x (get_member k ms) refl both.0 (found_fits f k d ms both.1) e
 
--- ---- what is put stays, and takes the place of what had its name
+-- ---- what is added stays, and replaces what had its name
 
 pub found_here : (q k : List ℕ) (d : Data) (ms : Members) → k ≡ q → get_member q (put k d ms) ≡ Some d
 found_here q k d ms same = ap (λ (l : List ℕ). get_member l (put k d ms)) (sym same) ∙ get_member-put k d ms

@@ -1,4 +1,4 @@
--- Values over tokens, put together, and a whole text that one of them is.
+-- Values over tokens, joined, and a whole text that one of them is.
 use Rattle.std.proofs.Common.{◌≡◌, ℕ, suc, ◌≤◌, List, [], ◌∷◌, ◌++◌, Bool, false, Option, Some, option_map, option_and_then, refl, sym, ap, ◌∙◌, arith, append_assoc}
 use Rattle.std.proofs.lemmas.Bool.{and_from}
 use Rattle.json.specs.Token.{Token}

@@ -1,4 +1,4 @@
--- The search for the last greatest: none in front of its place is greater, and each behind it is less.
+-- The search for the last greatest: none before its place is greater, and each after it is less.
 use Rattle.std.proofs.Common.{◌≡◌, ℕ, zero, suc, ◌+◌, List, [], ◌∷◌, ◌++◌, map, take, drop, Bool, true, false, not, cond, length, ◌<◌, Option, Some, None, option_map, refl, sym, ap, subst, ◌∙◌, arith, append_assoc, append-nil, length-append}
 use Rattle.std.specs.Prelude.{fold, slice_get, MatchOption}
 use Rattle.std.specs.Cmp.{IsStrictWeakOrder}
@@ -98,7 +98,7 @@ last_greatest cmp o xs i is =
     let found = greatest_cut (by_cmp cmp) o xs i is in
     (found.1, moved cmp xs _ i _ found.1 found.3 found.4 (cut_greatest cmp found.0 found.2 found.1 found.5 found.6))
 
--- ---- the same of what the items are mapped to
+-- ---- the same for what the items are mapped to
 
 got_mapped : {A B : Type 0} (f : A → B) (xs : List A) (i : ℕ) (b : A) → slice_get xs i ≡ Some b → slice_get (map f xs) i ≡ Some (f b)
 got_mapped f [] i b h = cc
@@ -137,7 +137,7 @@ options f C D same None (Some y) = refl
 options f C D same (Some x) None = refl
 options f C D same (Some x) (Some y) = same x y
 
--- where there is a place, the list reaches it
+-- if there is a place, the list reaches it
 pub placed : {A : Type 0} (R : A → A → Type 0) (xs : List A) (o : Option ℕ) → PositionFacts R xs o → MatchOption o (xs ≡ []) (λ i. i < length xs)
 placed R xs None h = h
 placed R xs (Some i) h = h.0

@@ -12,7 +12,7 @@ use Rattle.tame_records.specs.declared.versions.IndexVersion.{IndexVersion}
 use Rattle.tame_records.specs.Highest.{IsHighestNormal, IsLastGreatest, IsNormal, by_normal_precedence, normal_precedence, parts_cmp, precedence}
 use Rattle.tame_records.proofs.Greatest.{both, greatest_mapped, last_greatest}
 
--- ---- where there is a place
+-- ---- if there is a place
 
 pub if_found : {A : Type 0} (cmp : A → A → Ordering) (o : IsStrictWeakOrder (by_cmp cmp)) (xs : List A) → IfSome (position_of (wins true (by_cmp_reversed cmp)) xs) (λ i. (best : A) × IsLastGreatest cmp xs i best)
 if_found cmp o xs = go (position_of (wins true (flipped (by_cmp cmp))) xs) (λ i is. last_greatest cmp o xs i is)
@@ -44,7 +44,7 @@ not_normal v none h = unranked v.yanked (precedence v) none h.not_yanked h.no_pr
     unranked false None none kept pre = absurd pre
     unranked false (Some p) none kept pre = cc (rw pre at none)
 
--- where the greatest of all has no normal rank, none has one
+-- if the greatest of all has no normal rank, none has one
 lowest : (r : Option Parts) → is_lt (option_cmp parts_cmp None r) ≡ false → r ≡ None
 lowest None h = refl
 lowest (Some p) h = cc
@@ -72,7 +72,7 @@ none_normal versions place v h none =
     let behind = unranked_behind (drop (suc place) versions) (rw none at h.all_less) in
     subst (AllByRecursion (λ x. ¬ (IsNormal x))) (cut versions place v h.at) (both (λ x. ¬ (IsNormal x)) (take place versions) (v ∷ drop (suc place) versions) front (not_normal v none, behind))
 
--- what was found of the version at the place
+-- what was found about the version at the place
 pub highest_normal : {E : Type 0} (r : Result (Option (Bor IndexVersion)) E) (versions : List IndexVersion) (place : ℕ) (v : IndexVersion) → IsLastGreatest by_normal_precedence versions place v
     → IfOk r (λ found. MatchOption found (normal_precedence v ≡ None) (λ x. (x.now ≡ v) × IsNormal v)) → IfOk r (λ found. IsHighestNormal versions (option_map (λ (x : Bor IndexVersion). x.now) found))
 highest_normal (Ok None) versions place v h none = none_normal versions place v h none

@@ -1,4 +1,4 @@
--- One line more of a crate's lines.
+-- One more line of a crate's lines.
 use Rattle.std.proofs.Common.{◌≡◌, ℕ, ◌+◌, List, [], ◌∷◌, ◌++◌, length, Option, Some, None, option_map, refl, ap, ◌∙◌, sym, arith}
 use Rattle.std.specs.List.{position_from}
 use Rattle.tame_records.specs.Krates.{has_no_record, records_of}
@@ -24,7 +24,7 @@ first_read line rest v is = rw is refl
 first_passed : (line : List ℕ) (rest : List (List ℕ)) (v : IndexVersion) (n : ℕ) → record_of line ≡ Some v → position_from has_no_record n (line ∷ rest) ≡ position_from has_no_record (n + 1) rest
 first_passed line rest v n is = rw is refl
 
--- the records so far are one more, in front of those of what is left
+-- the records so far are one more, before those of what is left
 pub read_on : (ls rest : List (List ℕ)) (line : List ℕ) (vs ws : List IndexVersion) (v : IndexVersion) → ls ≡ line ∷ rest → record_of line ≡ Some v → ws ≡ vs ++ v ∷ []
     → before vs (records_of ls) ≡ before ws (records_of rest)
 read_on ls rest line vs ws v steps is added =

@@ -1,4 +1,4 @@
--- Things that an order tells not apart are the same; what is kept after one thing more.
+-- Things that an order doesn't tell apart are the same; what is kept after one more thing.
 use Rattle.std.proofs.Common.{◌≡◌, ◌≢◌, List, [], ◌∷◌, Bool, true, false, cond, true≢false, Option, Some, None, option_map, All, Contains, IfSome, MatchOption, refl, sym, ap, ap₂, ◌∙◌, subst}
 use Rattle.std.specs.declared.cmp.Ordering.{Ordering}
 use Rattle.std.specs.declared.cmp.Ordering.TheVariants.{Less, Equal, Greater}
@@ -114,7 +114,7 @@ own_feature p q e =
 pub own_features : OnlyOwn features_cmp
 own_features = own_lists feature_cmp own_feature
 
--- ---- what is sought among the kept
+-- ---- searched for among the kept
 
 module _ {K : Type 0} (R : K → K → Ordering) (total : IsTotalOrder R) (own : OnlyOwn R) where
   at_head : (k : K) (ks : List K) → Contains (k ∷ ks) k
@@ -147,12 +147,12 @@ module _ {K : Type 0} (R : K → K → Ordering) (total : IsTotalOrder R) (own :
       by true n later h = absurd (true≢false (ap is_there h))
       by false n later h = All-cons (λ z. z ≢ x) y ys (apart x y n) (later h)
 
-  -- what a search among the kept gives, where `now` leads from the found to its value
+  -- what a search among the kept gives, if `now` leads from the found to its value
   pub sought : {F : Type 0} (now : F → K) (x : K) (ks : List K) (r : Option F) → option_map now r ≡ find (is_at (R x)) ks → IfSome r (λ y. R x (now y) ≡ Equal) → MatchOption r (All (λ y. y ≢ x) ks) (λ y. Contains ks (now y) × (now y ≡ x))
   sought now x ks None e t = sought_in_vain x ks (sym e)
   sought now x ks (Some y) e t = (found x ks (now y) (sym e), sym (own x (now y) t))
 
-  -- what is not kept and is put at its place
+  -- what is not kept and is added at its place
   pub one_more : (x : K) (ks : List K) → All (λ y. y ≢ x) ks → IsOneMore ks x (insert_key R ks x)
   one_more x [] none = ([], [], refl, refl)
   one_more x (y ∷ ys) none = by (R x y) refl (one_more x ys (All-tail (λ z. z ≢ x) y ys none))

@@ -15,7 +15,7 @@ use Rattle.tame_records.specs.Quick.{HasText, TakesAt, TextAt, ValueAt, ends, le
 use Rattle.tame_records.specs.VersionFlags.{AreMembers, IsValue}
 use Rattle.tame_records.proofs.FlagTokens.{deeper, flag_taken, members_end, members_more, null_taken, text_taken}
 
--- ---- texts
+-- ---- strings
 
 text_ends : (ys : List ℕ) → HasText (34 ∷ ys) [] ys
 unfolding content lex
@@ -45,7 +45,7 @@ one_plain x xs s ys free h =
     let both = or_parts (x == 34) (x == 92) first.0 in
     (plain_read x xs s both.0 both.1 first.1 h.0, plain_lexed x xs both.0 both.1 ∙ h.1)
 
--- a run of plain bytes in front of a text
+-- a run of plain bytes before a string
 pub run_of_text : (xs s ys : List ℕ) → HasText (drop (prefix_len is_plain xs) xs) s ys → HasText xs (take (prefix_len is_plain xs) xs ++ s) ys
 run_of_text [] s ys h = h
 run_of_text (x ∷ xs) s ys h = go (λ (inside : HasText (drop (prefix_len is_plain xs) xs) s ys). run_of_text xs s ys inside) (is_stop x) refl h
@@ -283,7 +283,7 @@ module _ (bytes : List ℕ) (at : ℕ) where
   if_null form fits None h = tt
   if_null form fits (Some e) h = (nothing, h, fits)
 
-  -- a text without escapes is what stands between its quotes
+  -- a string without escapes is what is between its quotes
   pub text_slice : (e : ℕ) → get_or bytes at 0 ≡ 34 → e ≡ at + 1 + prefix_len is_plain (drop (at + 1) bytes) → get_or bytes e 0 ≡ 34 → TextAt bytes at (take (e - (at + 1)) (drop (at + 1) bytes)) (e + 1)
   text_slice e first is last =
       let xs = drop (at + 1) bytes in

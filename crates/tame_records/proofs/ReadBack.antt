@@ -1,4 +1,4 @@
--- What a written value reads as: texts, lists and objects, and what is found in an object.
+-- What a written value reads as: strings, lists and objects, and what is found in an object.
 use Rattle.std.proofs.Common.{◌≡◌, ℕ, ◌≤◌, ◌<◌, max, List, [], ◌∷◌, ◌++◌, Bool, true, false, cond, Option, Some, None, option_map, bytes_eq, true≢false, refl, sym, ap, ◌∙◌, subst, append_assoc, append-nil, arith, rules, Ordering, Less, Equal, Greater, nat_cmp}
 use Rattle.std.specs.Prelude.{◌||◌, ◌^◌, map, IfSome}
 use Rattle.std.specs.BTreeMap.{insert_entry}
@@ -19,7 +19,7 @@ use Rattle.serde_json.proofs.Views.{get_member-put, get_member-put_other}
 use Rattle.tame_records.specs.Members.{Lists, lists_with, lists_or_null, u32_or_null, text_or_null, texts_of}
 use Rattle.tame_records.specs.Written.{AreOrdered, lists_if, lists_tree, number_if, text_if, texts_tree}
 
--- ---- texts
+-- ---- strings
 
 abbrev pub texts_data : List (List ℕ) → Items
 texts_data [] = no_items
@@ -90,7 +90,7 @@ pub lists_shallow : (ls : Lists) → tree.members_depth (lists_tree ls) ≤ 1
 lists_shallow [] = omega arith
 lists_shallow (l ∷ ls) = omega (arith, texts_shallow l.1, lists_shallow ls)
 
--- ---- objects: members that are put one after the other, and may be absent
+-- ---- objects: members that are added one after the other, and may be absent
 
 abbrev pub Entry : Type 0
 Entry = List ℕ × Option Data
@@ -162,7 +162,7 @@ abbrev pub is_whole : Option Data → Bool
 is_whole None = false
 is_whole (Some d) = has_float d
 
--- each value that is put has no float
+-- each value that is added has no float
 abbrev pub AreWhole : List Entry → Type 0
 AreWhole [] = Unit {0}
 AreWhole (e ∷ es) = (is_whole e.1 ≡ false) × AreWhole es
@@ -175,7 +175,7 @@ pub whole_built : (es : List Entry) (ms : Members) → AreWhole es → members_h
 whole_built [] ms hes h = h
 whole_built (e ∷ es) ms hes h = whole_built es (put_if e.0 e.1 ms) hes.1 (whole_put_if e.0 e.1 ms hes.0 h)
 
--- ---- members that stand only where there is a value
+-- ---- members that are there only if there is a value
 
 abbrev pub text_data : Option (List ℕ) → Option Data
 text_data o = option_map string o

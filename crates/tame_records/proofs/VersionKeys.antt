@@ -1,4 +1,4 @@
--- What is known of a version's members, as one more is put.
+-- What is known of a version's members, as one more is added.
 use Rattle.std.proofs.Common.{◌≡◌, ℕ, List, codes, Bool, true, false, Option, Some, None, option_and_then, bytes_eq, refl, sym, ap, ◌∙◌}
 use Rattle.std.specs.Prelude.{is_some, unwrap_or, if◌then◌else◌}
 use Rattle.std.proofs.lemmas.Slice.Eq.{bytes_eq-Decides}

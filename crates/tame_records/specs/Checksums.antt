@@ -19,7 +19,7 @@ abbrev pub unless_bad : Option ℕ → List ℕ → Result Chksum ChksumParseErr
 unless_bad (Some c) bytes = Err (InvalidValue c)
 unless_bad None bytes = Ok (record { 0 = bytes })
 
--- the digest, or that the length is another one, or the first byte that is no digit
+-- the digest, or that the length is another one, or the first byte that isn't a digit
 abbrev pub chksum_of : List ℕ → Result Chksum ChksumParseError
 chksum_of text =
     if length text == 64 then unless_bad (first_bad_digit text) (hex_bytes text)

@@ -21,7 +21,7 @@ parts_cmp a b =
 abbrev pub precedence : IndexVersion → Option Parts
 precedence v = result_ok (version_parts v.version)
 
--- the same, of versions that aren't yanked and have no pre-release
+-- the same, for versions that aren't yanked and have no pre-release
 abbrev pub normal_precedence : IndexVersion → Option Parts
 normal_precedence v =
     if v.yanked then None else option_and_then (λ p. if length p.3 == 0 then Some p else None)
@@ -34,8 +34,8 @@ by_precedence v w = option_cmp parts_cmp (precedence v) (precedence w)
 abbrev pub by_normal_precedence : IndexVersion → IndexVersion → Ordering
 by_normal_precedence v w = option_cmp parts_cmp (normal_precedence v) (normal_precedence w)
 
--- the greatest of a list and, of equal ones, the last: it stands at this place, none in front of it
--- is greater, and each behind it is less
+-- the greatest of a list, the last of equal ones: it is at this place, none before it is greater,
+-- and each after it is less
 pub record IsLastGreatest {A : Type 0} (cmp : A → A → Ordering) (xs : List A) (place : ℕ)
     (best : A) : Type 0 where
   pub at : slice_get xs place ≡ Some best
@@ -51,7 +51,7 @@ pub record IsNormal (v : IndexVersion) : Type 0 where
   pub not_yanked : v.yanked ≡ false
   pub no_pre : IsSomeAnd (precedence v) (λ p. length p.3 ≡ 0)
 
--- the highest of the normal versions; none exactly where no version is normal
+-- the highest of the normal versions; none exactly if no version is normal
 abbrev pub IsHighestNormal : List IndexVersion → Option IndexVersion → Type 0
 IsHighestNormal versions None = AllByRecursion (λ v. ¬ (IsNormal v)) versions
 IsHighestNormal versions (Some v) =

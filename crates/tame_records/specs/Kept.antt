@@ -6,14 +6,14 @@ abbrev pub IsOneMore : {A : Type 0} → List A → A → List A → Type 0
 IsOneMore {A} before x after =
     (front : List A) × (back : List A) × (before ≡ front ++ back) × (after ≡ front ++ x ∷ back)
 
--- what is kept after one thing more: the same where it is among them, and else one more, which
+-- what is kept after one more thing: the same if it is among them, and else one more, which
 -- equals none of those before
 abbrev pub KeptOnce : {A : Type 0} → List A → A → List A → Type 0
 KeptOnce before x after =
     (Contains before x × (after ≡ before))
     ⊎ (All (λ y. y ≢ x) before × IsOneMore before x after)
 
--- the same after one thing, and after another where there is one
+-- the same after one thing, and after another if there is one
 abbrev pub KeptBoth : {A : Type 0} → List A → A → Option A → List A → Type 0
 KeptBoth before x None after = KeptOnce before x after
 KeptBoth {A} before x (Some y) after =

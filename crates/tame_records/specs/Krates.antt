@@ -10,7 +10,7 @@ use Rattle.tame_records.specs.Lines.{lines, trimmed}
 use Rattle.tame_records.specs.Record.{record_of}
 use Rattle.tame_records.specs.declared.versions.IndexVersion.{IndexVersion}
 
--- the records of lines, where each has one
+-- the records of lines, if each has one
 abbrev pub records_of : List (List ℕ) → Option (List IndexVersion)
 records_of [] = Some []
 records_of (l ∷ ls) = option_and_then (λ r. option_map (λ rs. r ∷ rs) (records_of ls)) (record_of l)
@@ -34,7 +34,7 @@ abbrev pub IsRead : List ℕ → Result IndexKrate Error → Type 0
 IsRead body (Ok krate) = (records_of (lines body) ≡ Some krate.versions) × (unread body ≡ None)
 IsRead body (Err e) = (e ≡ error.NoMemory) ⊎ (unread body ≡ Some e)
 
--- the same of what stands at a path of the host
+-- the same for the file at a path of the host
 abbrev pub IsReadAt : Standing → Result IndexKrate Error → Type 0
 IsReadAt standing (Err (error.Io io_kind.NotFound)) = standing ≡ Nothing
 IsReadAt standing (Err (error.Io io_kind.Failed)) = Unit {0}

@@ -6,6 +6,6 @@ use Rattle.tame_names.specs.Pieces.{pieces, without_end}
 abbrev pub trimmed : List ℕ → List ℕ
 trimmed body = without_end 10 body
 
--- the lines: what is left, cut at its newlines; nothing but newlines has no line
+-- the lines: what is left, cut at its newlines; a body of only newlines has no line
 abbrev pub lines : List ℕ → List (List ℕ)
 lines body = pieces 10 (trimmed body)

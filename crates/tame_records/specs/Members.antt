@@ -7,11 +7,11 @@ use Rattle.std.specs.Ordering.{nat_cmp}
 use Rattle.serde_json.specs.Data.{Data, null, number, string, object, Items, no_items, item, Members, no_members, member, unsigned}
 use Rattle.serde_json.specs.Find.{get, as_str, as_bool, as_array, as_object}
 
--- a required text
+-- a required string
 abbrev pub text_at : List ℕ → Data → Option (List ℕ)
 text_at key d = option_and_then as_str (get key d)
 
--- null or absent: no text
+-- null or absent: no string
 abbrev pub text_or_null : Option Data → Option (Option (List ℕ))
 text_or_null None = Some None
 text_or_null (Some null) = Some None
@@ -38,22 +38,22 @@ abbrev pub texts_of : Items → Option (List (List ℕ))
 texts_of no_items = Some []
 texts_of (item d ds) = option_and_then (λ t. option_map (λ ts. t ∷ ts) (texts_of ds)) (as_str d)
 
--- a required array of texts
+-- a required array of strings
 abbrev pub texts_at : List ℕ → Data → Option (List (List ℕ))
 texts_at key d = option_and_then texts_of (option_and_then as_array (get key d))
 
--- lists of texts at names, in the byte order of the names
+-- lists of strings at names, in the byte order of the names
 abbrev pub Lists : Type 0
 Lists = List (List ℕ × List (List ℕ))
 
--- the lists, with those of these members put at their names
+-- the lists, with those of these members added at their names
 abbrev pub lists_with : Lists → Members → Option Lists
 lists_with ls no_members = Some ls
 lists_with ls (member k d ms) =
     option_and_then (λ ts. lists_with (insert_entry (slice_cmp nat_cmp) ls k ts) ms)
     (option_and_then texts_of (as_array d))
 
--- a required object of arrays of texts
+-- a required object of arrays of strings
 abbrev pub lists_at : List ℕ → Data → Option Lists
 lists_at key d = option_and_then (lists_with []) (option_and_then as_object (get key d))
 

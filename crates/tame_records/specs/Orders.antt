@@ -1,5 +1,5 @@
 -- The orders by which equal dependency lists and equal features are found: member after member,
--- texts by their bytes. Nothing but `same` and `different` is read off them.
+-- strings by their bytes. Only `same` and `different` are read from them.
 use Rattle.std.specs.Prelude.{ℕ, List, Option}
 use Rattle.std.specs.Ordering.{bool_cmp, nat_cmp, on, then_cmp}
 use Rattle.std.specs.declared.cmp.Ordering.{Ordering}
@@ -40,7 +40,7 @@ dependency_cmp =
 abbrev pub dependencies_cmp : List IndexDependency → List IndexDependency → Ordering
 dependencies_cmp = slice_cmp dependency_cmp
 
--- a name with its texts
+-- a name with its strings
 abbrev pub feature_cmp : List ℕ × List (List ℕ) → List ℕ × List (List ℕ) → Ordering
 feature_cmp = then_cmp (on (λ p. p.0) text_cmp) (on (λ p. p.1) texts_cmp)
 

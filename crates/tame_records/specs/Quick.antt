@@ -1,4 +1,4 @@
--- A line read byte by byte, beside its tokens. For private clauses.
+-- A line read byte by byte, next to its tokens. For private clauses.
 use Rattle.std.specs.Prelude.{◌≡◌, ◌||◌, ◌==◌, ℕ, List, ◌∷◌, drop, Bool, true, Some, option_map}
 use Rattle.json.specs.Token.{Token, string}
 use Rattle.json.specs.Text.{content, plain}
@@ -8,7 +8,7 @@ use Rattle.serde_json.specs.Data.{Data}
 use Rattle.tame_records.specs.VersionFlags.{IsValue, Seen}
 use Rattle.tame_records.specs.declared.quick_version_flags.VersionSeen.{VersionSeen}
 
--- the tokens from a byte on, where this place is reached
+-- the tokens from a byte on, if this place is reached
 abbrev pub left : List ℕ → Place → ℕ → List Token
 left bytes p at = punctuate p (lex between (drop at bytes))
 
@@ -16,15 +16,15 @@ left bytes p at = punctuate p (lex between (drop at bytes))
 abbrev pub ends : List ℕ → Bool
 ends xs = (head xs == 44) || (head xs == 125) || (head xs == 93)
 
--- the bytes behind a quote are the text s up to its quote, and ys follows
+-- the bytes after a quote are the string s up to its quote, and ys follows
 abbrev pub HasText : List ℕ → List ℕ → List ℕ → Type 0
 HasText xs s ys = (content plain xs ≡ Some s) × (lex in_string xs ≡ lex between ys)
 
--- the text s stands here, and ends before e
+-- the string s is here, and ends before e
 abbrev pub TextAt : List ℕ → ℕ → List ℕ → ℕ → Type 0
 TextAt bytes at s e = lex between (drop at bytes) ≡ token (string s) ∷ lex between (drop e bytes)
 
--- a value that reads as d stands here, and ends before e, if a comma or a closing bracket follows
+-- a value that reads as d is here, and ends before e, if a comma or a closing bracket follows
 abbrev pub ValueAt : ℕ → List ℕ → ℕ → Data → ℕ → Type 0
 ValueAt n bytes at d e =
     (p : Place) → may_begin p ≡ true → ends (drop e bytes) ≡ true

@@ -14,7 +14,7 @@ use Rattle.tame_records.specs.declared.versions.IndexVersion.{IndexVersion}
 use Rattle.tame_records.specs.declared.versions.OptionalMembers.{OptionalMembers}
 use Rattle.tame_records.specs.declared.versions.VersionFlag.{VersionFlag}
 
--- a required text that is the hex form of a digest
+-- a required string that is the hex form of a digest
 abbrev pub chksum_of_data : Option Data → Option Chksum
 chksum_of_data d = option_and_then (λ text. result_ok (chksum_of text)) (option_and_then as_str d)
 
@@ -81,7 +81,7 @@ record_of line = option_and_then record_of_data (value_of line)
 abbrev pub version_flag : IndexVersion → VersionFlag
 version_flag r = record { version = r.version; yanked = r.yanked }
 
--- a version of this name and version's text that holds nothing else
+-- a version with this name and version's text, and nothing else
 abbrev pub fake : List ℕ → List ℕ → IndexVersion
 fake name version = record {
   name = name;

@@ -34,7 +34,7 @@ pub record AreItems (n : ℕ) (old : List Token) (ds : Items) (new : List Token)
   pub shallow : tree.items_depth values ≤ n
   pub whole : items_have_float ds ≡ false
 
--- the members up to the closing brace, put at their names after those found
+-- the members up to the closing brace, added at their names after those found
 pub record AreMembers (n : ℕ) (old : List Token) (found : Members) (ms : Members)
     (new : List Token) : Type 0 where
   pub values : json.Members

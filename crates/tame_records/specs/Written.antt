@@ -19,12 +19,12 @@ abbrev pub texts_tree : List (List ℕ) → Items
 texts_tree [] = no_items
 texts_tree (t ∷ ts) = item (string t) (texts_tree ts)
 
--- the lists of texts by their names, in the order that they have
+-- the lists of strings by their names, in the order that they have
 abbrev pub lists_tree : Lists → Members
 lists_tree [] = no_members
 lists_tree (l ∷ ls) = member l.0 (array (texts_tree l.1)) (lists_tree ls)
 
--- ---- members that stand only where there is a value
+-- ---- members that are there only if there is a value
 
 abbrev pub text_if : List ℕ → Option (List ℕ) → Members → Members
 text_if key None more = more

@@ -18,13 +18,13 @@ use thiserror::Error as ThisError;
 #[derive(Clone, PartialEq, Eq, Drop)]
 pub struct Chksum(pub [u8; 32]);
 
-/// Why a text isn't the hex form of a digest.
+/// Why a string isn't the hex form of a digest.
 #[derive(Clone, Copy, Debug, PartialEq, Eq, ThisError)]
 pub enum ChksumParseError {
-    /// The text has this number of bytes, and not 64.
+    /// The string has this number of bytes, not 64.
     #[error("expected string with length 64 but got length {0}")]
     InvalidLength(usize),
-    /// The first byte that is no hex digit, as the character of that number.
+    /// The first byte that isn't a hex digit, as the character of that number.
     #[error("encountered non-hex character '{0}'")]
     InvalidValue(char),
 }
@@ -35,7 +35,7 @@ fn first_bad_digit(text: &str) -> Option<u8>
     text.bytes().find(|byte| !byte.is_ascii_hexdigit())
 }
 
-/// Whether a text has nothing but hex digits.
+/// Whether a string has only hex digits.
 pub fn is_hex_text(text: &str) -> bool
     ensures { result ≡ is_none (spec.first_bad_digit text.now) }
 {
@@ -97,8 +97,8 @@ impl Chksum {
     }
 }
 
-/// Exactly the texts of 64 hex digits of either case parse, and the digits that a digest is printed
-/// with parse to it again.
+/// Exactly the strings of 64 hex digits of either case parse, and the digits that a digest is
+/// printed with parse to it again.
 pub fn digests_are_digits()
     ensures parsed { (text : List ℕ) → IsOk (chksum_of text)
         ↔ ((length text ≡ 64) × IsTrue (list_all is_ascii_hexdigit text)) }

@@ -18,9 +18,9 @@ use tame_names::{Error, Items, Text};
 pub enum DependencyKind {
     /// For the crate itself.
     Normal,
-    /// For examples, tests and benchmarks alone.
+    /// Only for examples, tests and benchmarks.
     Dev,
-    /// For the build script alone.
+    /// Only for the build script.
     Build,
 }
 
@@ -43,7 +43,7 @@ pub struct IndexDependency {
     pub req: Text,
     /// The features of it that are asked for, in the order of the line.
     pub features: Items<Text>,
-    /// Whether it is needed only where a feature asks for it.
+    /// Whether it is needed only if a feature asks for it.
     pub optional: bool,
     /// Whether its default features are asked for.
     pub default_features: bool,
@@ -51,7 +51,7 @@ pub struct IndexDependency {
     pub target: Option<Text>,
     /// What it is used for.
     pub kind: DependencyKind,
-    /// The crate's own name, where `name` isn't that.
+    /// The crate's own name, if `name` isn't that.
     pub package: Option<Text>,
 }
 
@@ -91,7 +91,7 @@ impl IndexDependency {
         self.kind
     }
 
-    /// The crate's own name, where `name` isn't that.
+    /// The crate's own name, if `name` isn't that.
     pub fn package(&self) -> Option<&str>
         ensures { option_map (λ t. t.now) result ≡ self.now.package }
     {
@@ -108,7 +108,7 @@ impl IndexDependency {
         }
     }
 
-    /// The requirement on its version; `Semver` where its text is none.
+    /// The requirement on its version; `Semver` if its text isn't one.
     pub fn version_requirement(&self, alloc: Global) -> Result<VersionReq, Error>
         ensures ok { IfOk result (λ r. req_of self.now.req
             ≡ Ok (map comparator_view r.comparators.items)) }

@@ -8,8 +8,8 @@ use std::collections::btree_map;
 use std::marker::Model;
 use tame_names::{Items, Text};
 
-/// Names of features with the features that each stands for: those of `features` in the byte
-/// order of their names, then those of `features2`. Contracts see the list of what is left.
+/// Names of features with the features that each enables: those of `features` in the byte order of
+/// their names, then those of `features2`. Contracts see the list of what is left.
 #[derive(Drop)]
 pub struct FeatureIter<'a> {
     first: btree_map::Iter<'a, Text, Items<Text>>,
@@ -43,8 +43,8 @@ impl<'a> Iterator for FeatureIter<'a> {
 }
 
 impl IndexVersion {
-    /// Its features, each with what it stands for: first those that every cargo reads, then
-    /// those of the newer member.
+    /// Its features, each with what it enables: first those that every cargo reads, then those of
+    /// the newer member.
     pub fn features(&self) -> FeatureIter<'_>
         ensures { result ≡ self.now.features ++ unwrap_or self.now.features2 [] }
     {

@@ -14,7 +14,7 @@ use semver::Version;
 use std::alloc::Global;
 use tame_names::NoMemory;
 
-/// The version that its text is.
+/// Its text as a version.
 fn precedence(alloc: Global, version: &IndexVersion) -> Result<Option<Version>, NoMemory>
     ensures { IfOk result (λ r. option_map parts_of r ≡ spec.precedence version.now) }
 {
@@ -30,7 +30,7 @@ fn precedence(alloc: Global, version: &IndexVersion) -> Result<Option<Version>, 
     }
 }
 
-/// The version that its text is, where it isn't yanked and has no pre-release.
+/// Its text as a version, if it isn't yanked and has no pre-release.
 fn normal_precedence(alloc: Global, version: &IndexVersion) -> Result<Option<Version>, NoMemory>
     ensures { IfOk result (λ r. option_map parts_of r ≡ spec.normal_precedence version.now) }
 {
@@ -43,7 +43,7 @@ fn normal_precedence(alloc: Global, version: &IndexVersion) -> Result<Option<Ver
     }
 }
 
-/// The place of the greatest item, of several the last.
+/// The place of the greatest item, the last of several.
 fn last_greatest<T: Ord + Drop>(items: Vec<T>) -> Option<usize>
     ensures within { MatchOption result (items.items ≡ []) (λ i. i < length items.items) }
     ensures greatest { IfSome result (λ i. (best : T) × IsLastGreatest T.cmp items.items i best) }
@@ -51,7 +51,7 @@ fn last_greatest<T: Ord + Drop>(items: Vec<T>) -> Option<usize>
     items.into_iter().position_max()
 }
 
-/// The place of the greatest rank, of several the last; having none is lowest.
+/// The place of the greatest rank, the last of several; having none is lowest.
 fn highest_place(ranks: Vec<Option<Version>>) -> Option<usize>
     ensures within { MatchOption result (ranks.items ≡ []) (λ i. i < length ranks.items) }
     ensures greatest { IfSome result
@@ -83,7 +83,7 @@ fn normal_ranks(alloc: Global, versions: &[IndexVersion]) -> Result<Vec<Option<V
     Ok(ranks)
 }
 
-/// The version, where it has a normal rank.
+/// The version, if it has a normal rank.
 fn normal_version(alloc: Global, version: &IndexVersion) -> Result<Option<&IndexVersion>, NoMemory>
     ensures { IfOk result (λ found. MatchOption found (spec.normal_precedence version.now ≡ None)
         (λ v. (v.now ≡ version.now) × IsNormal version.now)) }
@@ -95,8 +95,8 @@ fn normal_version(alloc: Global, version: &IndexVersion) -> Result<Option<&Index
 }
 
 impl IndexKrate {
-    /// The greatest version, of several the last; a text that is no version is lowest. There has
-    /// to be a version (Semantic Versioning 2.0.0, section 11; then build metadata).
+    /// The greatest version, the last of several; a text that is no version is lowest. There
+    /// must be a version (Semantic Versioning 2.0.0, section 11; then build metadata).
     pub fn highest_version(&self, alloc: Global) -> Result<&IndexVersion, NoMemory>
         requires { 0 < length self.now.versions }
         ensures { IfOk result (λ v. IsHighest self.now.versions v.now) }
@@ -109,8 +109,8 @@ impl IndexKrate {
         }
     }
 
-    /// The greatest version that isn't yanked and has no pre-release, of several the last; none
-    /// where there is no such version.
+    /// The greatest version that isn't yanked and has no pre-release, the last of several; none
+    /// if there is no such version.
     pub fn highest_normal_version(&self, alloc: Global) -> Result<Option<&IndexVersion>, NoMemory>
         ensures { IfOk result (λ found. IsHighestNormal self.now.versions
             (option_map (λ v. v.now) found)) }

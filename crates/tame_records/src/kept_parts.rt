@@ -13,7 +13,7 @@ use std::collections::BTreeSet;
 use tame_names::NoMemory;
 
 /// The dependency lists and the features of the versions so far, each once, so that the versions
-/// after them can share them. They stand in ordered sets: the comparisons that find an equal one
+/// after them can share them. They are in ordered sets: the comparisons that find an equal one
 /// grow as the logarithm of their number, whatever they are.
 #[derive(Drop)]
 pub struct KeptParts {
@@ -94,7 +94,7 @@ impl KeptParts {
         self.features.len()
     }
 
-    /// Shares the list that is kept in place of an equal one; another is kept from now on.
+    /// Replaces a list by the kept one that equals it; keeps a list that equals none.
     fn share_dependencies(&mut self, list: &mut Shared<IndexDependency>) -> Result<(), NoMemory>
         ensures same { list.new ≡ list.old }
         ensures once { OnOk result
@@ -113,7 +113,7 @@ impl KeptParts {
         }
     }
 
-    /// Shares the features that are kept in place of equal ones; others are kept from now on.
+    /// Replaces features by the kept ones that equal them; keeps features that equal none.
     fn share_features(&mut self, features: &mut Features) -> Result<(), NoMemory>
         ensures same { features.new ≡ features.old }
         ensures once { OnOk result
@@ -132,9 +132,9 @@ impl KeptParts {
         }
     }
 
-    /// Shares with the versions before it what of a version equals theirs, and keeps the rest for
-    /// those after it. The version stays equal to what it was, also where memory runs out for what
-    /// is kept.
+    /// Replaces the parts of a version by the kept ones that equal them, and keeps its other parts
+    /// for later versions. The version stays equal to what it was, also if keeping a part runs out
+    /// of memory.
     pub fn share(&mut self, version: &mut IndexVersion) -> Result<(), NoMemory>
         ensures same { version.new ≡ version.old }
         ensures dependencies { OnOk result (KeptOnce self.old.dependencies.keys

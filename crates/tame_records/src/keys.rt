@@ -19,11 +19,11 @@ pub(crate) enum VersionKey {
     Features2,
     /// Whether it is yanked.
     Yanked,
-    /// One of the members that are a text or null.
+    /// One of the members that are a string or null.
     Text,
     /// The number of the line's format.
     Number,
-    /// No member of a version.
+    /// Not a member of a version.
     Other,
 }
 
@@ -40,11 +40,11 @@ pub(crate) enum DependencyKey {
     Optional,
     /// Whether its default features are asked for.
     DefaultFeatures,
-    /// One of the members that are a text or null.
+    /// One of the members that are a string or null.
     Text,
     /// What it is used for.
     Kind,
-    /// No member of a dependency.
+    /// Not a member of a dependency.
     Other,
 }
 

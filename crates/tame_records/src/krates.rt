@@ -18,11 +18,11 @@ use tame_names::{Error, FileFault, Files, IoKind, Items, ReadAnswer, split};
 /// The versions of a crate, in the order in which they were published.
 #[derive(Debug, Drop, PartialEq, Eq)]
 pub struct IndexKrate {
-    /// The versions, the first published in front.
+    /// The versions, the one published first at the start.
     pub versions: Items<IndexVersion>,
 }
 
-/// The records of the lines of a text, which share what is equal of them.
+/// The records of the lines of a text; they share their equal parts.
 fn records_of(alloc: Global, text: &[u8]) -> Result<Items<IndexVersion>, Error>
     ensures ok { IfOk result (λ vs. (spec.records_of (pieces 10 text.now) ≡ Some vs)
         × (first_unread (pieces 10 text.now) ≡ None)) }
@@ -49,8 +49,8 @@ fn records_of(alloc: Global, text: &[u8]) -> Result<Items<IndexVersion>, Error>
 }
 
 impl IndexKrate {
-    /// The versions in the index file at a path; `Io(NotFound)` where nothing is there,
-    /// `Io(Failed)` where it can't be read, else as `from_slice`.
+    /// The versions in the index file at a path; `Io(NotFound)` if nothing is there,
+    /// `Io(Failed)` if it can't be read, else as `from_slice`.
     pub fn new<F: Files>(alloc: Global, files: &mut F, path: &str) -> Result<IndexKrate, Error>
         ensures read { F.tells → IsReadAt ((F.host files.old).stands path.now) result }
         ensures failed { result ≡ Err (Error.Io IoKind.Failed)
@@ -72,9 +72,8 @@ impl IndexKrate {
         }
     }
 
-    /// The versions that the lines of a body are, newlines at its end left out. A body without
-    /// a line is refused with `NoCrateVersions`, else `Json` tells the first line that has no
-    /// record.
+    /// The versions in the lines of a body, without the newlines at its end. A body without a
+    /// line is `NoCrateVersions`; else `Json` names the first line that has no record.
     pub fn from_slice(alloc: Global, bytes: &[u8]) -> Result<IndexKrate, Error>
         ensures { IsRead bytes.now result }
     {
@@ -86,7 +85,7 @@ impl IndexKrate {
         Ok(IndexKrate { versions })
     }
 
-    /// The name of the first version. There has to be one.
+    /// The name of the first version. There must be one.
     pub fn name(&self) -> &str
         requires { 0 < length self.now.versions }
         ensures { (first : IndexVersion) → slice_get self.now.versions 0 ≡ Some first
@@ -95,7 +94,7 @@ impl IndexKrate {
         self.earliest_version().name.as_str()
     }
 
-    /// The first version. There has to be one.
+    /// The first version. There must be one.
     pub fn earliest_version(&self) -> &IndexVersion
         requires { 0 < length self.now.versions }
         ensures { slice_get self.now.versions 0 ≡ Some result.now }
@@ -103,7 +102,7 @@ impl IndexKrate {
         &self.versions.as_slice()[0]
     }
 
-    /// The last version. There has to be one.
+    /// The last version. There must be one.
     pub fn most_recent_version(&self) -> &IndexVersion
         requires { 0 < length self.now.versions }
         ensures { slice_get self.now.versions (length self.now.versions - 1) ≡ Some result.now }

@@ -3,7 +3,7 @@
 //! Promises: a line reads exactly to its record, or has none; its version and flag are those of
 //! the record, whichever way it is read; a body reads to the records of its lines; a version that
 //! shares a part with another stays as it was; and the line that a version writes reads back to it.
-//! Stands on the texts and names of `tame_names`, and on `serde_json`, `json`, `semver`, `hex`,
+//! Depends on the texts and names of `tame_names`, and on `serde_json`, `json`, `semver`, `hex`,
 //! `itertools` and `thiserror`.
 //!
 //! ```ignore

@@ -6,9 +6,9 @@ use tame_names::NoMemory;
 /// Why a line isn't a record.
 #[derive(Clone, Copy, Debug, PartialEq, Eq)]
 pub enum LineFault {
-    /// The line isn't JSON, or it or one of its members hasn't its form.
+    /// The line isn't JSON, or it or one of its members has the wrong form.
     Json,
-    /// Memory ran out.
+    /// Out of memory.
     NoMemory,
 }
 

@@ -116,7 +116,7 @@ fn compare_features(these: &FeatureMap, those: &FeatureMap) -> Ordering
     }
 }
 
-// ---- equal where no order tells them apart
+// ---- equal if no order tells them apart
 
 impl PartialEq for KeptDependencies {
     ghost eq = { eq_by_cmp dependencies_cmp };

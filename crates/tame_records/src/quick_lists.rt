@@ -10,7 +10,7 @@ use crate::quick_values::{
     flag_value_end, kind_end, plain_value_end, text_or_null_end, text_value_end,
 };
 
-/// An array of texts.
+/// An array of strings.
 fn texts_end(bytes: &[u8], at: usize) -> Option<usize>
     ensures value { IfSome result (λ e. TakesAt 1 are_texts bytes.now at e) }
     ensures within { IfSome result (λ e. (at < e) × (e ≤ length bytes.now)) }
@@ -34,7 +34,7 @@ fn texts_end(bytes: &[u8], at: usize) -> Option<usize>
     }
 }
 
-/// An object of arrays of texts.
+/// An object of arrays of strings.
 pub(crate) fn lists_end(bytes: &[u8], at: usize) -> Option<usize>
     ensures value { IfSome result (λ e. TakesAt 2 are_lists bytes.now at e) }
     ensures within { IfSome result (λ e. (at < e) × (e ≤ length bytes.now)) }

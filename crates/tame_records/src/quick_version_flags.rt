@@ -116,11 +116,11 @@ fn quick_members(bytes: &[u8]) -> Option<(&[u8], bool)>
     }
 }
 
-/// Version and flag of the record that a line is, where it has the form that indices write: no
+/// Version and flag of the record that a line is, if it has the form that indices write: no
 /// blanks; no escapes but those of quotes and backslashes, and none in the version, in digests and
-/// in the keys of a version and of its dependencies; no number but 1 and 2; behind other keys than
-/// a version's only texts, flags and null. Which lines it answers is no promise: nothing says
-/// nothing, and a line of another form may be a record too.
+/// in the keys of a version and of its dependencies; no number but 1 and 2; under other keys than a
+/// version's only strings, flags and null. It doesn't promise which lines it reads: nothing is no
+/// answer, and a line of another form may be a record too.
 pub fn quick_version_flag(line: &[u8]) -> Option<(&str, bool)>
     ensures { IfSome result (λ h. option_map version_flag (record_of line.now)
         ≡ Some (record { version = h.0.now; yanked = h.1 })) }

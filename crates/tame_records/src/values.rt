@@ -10,7 +10,7 @@ use serde_json::{Map, Value};
 use std::alloc::Global;
 use tame_names::utf8_text;
 
-// ---- floats are refused, wherever they stand
+// ---- floats are refused, wherever they are
 
 #[cycle(floats)]
 fn has_float(value: &Value) -> bool

@@ -19,10 +19,10 @@ fn record_version_flag(alloc: Global, line: &[u8]) -> Result<Option<VersionFlag>
     }
 }
 
-/// Version and flag of the record that a line of the index is, or nothing where it is none.
+/// Version and flag of the record that a line of the index is, or nothing if it is none.
 ///
-/// A line in the form that indices write is read in one pass, and nothing of it is copied but its
-/// version. Any other line is read as a record.
+/// A line in the form that indices write is read in one pass, and only its version is copied. Any
+/// other line is read as a record.
 pub fn read_version_flag(alloc: Global, line: &[u8]) -> Result<Option<VersionFlag>, NoMemory>
     ensures { IfOk result (λ head. head ≡ option_map version_flag (record_of line.now)) }
 {

@@ -22,17 +22,17 @@ use tame_names::{Items, NoMemory, Text};
 pub struct IndexVersion {
     /// The crate's name, as written.
     pub name: Text,
-    /// The version's text; it may be no SemVer version.
+    /// The version's text; it need not be a SemVer version.
     pub version: Text,
     /// Its dependencies, a list that several versions of one crate may share.
     pub deps: Shared<IndexDependency>,
     /// The SHA-256 digest of the crate file.
     pub checksum: Chksum,
-    /// Whether the version is yanked: kept, and not to be chosen anew.
+    /// Whether the version is yanked: kept, but no longer to be chosen.
     pub yanked: bool,
-    /// The native library that it links, if one is stated.
+    /// The native library that it links, if stated.
     pub links: Option<Text>,
-    /// The oldest Rust that it supports, as written, if one is stated.
+    /// The oldest Rust that it supports, as written, if stated.
     pub rust_version: Option<Text>,
     /// When it was published, as written.
     pub pubtime: Option<Text>,
@@ -55,7 +55,7 @@ struct OptionalMembers {
 /// What an audit keeps of a version: its text, and whether it is yanked.
 #[derive(Debug, Drop, PartialEq, Eq)]
 pub struct VersionFlag {
-    /// The version's text; it may be no SemVer version.
+    /// The version's text; it need not be a SemVer version.
     pub version: Text,
     /// Whether the version is yanked.
     pub yanked: bool,
@@ -126,7 +126,7 @@ fn version_of(alloc: Global, value: &Value) -> Result<IndexVersion, LineFault>
 
 impl IndexVersion {
     /// The version that a line of the index is: a UTF-8 JSON object without floats, whose
-    /// members have the forms of the index; of equal keys the last counts. Any other is `Json`.
+    /// members have the forms of the index; of equal keys the last counts. Any other line: `Json`.
     pub fn read_line(alloc: Global, line: &[u8]) -> Result<IndexVersion, LineFault>
         ensures ok { IfOk result (λ r. record_of line.now ≡ Some r) }
         ensures json { result ≡ Err LineFault.Json → record_of line.now ≡ None }
@@ -135,8 +135,8 @@ impl IndexVersion {
         version_of(alloc, &value)
     }
 
-    /// A version of this name and this version's text: without dependencies and features, with
-    /// a digest of zeros, not yanked, and with nothing else.
+    /// A version with this name and this version's text: no dependencies, no features, a digest of
+    /// zeros, not yanked, and nothing else.
     pub fn fake(alloc: Global, name: &str, version: &str) -> Result<IndexVersion, NoMemory>
         ensures { IfOk result (λ r. r ≡ record_spec.fake name.now version.now) }
     {
@@ -185,7 +185,7 @@ impl IndexVersion {
         self.yanked
     }
 
-    /// The least version of Rust that it wants.
+    /// The lowest version of Rust that it needs.
     pub fn rust_version(&self) -> Option<&str>
         ensures { option_map (λ t. t.now) result ≡ self.now.rust_version }
     {

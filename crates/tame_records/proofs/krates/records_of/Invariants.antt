@@ -5,7 +5,7 @@ use Rattle.tame_records.specs.Krates.{first_unread, has_no_record, records_of}
 use Rattle.tame_records.proofs.Ahead.{before}
 use Rattle.tame_records.proofs.krates.records_of.Given as goal
 
--- the records so far, in front of those of what is left, whose first line has their number
+-- the records so far, before those of what is left, whose first line has their number
 abbrev pub invariant-loop-line : goal.invariant-loop-line
 invariant-loop-line l = record {
   read : records_of (pieces 10 l.text) ≡ before l.versions (records_of l.line-iterator);

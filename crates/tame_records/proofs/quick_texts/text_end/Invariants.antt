@@ -2,7 +2,7 @@ use Rattle.std.proofs.Common.{ℕ, ◌+◌, ◌-◌, ◌<◌, ◌≤◌, List, l
 use Rattle.tame_records.specs.Quick.{HasText}
 use Rattle.tame_records.proofs.quick_texts.text_end.Given as goal
 
--- the text behind the quote ends where the text from here on does
+-- the string after the quote ends where the string from here on does
 abbrev pub invariant-runs : goal.invariant-runs
 invariant-runs l = record {
   more : (s ys : List ℕ) → HasText (drop l.end l.bytes) s ys → (t : List ℕ) × HasText (drop (l.at + 1) l.bytes) t ys;
