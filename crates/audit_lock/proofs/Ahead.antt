@@ -1,4 +1,4 @@
--- What was read, in front of the reading of what is left.
+-- What was read, before the reading of what is left.
 use Rattle.std.proofs.Common.{List, ◌++◌, Result, Ok, Err}
 
 abbrev pub before_read : {A E : Type 0} → List A → Result (List A) E → Result (List A) E

@@ -1,4 +1,4 @@
--- Packages that are read, and the first that isn't.
+-- Packages that can be read, and the first that can't.
 use Rattle.std.proofs.Common.{◌≡◌, ℕ, suc, ◌+◌, List, [], ◌∷◌, ◌++◌, length, Option, None, Some, Result, Ok, Err, refl, ap, ◌∙◌, arith}
 use Rattle.toml.specs.Data.{Data}
 use Rattle.audit_lock.specs.Listed.{listed_of}

@@ -1,4 +1,4 @@
--- Parents put one after the other are those of the packages so far.
+-- The parents added one after the other are those of the packages so far.
 use Rattle.std.proofs.Common.{◌≡◌, ℕ, zero, suc, ◌+◌, ◌-◌, ◌<◌, ◌≤◌, List, [], ◌∷◌, ◌++◌, length, take, get_or, Bool, true, false, cond, Some, refl, sym, ap, ◌∙◌, arith}
 use Rattle.std.specs.Prelude.{◌||◌, ◌==◌, slice_get}
 use Rattle.std.specs.List.{filter, range_with_len}
@@ -44,7 +44,7 @@ last_is p (y ∷ z ∷ zs) x h =
     let other : suc (length zs) - 1 ≡ length zs = omega arith in
     last_is p (z ∷ zs) x (rw other (rw one at h))
 
--- one dependency more
+-- one more dependency
 pub put_more : (p : ℕ) (xs : List ℕ) (a b : Bool) → cond b (with_parent p (cond a (with_parent p xs) xs)) (cond a (with_parent p xs) xs) ≡ cond (a || b) (with_parent p xs) xs
 put_more p xs true true = twice p xs
 put_more p xs true false = refl
@@ -73,7 +73,7 @@ not_last-keep : (b : Bool) (x a : ℕ) (rest : List ℕ) → (a == x) ≡ false 
 not_last-keep true x a rest other h = not_last-cons x a rest other h
 not_last-keep false x a rest other h = h
 
--- a later place is not among those before it
+-- a later place is not among the earlier ones
 not_last : (test : ℕ → Bool) (a n x : ℕ) → a + n ≤ x → is_last x (filter test (range_with_len a n)) ≡ false
 not_last test a zero x low = refl
 not_last test a (suc n) x low =
@@ -87,7 +87,7 @@ added false xs x h = append_nil xs
     append_nil [] = refl
     append_nil (x ∷ xs) = ap (λ ys. x ∷ ys) (append_nil xs)
 
--- one package more
+-- one more package
 pub before_more : (packages : List Package) (q i : ℕ) → cond (depends_on packages q i) (with_parent i (parents_before packages i q)) (parents_before packages i q) ≡ parents_before packages (suc i) q
 before_more packages q i =
     let zero_first : 0 + i ≡ i = omega arith in

@@ -1,4 +1,4 @@
--- The lines of a tree are those of the packages that reach its root, each opened once.
+-- The tree has lines of exactly the packages that reach its root, each opened once.
 use Rattle.std.proofs.Common.{◌≡◌, ℕ, zero, suc, ◌+◌, ◌<◌, ◌≤◌, ◌≢◌, ◌⊎◌, List, [], ◌∷◌, ◌++◌, length, get_or, set, replicate, Bool, true, false, not, cond, refl, sym, ◌∙◌, subst, inl, inr, arith}
 use Rattle.std.specs.Prelude.{◌==◌, ◌||◌, ⊤}
 use Rattle.std.specs.List.{filter, range_with_len}
@@ -11,7 +11,7 @@ use Rattle.audit_lock.specs.Rendering.{Line, Walked, and_on, each_parent, is_emp
 use Rattle.audit_lock.specs.Shape.{Reaches, itself, over, has_line, openings}
 use Rattle.audit_lock.proofs.Walks.{fewer, tree_length, tree_parents}
 
--- ---- words
+-- ---- definitions
 
 abbrev pub IsMet : List Bool → ℕ → Type 0
 IsMet met q = get_or met q false ≡ true
@@ -21,7 +21,7 @@ abbrev pub AllOf : (ℕ → Type 0) → List ℕ → Type 0
 AllOf P [] = ⊤
 AllOf P (p ∷ ps) = P p × AllOf P ps
 
--- the packages of all lines hold
+-- it holds of the packages of all lines
 abbrev pub AllLines : (ℕ → Type 0) → List Line → Type 0
 AllLines P [] = ⊤
 AllLines P (line ∷ lines) = P line.place × AllLines P lines
@@ -29,7 +29,7 @@ AllLines P (line ∷ lines) = P line.place × AllLines P lines
 abbrev pub bit : Bool → ℕ
 bit b = cond b 1 0
 
--- what a walk from these met packages leaves
+-- what holds after a walk that starts with these packages met
 pub record Closes (tree : List (List ℕ)) (before : List Bool) (w : Walked) : Type 0 where
   pub size : length w.met ≡ length before
   pub kept : (q : ℕ) → IsMet before q → IsMet w.met q

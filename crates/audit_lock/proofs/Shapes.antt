@@ -1,4 +1,4 @@
--- The shape of a tree: what stands below its lines, and which of them are opened.
+-- The shape of a tree: what is below its lines, and which of them are opened.
 use Rattle.std.proofs.Common.{◌≡◌, ◌↔◌, ℕ, zero, suc, ◌<◌, ◌≤◌, ◌≢◌, List, [], ◌∷◌, ◌++◌, length, map, get_or, set, replicate, Bool, true, false, not, cond, refl, sym, ap, ◌∙◌, subst, inl, inr, arith, nat_lt, append_assoc, append-nil, length-append}
 use Rattle.std.specs.Prelude.{◌==◌, ◌||◌}
 use Rattle.std.specs.List.{filter}
@@ -13,7 +13,7 @@ use Rattle.audit_lock.specs.Shape.{AllFurther, GoesOnWithin, HasParents, IsTree,
 use Rattle.audit_lock.proofs.Walks.{fewer, tree_parents}
 use Rattle.audit_lock.proofs.Reaching.{AllLines, AllOf, IsMet, Walks, all_lines-at, all_of-at, all_of-from, first_line, here_number, none_met, not_both, other_number, parent_depends, reach_met, same_test, walk_closes, walk_sound}
 
--- ---- what stands below a line
+-- ---- what is below a line
 
 stops-more : (depth : ℕ) (lines : List Line) → GoesOnWithin depth lines → GoesOnWithin (suc depth) lines
 stops-more depth [] h = tt
@@ -144,7 +144,7 @@ all_lines-more P Q h (line ∷ lines) all = (h line.place all.0, all_lines-more 
 
 -- ---- which lines are opened
 
--- the met packages are those that have a line
+-- a package is met if and only if it has a line
 abbrev Seen : List Bool → List Line → Type 0
 Seen met lines = (q : ℕ) → get_or met q false ≡ has_line q lines
 
@@ -281,14 +281,14 @@ is_tree packages place low =
 
 -- ---- the shape determines the lines
 
--- the lines take what is expected one after the other; what stands below an opened one is expected next
+-- each line is the next expected one; after an opened line, what is below it is expected next
 abbrev Takes : (ℕ → List ℕ) → List (List Bool × ℕ) → List Line → Type 0
 Takes parents todo [] = todo ≡ []
 Takes parents todo (line ∷ lines) =
     (rest : List (List Bool × ℕ)) × (todo ≡ shape line ∷ rest)
     × Takes parents ((cond line.opened (children line.levels (parents line.place)) []) ++ rest) lines
 
--- what is still expected behind a line of this depth
+-- what is still expected after a line of this depth
 abbrev pending : ℕ → List Line → List (List Bool × ℕ)
 pending zero lines = next_level 0 lines
 pending (suc depth) lines = next_level (suc depth) lines ++ pending depth lines

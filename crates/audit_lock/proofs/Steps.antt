@@ -1,4 +1,4 @@
--- One item more of a reading, and one package more in a map of names.
+-- One more item of a reading, and one more package in a map of names.
 use Rattle.std.proofs.Common.{◌≡◌, ℕ, zero, suc, ◌+◌, ◌<◌, List, [], ◌∷◌, ◌++◌, length, take, drop, get_or, Bool, true, false, cond, Option, Some, None, option_map, Result, Ok, Err, refl, sym, ap, ◌∙◌, append_assoc, arith, rules, drop-cons}
 use Rattle.std.specs.Prelude.{option_and_then, is_some}
 use Rattle.std.specs.Option.{option_or}
@@ -12,7 +12,7 @@ use Rattle.audit_lock.specs.Locked.{resolve_from}
 use Rattle.audit_lock.specs.declared.listed.ListedPackage.{ListedPackage}
 use Rattle.audit_lock.proofs.Ahead.{before_read}
 
--- the item at a place stands in front of what is left behind it
+-- what is left from a place on is the item there, then what is left after it
 pub drop_at : {A : Type 0} (xs : List A) (i : ℕ) (x : A) → i < length xs → x ≡ get_or xs i x → drop i xs ≡ x ∷ drop (suc i) xs
 drop_at xs i x low is = drop-cons xs i x low ∙ ap (λ y. y ∷ drop (suc i) xs) (sym is)
 
@@ -26,7 +26,7 @@ pub found_more : {A : Type 0} (whole : Option (List A)) (xs : List A) (one : Opt
 found_more whole xs one (Some ys) x h is = h ∙ rw is (ap Some (sym (append_assoc xs (x ∷ []) ys)))
 found_more whole xs one None x h is = h ∙ rw is refl
 
--- a text that had no place gets this one, any other keeps what it had
+-- a string without a place gets this one, any other keeps its own
 pub put_step : (old : Option ℕ) (same : Bool) (place : ℕ) → (same ≡ true → old ≡ None) → cond same (Some place) old ≡ option_or old (cond same (Some place) None)
 put_step old true place absent = rw (absent refl) refl
 put_step None false place absent = refl
@@ -58,7 +58,7 @@ each_place-same : (f g : List ℕ → Option ℕ) → ((q : List ℕ) → f q �
 each_place-same f g h [] = refl
 each_place-same f g h (t ∷ ts) = rw (h t, each_place-same f g h ts) refl
 
--- maps with the same places find the same dependencies
+-- two maps with the same places find the same dependencies
 pub resolve_from-same : (f g : List ℕ → Option ℕ) → ((q : List ℕ) → f q ≡ g q) → (i : ℕ) (ps : List ListedPackage) → resolve_from f i ps ≡ resolve_from g i ps
 resolve_from-same f g h i [] = refl
 resolve_from-same f g h i (p ∷ ps) = rw (each_place-same f g h p.dependencies, resolve_from-same f g h (suc i) ps) refl

@@ -13,7 +13,7 @@ use Rattle.std.proofs.lemmas.List.{get_or_default}
 use Rattle.audit_lock.proofs.Putting.{taken_whole}
 use Rattle.audit_lock.specs.Walking.{Shows}
 
--- the walk `whole` behind the text `before` is the walk `left` behind the text `now`
+-- the text `before` and then the walk `whole` are the text `now` and then the walk `left`
 pub record GoesOn (packages : List Package) (whole : Walked) (before : List ℕ) (left : Walked) (now : List ℕ) : Type 0 where
   pub added : before ++ text_of packages whole.lines ≡ now ++ text_of packages left.lines
   pub marked : whole.met ≡ left.met
@@ -21,7 +21,7 @@ pub record GoesOn (packages : List Package) (whole : Walked) (before : List ℕ)
 text-append : (packages : List Package) (xs ys : List Line) → text_of packages (xs ++ ys) ≡ text_of packages xs ++ text_of packages ys
 text-append packages xs ys = flat_map-append (line_text packages) xs ys
 
--- the first part was shown, the rest is left
+-- the first part is shown, the rest is left
 pub one_part : (packages : List Package) (first : Walked) (rest : List Bool → Walked) (before now : List ℕ) (met : List Bool)
     → Shows packages first before now met → GoesOn packages (and_on first rest) before (rest met) now
 one_part packages first rest before now met h =
@@ -34,14 +34,14 @@ pub and_then_on : (packages : List Package) (whole left last : Walked) (before n
     → GoesOn packages whole before left now → GoesOn packages left now last end → GoesOn packages whole before last end
 and_then_on packages whole left last before now end h k = record { added = h.added ∙ k.added; marked = h.marked ∙ k.marked }
 
--- a parent stands in front of what is left behind it
+-- what is left from a parent on is that parent, then what is left after it
 pub drop_at : (ps : List ℕ) (i : ℕ) → i < length ps → drop i ps ≡ get_or ps i 0 ∷ drop (suc i) ps
 drop_at ps i low = drop-cons ps i 0 low
 
 next_test : (i n : ℕ) → nat_lt i n ≡ nat_lt (suc i) (suc n)
 next_test i n = grind (arith, nat_tests)
 
--- further parents follow where the place isn't the last
+-- further parents follow if the place isn't the last
 pub follows_at : (ps : List ℕ) (i : ℕ) → not (is_empty (drop i ps)) ≡ nat_lt i (length ps)
 follows_at [] zero = grind (arith, nat_tests)
 follows_at [] (suc i) = grind (arith, nat_tests)
@@ -79,9 +79,9 @@ parent_low packages tree made place low i within =
     let there : i < length (parents_of packages place) = rw is at within in
     rw is (omega (arith, below_range (λ other. depends_on packages place other) 0 (length packages) i there))
 
--- ---- one parent more, and a package that was opened
+-- ---- one more parent, and a package that was opened
 
--- the walk of one parent was shown
+-- the walk of one parent is shown
 pub parent_shown : (packages : List Package) (tree : List (List ℕ)) (deep : ℕ) (levels : List Bool) (whole : Walked) (before now next : List ℕ) (ps : List ℕ) (i : ℕ) (b : Bool) (met marked : List Bool)
     → i < length ps → b ≡ nat_lt (suc i) (length ps)
     → GoesOn packages whole before (each_parent (walk tree deep) levels (drop i ps) met) now
@@ -116,13 +116,13 @@ opened_shown packages tree levels place met before lined now marked low not_met 
       marked = sym goes.marked;
     })
 
--- what was put last is taken off
+-- what was added last is removed
 pub popped : (xs ys zs : List Bool) (b : Bool) (n : ℕ) → zs ≡ take (n - 1) xs → xs ≡ ys ++ b ∷ [] → length xs ≡ n → zs ≡ ys
 popped xs ys zs b n taken is count =
     let whole : length xs ≡ length ys + 1 = ap length is ∙ length-append ys (b ∷ []) in
     let left : length ys ≡ n - 1 = omega arith in
     taken ∙ ap (take (n - 1)) is ∙ taken_whole ys (b ∷ []) (n - 1) left
 
--- the list at a place, whatever stands for a place that isn't there
+-- the list at a place that is there, whatever the default is
 pub parents_is : (tree : List (List ℕ)) (place : ℕ) (ps qs : List ℕ) → place < length tree → qs ≡ ps → ps ≡ get_or tree place ps → qs ≡ parents_at tree place
 parents_is tree place ps qs low same is = same ∙ is ∙ get_or_default tree place ps [] low

@@ -7,18 +7,18 @@ use Rattle.audit_lock.specs.Naming.{each_place}
 use Rattle.audit_lock.specs.declared.listed.ListedPackage.{ListedPackage}
 use Rattle.audit_lock.specs.declared.resolving.Package.{Package}
 
--- these values as an array of TOML
+-- these values as a TOML array
 abbrev pub array_of : List Data → Items
 array_of [] = no_items
 array_of (d ∷ ds) = item d (array_of ds)
 
--- each value is a package, the one at its place
+-- each value is the package at its place
 abbrev pub AreListed : List Data → List ListedPackage → Type 0
 AreListed [] [] = ⊤
 AreListed (d ∷ ds) (p ∷ ps) = (listed_of d ≡ Ok p) × AreListed ds ps
 AreListed _ _ = ⊥
 
--- the dependencies of each package have the places at its place
+-- at each package's place is the list of the places of its dependencies
 abbrev pub ArePlaced : (List ℕ → Option ℕ) → List ListedPackage → List (List ℕ) → Type 0
 ArePlaced place [] [] = ⊤
 ArePlaced place (p ∷ ps) (at ∷ ats) =

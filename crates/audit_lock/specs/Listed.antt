@@ -1,4 +1,4 @@
--- A package of a lockfile as it is listed, or the first rule that it breaks.
+-- A package as a lockfile lists it, or the first rule that it breaks.
 use Rattle.std.specs.Prelude.{ℕ, codes, List, Bool, ◌||◌, nat_eq, Option, Some, None, option_and_then, is_ok, if◌then◌else◌, Result, Ok}
 use Rattle.std.specs.List.{starts_with}
 use Rattle.toml.specs.Data.{Data, string, get, as_str}
@@ -11,7 +11,7 @@ use Rattle.audit_lock.specs.declared.listed.ListedPackage.{ListedPackage}
 use Rattle.audit_lock.specs.declared.listed.ListingFault.{ListingFault}
 use Rattle.audit_lock.specs.declared.listed.ListingFault.TheVariants as listing_fault
 
--- a text of one of the kinds of source
+-- it starts with one of the kinds of source
 abbrev pub has_source_kind : List ℕ → Bool
 has_source_kind s =
     starts_with nat_eq s (codes "registry+") || starts_with nat_eq s (codes "sparse+")
@@ -19,12 +19,12 @@ has_source_kind s =
     || starts_with nat_eq s (codes "path+") || starts_with nat_eq s (codes "local-registry+")
     || starts_with nat_eq s (codes "directory+")
 
--- a text of a kind of source
+-- a string that starts with a kind of source
 abbrev pub as_source : Data → Option (List ℕ)
 as_source (string s) = if has_source_kind s then Some s else None
 as_source _ = None
 
--- a text that is a SemVer version, each of its three numbers below 2^64
+-- a string that is a SemVer version, each of its three numbers below 2^64
 abbrev pub as_version : List ℕ → Option (List ℕ)
 as_version s = if is_ok (version_parts s) then Some s else None
 
@@ -50,7 +50,7 @@ listed_of d =
     (or_fault rule.PackageVersion (version_of (get (codes "version") d))))
     (or_fault rule.Name (required as_str (get (codes "name") d)))
 
--- the rule that a fault names, if it is no want of memory
+-- the rule that a fault names; none for out of memory
 abbrev pub rule_of : ListingFault → Option LockRule
 rule_of (listing_fault.Rule r) = Some r
 rule_of listing_fault.NoMemory = None

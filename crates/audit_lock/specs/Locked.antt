@@ -15,7 +15,7 @@ use Rattle.audit_lock.specs.declared.lockfiles.LockfileFault.{LockfileFault}
 use Rattle.audit_lock.specs.declared.lockfiles.LockfileFault.TheVariants as fault
 use Rattle.audit_lock.specs.declared.resolving.Package.{Package}
 
--- absent, or 1 to 4; another value has no number
+-- absent, or 1 to 4; a value that is no number is `Some None`
 abbrev pub is_known : Option (Option ℕ) → Bool
 is_known None = false
 is_known (Some None) = true
@@ -41,7 +41,7 @@ root_table None = Some None
 root_table (Some (table ms)) = Some (Some (table ms))
 root_table (Some _) = None
 
--- a broken rule is that of the package at this place
+-- a broken rule is a fault of the package at this place
 abbrev pub at_place : {A : Type 0} → ℕ → Result A LockRule → Result A LockfileFault
 at_place i (Ok a) = Ok a
 at_place i (Err r) = Err (fault.Rule (Some i) r)
@@ -57,7 +57,7 @@ abbrev pub with_root : Option Data → List ListedPackage → Result (List Liste
 with_root None ps = Ok ps
 with_root (Some d) ps = and_then (λ p. Ok (ps ++ p ∷ [])) (at_place (length ps) (listed_of d))
 
--- no float, the version, the packages, the root, and then each package
+-- checked in this order: no float, the version, the packages, the root, then each package
 abbrev pub listed_table : Members → Result (List ListedPackage) LockfileFault
 listed_table ms =
     if members_have_float ms then Err fault.Float
@@ -87,7 +87,7 @@ resolve_from place i (p ∷ ps) =
     (resolve_from place (suc i) ps))
     (or_fault (fault.Rule (Some i) rule.Names) (each_place place p.dependencies))
 
--- the packages of a text, or the first rule that it breaks
+-- the packages of a lockfile's text, or the first rule that it breaks
 abbrev pub locked : List ℕ → Result (List Package) LockfileFault
 locked text =
     and_then (λ ps. resolve_from (place_of ps) 0 ps)

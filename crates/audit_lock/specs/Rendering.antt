@@ -7,8 +7,8 @@ use Rattle.audit_lock.specs.Parents.{parents_at, tree_of}
 
 -- ---- a line
 
--- a package, for each level down to its own whether further parents follow there, and whether the
--- package is opened here: it wasn't met before, and its parents stand below
+-- a package; for each level down to its own, whether further parents follow there; and whether the
+-- package is opened here: it wasn't met before, and its parents are below
 pub record Line : Type 0 where
   pub levels : List Bool
   pub place : ℕ
@@ -50,7 +50,7 @@ pub record Walked : Type 0 where
   pub lines : List Line
   pub met : List Bool
 
--- lines, and then those of the walk that goes on from there
+-- the lines of a walk, then those of the walk that goes on from there
 abbrev pub and_on : Walked → (List Bool → Walked) → Walked
 and_on first rest = record {
   lines = first.lines ++ (rest first.met).lines;
@@ -63,14 +63,14 @@ one_line opened levels place met = record {
   met = met;
 }
 
--- each of these parents one level further, one after the other; `below` walks one
+-- these parents, one after the other, each one level deeper; `below` walks one of them
 abbrev pub each_parent : (List Bool → ℕ → List Bool → Walked) → List Bool → List ℕ → List Bool
     → Walked
 each_parent below levels [] met = record { lines = []; met = met }
 each_parent below levels (p ∷ ps) met =
     and_on (below (levels ++ not (is_empty ps) ∷ []) p met) (each_parent below levels ps)
 
--- a package, and below it its parents, unless it was met before. At most `deep` packages are opened
+-- a package, and below it its parents unless it was met before. At most `deep` packages are opened
 -- inside one another
 abbrev pub walk : List (List ℕ) → ℕ → List Bool → ℕ → List Bool → Walked
 walk tree zero levels place met = one_line false levels place met
@@ -79,11 +79,11 @@ walk tree (suc deep) levels place met =
     else and_on (one_line true levels place (set met place true))
     (each_parent (walk tree deep) levels (parents_at tree place))
 
--- how many packages were not met yet
+-- how many packages are not met yet
 abbrev pub unmet : List Bool → ℕ
 unmet met = count_by not met
 
--- the lines of the tree of a package. Each package is opened once, so as many as there are suffice
+-- the lines of the tree of a package. Each package is opened once, so their number is deep enough
 abbrev pub lines_of : List Package → ℕ → List Line
 lines_of packages place =
     (walk (tree_of packages) (length packages) [] place (replicate (length packages) false)).lines

@@ -1,4 +1,4 @@
-//! What holds of every reading and of every rendering.
+//! What holds for every reading and for every rendering.
 ghost use Rattle.std.specs.Prelude.{◌≡◌, ◌<◌, ◌↔◌, List, ◌∷◌, ◌++◌, ℕ, length, Option, None, Some, Ok, Err};
 ghost use Rattle.toml.specs.Data.{Data};
 ghost use Rattle.audit_lock.specs.declared.listed.ListedPackage.{ListedPackage};
@@ -13,9 +13,9 @@ ghost use Rattle.audit_lock.specs.Naming.{each_place};
 ghost use Rattle.audit_lock.specs.Shape.{IsTree};
 ghost use Rattle.audit_lock.specs.Rendering.{Line, lines_of};
 
-/// An array is the packages that its values are, where each is one; else the first that is none is
-/// named by its place, with the rule that it breaks. Packages have the places of their
-/// dependencies, where each names a package; else the first package of which one doesn't is named.
+/// If each value of an array is a package, the array reads to these packages; else the fault names
+/// the place of the first value that is none, and the rule that it breaks. If each dependency names
+/// a package, packages get their dependencies' places; else the fault names the first that fails.
 pub fn first_broken_package_is_named()
     ensures listed { (ds : List Data) (ps : List ListedPackage)
         → AreListed ds ps → listed_from 0 (array_of ds) ≡ Ok ps }
@@ -30,7 +30,7 @@ pub fn first_broken_package_is_named()
         → resolve_from place 0 (front ++ p ∷ back) ≡ Err (Rule (Some (length front)) Names) }
 {}
 
-/// The lines of a rendering are the only ones that have the shape of the tree.
+/// Only the lines of a rendering have the shape of the tree.
 pub fn lines_are_the_tree()
     ensures { (packages : List Package) (place : ℕ) (lines : List Line) → place < length packages
         → IsTree packages place lines ↔ (lines ≡ lines_of packages place) }

@@ -1,9 +1,9 @@
 //! Cargo's lockfiles, and the inverse dependency trees of their packages.
 //!
-//! Promises: a text reads to the packages that its definition gives it, or the first rule that it
-//! breaks is named; a rendered tree shows which packages lead to one, each opened once.
-//! Stands on the texts, lists and sinks of `tame_names`, the TOML tables of `toml_tables` and the
-//! versions of `semver`.
+//! Promises: a text reads to the packages that the definition gives, or to the first rule that it
+//! breaks; a rendered tree shows which packages lead to one, each opened once.
+//! Depends on the strings, lists and sinks of `tame_names`, the TOML tables of `toml_tables` and
+//! the versions of `semver`.
 //!
 //! ```ignore
 //! // crates/uses/src/audits.rt: put_trees

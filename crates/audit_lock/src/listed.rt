@@ -13,24 +13,24 @@ use tame_names::{Items, NoMemory, Text};
 use toml::Value;
 use toml_tables::{optional_text, optional_texts, required_text};
 
-/// What a lockfile has to keep, besides being TOML without floats.
+/// What a lockfile must satisfy, besides being TOML without floats.
 #[derive(Clone, Copy, Debug, PartialEq, Eq)]
 pub enum LockRule {
     /// `version` is absent, or 1 to 4.
     Version,
     /// `package` is absent, or an array of tables.
     Packages,
-    /// A package has a `name`, a text.
+    /// A package has a `name`, a string.
     Name,
-    /// A package has a `version`, a SemVer version.
+    /// A package has a `version`, a string that is a SemVer version.
     PackageVersion,
-    /// The `source` of a package is absent, or a text of a kind of source.
+    /// The `source` of a package is absent, or a string that starts with a kind of source.
     Source,
-    /// The `checksum` of a package is absent, or a text.
+    /// The `checksum` of a package is absent, or a string.
     Checksum,
-    /// The `dependencies` of a package are absent, or an array of texts.
+    /// The `dependencies` of a package are absent, or an array of strings.
     Dependencies,
-    /// The `replace` of a package is absent, or a text.
+    /// The `replace` of a package is absent, or a string.
     Replace,
     /// `root` is absent, or a table.
     Root,
@@ -38,18 +38,18 @@ pub enum LockRule {
     Names,
 }
 
-/// A package as it is listed: its dependencies are texts.
+/// A package as it is listed: its dependencies are strings.
 #[derive(Drop)]
 pub struct ListedPackage {
     /// The package's name.
     pub name: Text,
-    /// The version's text.
+    /// The version as written.
     pub version: Text,
     /// Where it comes from, as written; none for a package of a folder.
     pub source: Option<Text>,
-    /// The checksum of its crate file, as written, where it has one.
+    /// The checksum of its crate file, as written, if it has one.
     pub checksum: Option<Text>,
-    /// The texts that name the packages that it depends on.
+    /// The strings that name the packages it depends on.
     pub dependencies: Items<Text>,
 }
 
@@ -58,7 +58,7 @@ pub struct ListedPackage {
 pub enum ListingFault {
     /// The rule that is broken.
     Rule(LockRule),
-    /// Memory ran out.
+    /// Out of memory.
     NoMemory,
 }
 

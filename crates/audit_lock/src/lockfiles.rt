@@ -18,19 +18,19 @@ use tame_names::{Items, NoMemory, Text};
 use toml::{Table, Value};
 use toml_tables::{TableFault, member, optional_number, parse_table, table_has_float};
 
-/// Why a text is no lockfile. Packages count from 0, `[root]` last.
+/// Why a text is no lockfile. Packages count from 0, `[root]` is last.
 #[derive(Clone, Copy, Debug, PartialEq, Eq)]
 pub enum LockfileFault {
     /// The text is no TOML.
     Toml,
-    /// A value, however deep, is a float.
+    /// A value, at any depth, is a float.
     Float,
-    /// A rule is broken, by this package where it is a package's.
+    /// A rule is broken; by this package, if the rule is one of packages.
     Rule {
         package: Option<usize>,
         rule: LockRule,
     },
-    /// Memory ran out.
+    /// Out of memory.
     NoMemory,
 }
 
@@ -104,7 +104,7 @@ fn root_table<'a>(member: Option<&'a Value>) -> Option<Option<&'a Value>>
     }
 }
 
-/// The package of a table, the fault with its place.
+/// The package that a table is; a fault has its place.
 fn read_at(alloc: Global, place: usize, value: &Value) -> Result<ListedPackage, LockfileFault>
     ensures ok { IfOk result (λ p. at_place place (listed_of (view value.now)) ≡ Ok p) }
     ensures refused { IfErr result
@@ -176,7 +176,7 @@ fn read_table(alloc: Global, table: &Table) -> Result<Items<ListedPackage>, Lock
     read_packages(alloc, items, root)
 }
 
-/// A broken rule that is no package's.
+/// A broken rule that belongs to no package.
 fn rule(rule: LockRule) -> LockfileFault
     ensures { result ≡ fault.Rule None rule }
 {
@@ -187,7 +187,7 @@ fn rule(rule: LockRule) -> LockfileFault
 }
 
 impl Lockfile {
-    /// The packages of a text, or the first rule that it breaks.
+    /// The packages of a lockfile's text, or the first rule that it breaks.
     pub fn read(alloc: Global, text: &str) -> Result<Lockfile, LockfileFault>
         ensures ok { IfOk result (λ lockfile. locked text.now ≡ Ok lockfile) }
         ensures refused { IfErr result (λ e. e ≢ LockfileFault.NoMemory → locked text.now ≡ Err e) }
@@ -205,7 +205,7 @@ impl Lockfile {
         self.packages.as_slice()
     }
 
-    /// The package at a place, counted from 0; nothing behind the last.
+    /// The package at a place, counted from 0; none after the last.
     pub fn package(&self, place: usize) -> Option<&Package>
         ensures { option_copied result ≡ slice_get self.now place }
     {
@@ -226,7 +226,7 @@ fn parse(alloc: Global, text: &str) -> Result<Table, LockfileFault>
     }
 }
 
-/// Whether a source is the default registry: one of its two texts, whole.
+/// Whether a source is the default registry: exactly one of its two strings.
 pub fn is_default_registry(source: &str) -> bool
     ensures { result ≡ defaults_spec.is_default_registry source.now }
 {

@@ -1,4 +1,4 @@
-//! The texts by which dependencies name packages.
+//! The strings by which dependencies name packages.
 ghost use Rattle.std.specs.Prelude.{◌≡◌, List, ℕ, OnOk, IfOk, string_bytes};
 ghost use Rattle.std.specs.Option.{option_or};
 ghost use Rattle.std.specs.BTreeMap.{get_by_text};
@@ -10,10 +10,10 @@ use std::alloc::Global;
 use std::collections::BTreeMap;
 use tame_names::{Items, NoMemory, Text};
 
-/// The places of the packages that texts name.
+/// The places of the packages that strings name.
 pub type Places = BTreeMap<String, usize>;
 
-/// Puts a text, unless it is there.
+/// Adds a string, unless it is there.
 fn put_first(places: &mut Places, text: String, place: usize) -> Result<(), NoMemory>
     ensures { OnOk result ((q : List ℕ) → get_by_text places.new q
         ≡ option_or (get_by_text places.old q) (at_name (string_bytes text) place q)) }
@@ -24,7 +24,7 @@ fn put_first(places: &mut Places, text: String, place: usize) -> Result<(), NoMe
     Ok(())
 }
 
-/// What stands before the first `#`.
+/// What is before the first `#`.
 fn before_hash(source: &str) -> &str
     ensures { result.now ≡ spec.before_hash source.now }
 {
@@ -46,7 +46,7 @@ fn full_name(alloc: Global, listed: &ListedPackage, source: &str) -> Result<Stri
     Ok(format!(in alloc; "{} {} ({source})", listed.name, listed.version)?)
 }
 
-/// Puts the texts that name a package, where they name none yet.
+/// Adds the strings that name a package, unless they already name one.
 fn put_package(
     alloc: Global,
     places: &mut Places,
@@ -70,7 +70,7 @@ fn put_package(
     Ok(())
 }
 
-/// The places of the first packages that texts name.
+/// The places of the first packages that strings name.
 pub fn places_of(alloc: Global, packages: &[ListedPackage]) -> Result<Places, NoMemory>
     ensures { IfOk result (λ places. (q : List ℕ)
         → get_by_text places q ≡ place_of packages.now q) }
@@ -82,7 +82,7 @@ pub fn places_of(alloc: Global, packages: &[ListedPackage]) -> Result<Places, No
     Ok(places)
 }
 
-/// The place of each text; nothing where one has none.
+/// The place of each string; none if one has no place.
 pub fn each_place(
     alloc: Global,
     places: &Places,

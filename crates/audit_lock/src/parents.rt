@@ -18,7 +18,7 @@ fn is_last(parents: &[usize], place: usize) -> bool
     }
 }
 
-/// Adds a parent, unless it is the last already.
+/// Adds a parent, unless it is already the last.
 fn put_last(parents: &mut Items<usize>, parent: usize) -> Result<(), NoMemory>
     ensures { OnOk result (parents.new ≡ with_parent parent parents.old) }
 {
@@ -40,7 +40,7 @@ fn put_parent(tree: &mut [Items<usize>], place: usize, parent: usize) -> Result<
     Ok(())
 }
 
-/// Adds a parent to each package that it depends on.
+/// Adds a package as parent to each package that it depends on.
 fn put_package(
     tree: &mut [Items<usize>],
     parent: usize,
@@ -56,7 +56,7 @@ fn put_package(
     Ok(())
 }
 
-/// As many empty lists.
+/// This many empty lists.
 fn empty_lists(alloc: Global, count: usize) -> Result<Vec<Items<usize>>, NoMemory>
     ensures length { IfOk result (λ v. length v.items ≡ count) }
     ensures empty { IfOk result (λ v. (q : ℕ) → parents_at v.items q ≡ []) }
@@ -68,7 +68,7 @@ fn empty_lists(alloc: Global, count: usize) -> Result<Vec<Items<usize>>, NoMemor
     Ok(lists)
 }
 
-/// Puts each package at the packages that it depends on.
+/// Adds each package as parent to the packages that it depends on.
 fn put_packages(tree: &mut [Items<usize>], packages: &[Package]) -> Result<(), NoMemory>
     requires { (q : ℕ) → parents_at tree.old q ≡ [] }
     ensures { OnOk result ((q : ℕ) → q < length tree.new

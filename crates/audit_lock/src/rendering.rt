@@ -21,7 +21,7 @@ fn mark(is_own: bool, follows: bool) -> &'static str
     }
 }
 
-/// Puts the marks of a line's levels.
+/// Writes the marks of a line's levels.
 fn put_marks(out: &mut String, levels: &[bool]) -> Result<(), AllocError>
     ensures { OnOk result (string_bytes out.new ≡ string_bytes out.old ++ marks levels.now) }
 {
@@ -31,7 +31,7 @@ fn put_marks(out: &mut String, levels: &[bool]) -> Result<(), AllocError>
     Ok(())
 }
 
-/// Puts the line of a package.
+/// Writes the line of a package.
 fn put_line(
     out: &mut String,
     packages: &[Package],
@@ -50,7 +50,7 @@ fn put_line(
     out.push_str("\n")
 }
 
-/// Puts a package, and below it its parents, unless it was met before.
+/// Writes a package, and below it its parents unless it was met before.
 fn put_below(
     out: &mut String,
     packages: &[Package],

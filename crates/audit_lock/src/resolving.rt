@@ -15,18 +15,18 @@ use tame_names::{Items, Text};
 pub struct Package {
     /// The package's name.
     pub name: Text,
-    /// The version's text, a SemVer version.
+    /// The version as written, a SemVer version.
     pub version: Text,
     /// Where it comes from, as written; none for a package of a folder.
     pub source: Option<Text>,
-    /// The checksum of its crate file, as written, where it has one.
+    /// The checksum of its crate file, as written, if it has one.
     pub checksum: Option<Text>,
-    /// The places of the packages that it depends on.
+    /// The places of the packages it depends on.
     pub dependencies: Items<usize>,
 }
 
 impl Package {
-    /// Whether it is of the default registry, crates.io.
+    /// Whether it is from the default registry, crates.io.
     pub fn is_default(&self) -> bool
         ensures { result ≡ spec.is_default self.now }
     {
@@ -64,7 +64,7 @@ fn resolve_each(
     Ok(packages)
 }
 
-/// The packages, each dependency found at its first place.
+/// The packages, with each dependency's place: the first that it names.
 pub fn resolve(alloc: Global, listed: Items<ListedPackage>) -> Result<Items<Package>, LockfileFault>
     ensures ok { IfOk result (λ ps. resolve_from (place_of listed) 0 listed ≡ Ok ps) }
     ensures refused { IfErr result

@@ -13,17 +13,17 @@ use std::alloc::Global;
 use std::marker::Model;
 use tame_names::{Items, NoMemory, Sink, put_piece};
 
-/// Why a tree was not rendered whole.
+/// Why a tree was not fully rendered.
 #[derive(Clone, Copy, Debug, PartialEq, Eq)]
 pub enum RenderFault {
-    /// The put failed.
+    /// A `put` failed.
     Io,
-    /// Memory ran out.
+    /// Out of memory.
     NoMemory,
 }
 
-/// The parents of each package of a lockfile: the packages that depend on it, each once, in the
-/// order of the lockfile. Contracts see the list of these lists, a place for each package.
+/// The parents of each package of a lockfile: the packages that depend on it, each once, in
+/// lockfile order. Contracts see the list of these lists, one for each package.
 #[derive(Debug, Drop)]
 pub struct Tree {
     parents: Items<Items<usize>>,
@@ -46,10 +46,9 @@ impl Tree {
     }
 
     /// Puts the tree of the package at a place: a line for it, and below it the packages that
-    /// depend on it, each with those that depend on it in turn. A package that has a line already
-    /// gets another one, with nothing below it. `Io` where the sink failed, which then holds a part
-    /// of the text from the front; at `NoMemory` it wasn't called. The depth of the recursion is
-    /// that of the tree.
+    /// depend on it, each with those that depend on it in turn. If a package already has a line,
+    /// it gets another, with nothing below. `Io` if the sink failed; it then holds the first part
+    /// of the text. At `NoMemory` it wasn't called. The recursion is as deep as the tree.
     pub fn render<S: Sink>(
         &self,
         alloc: Global,

@@ -4,7 +4,7 @@ use Rattle.audit_lock.specs.Parents.{is_among, parents_at}
 use Rattle.audit_lock.specs.Putting.{with_parent}
 use Rattle.audit_lock.proofs.parents.put_package.Given as goal
 
--- it was put at the dependencies so far
+-- it was added to the dependencies so far
 abbrev pub invariant-loop-place : goal.invariant-loop-place
 invariant-loop-place l =
     (q : ℕ) → q < length l.tree → parents_at l.tree q

@@ -7,7 +7,7 @@ use Rattle.audit_lock.proofs.rendering.+put_below.Given as goal
 abbrev pub decreases-put_below : goal.decreases-put_below
 decreases-put_below l = unmet l.met.now
 
--- the walk of the parents so far, in front of that of those left
+-- the walk of the parents so far, before the walk of those left
 abbrev pub invariant-loop-i : goal.invariant-loop-i
 invariant-loop-i l = record {
   above : l.levels.items ≡ l.initial.levels.items;

@@ -5,7 +5,7 @@ use Rattle.audit_lock.specs.Locked.{resolve_from}
 use Rattle.audit_lock.proofs.Ahead.{before_read}
 use Rattle.audit_lock.proofs.resolving.resolve_each.Given as goal
 
--- the packages so far, in front of those of what is left
+-- the packages so far, before those of what is left
 abbrev pub invariant-loop-package : goal.invariant-loop-package
 invariant-loop-package l =
     resolve_from (get_by_text l.places) 0 l.fn.listed.items
