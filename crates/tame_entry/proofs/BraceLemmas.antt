@@ -1,4 +1,4 @@
--- A text cut at its first `{`, and the parts behind the braces.
+-- A text cut at its first `{`, and the parts after the braces.
 use Rattle.std.proofs.Common.{◌≡◌, ℕ, suc, ◌+◌, ◌<◌, List, [], ◌∷◌, length, Bool, true, false, cond, not, Option, Some, None, MatchOption, refl, sym, ap, ◌∙◌, arith}
 use Rattle.std.specs.Borrow.{Bor}
 use Rattle.std.specs.List.{onto_first, after_first, before_first, position_or_len, slice_split}
@@ -16,7 +16,7 @@ step false b bs h more = ap (onto_first b) (more (less (position_or_len is_brace
     less : (m n : ℕ) → 1 + m ≡ suc n → m ≡ n
     less m n h = omega (arith, h)
 
--- where no byte is a brace, the text is the one part
+-- if no byte is a brace, the text is the one part
 uncut : (s : List ℕ) → position_or_len is_brace s ≡ length s → slice_split is_brace s ≡ s ∷ []
 uncut [] h = refl
 uncut (b ∷ bs) h = step (is_brace b) b bs h (uncut bs)

@@ -1,4 +1,4 @@
--- An entry is read as the revision and the lines that it was made of.
+-- An entry is read as its revision and its lines.
 use Rattle.std.proofs.Common.{◌≡◌, ℕ, zero, suc, ◌<◌, ◌≤◌, lit<, length-append, List, [], ◌∷◌, ◌++◌, Bool, true, false, not, cond, length, map, Option, Some, None, IsTrue, refl, sym, ap, ◌∙◌, subst, codes, arith, append_assoc}
 use Rattle.std.specs.Prelude.{◌==◌, ◌&&◌, nat_le, nat_lt, bytes_eq, flat_map, unwrap_or, Result, Ok, Err, IsErr}
 use Rattle.std.specs.Char.{is_ascii_hexdigit}
@@ -137,7 +137,7 @@ four n h = grind (arith, nat_tests)
 pub head_read : (index rest : List ℕ) → read_entry index (head ++ rest) ≡ read_parts index rest
 head_read index rest = not_both (nat_lt (length (2 ∷ 0 ∷ 0 ∷ 0 ∷ rest)) 4) _ _ (four _ (omega arith))
 
--- what stands behind a url is read where the url is that of the index
+-- what follows a url is read if the url is that of the index
 url_read : (index url rest : List ℕ) → NoZero url → read_parts index (url ++ 0 ∷ rest) ≡ cond (bytes_eq url index) (read_revision rest) (Err OtherIndex)
 url_read index url rest whole =
     let bytes : List ℕ = url ++ 0 ∷ rest in
@@ -250,7 +250,7 @@ read_case false r versions e h = sym (ap revision_or h)
     revision_or (Ok e) = e.revision
     revision_or (Err f) = Unknown
 
--- an entry that is readable has the revision that it was made under
+-- an entry that is readable has the revision that it was written under
 pub entry_revision : (index : List ℕ) (r : EntryRevision) (ps : List Pair) (e : ReadEntry) → NoZero index → IsRevision r → NoZero (entry_text r) → read_entry index (entry index r ps) ≡ Ok e → e.revision ≡ r
 entry_revision index r ps e url_whole formed text_whole h =
     let text = entry_text r in

@@ -1,4 +1,4 @@
--- Versions in front of versions, and one line more.
+-- Versions before versions, and one more line.
 use Rattle.std.proofs.Common.{◌≡◌, ℕ, suc, List, [], ◌∷◌, ◌++◌, length, Option, Some, None, Ok, Err, true, ◌==◌, refl, ap, ◌∙◌, sym, arith, append_assoc}
 use Rattle.std.proofs.lemmas.Bool.Decides.{nat_tests}
 use Rattle.tame_names.specs.declared.errors.Error.{Error}
@@ -19,7 +19,7 @@ prepended : (vs : List IndexVersion) (v : IndexVersion) (more : KrateResult) →
 prepended vs v (Ok more) = ap Ok (sym (append_assoc vs (v ∷ []) more))
 prepended vs v (Err e) = refl
 
--- the versions so far are one more, in front of those of what is left
+-- the versions so far are one more, before those of what is left
 pub read_on : (ls rest : List (List ℕ)) (line : List ℕ) (vs ws : List IndexVersion) (v : IndexVersion) → ls ≡ line ∷ rest → record_of line ≡ Some v → ws ≡ vs ++ v ∷ []
     → before vs (read_lines (length vs) ls) ≡ before ws (read_lines (length ws) rest)
 read_on ls rest line vs ws v steps is added =
@@ -36,7 +36,7 @@ some_read (Some v) n (Err f) vs e r read is = grind (arith, nat_tests)
 some_read (Some v) n (Ok ws) [] e r read is = grind (arith, nat_tests)
 some_read (Some v) n (Ok ws) (w ∷ us) e r read is = grind (arith, nat_tests)
 
--- no version is no line
+-- no version means no line
 pub none_read : (ls : List (List ℕ)) (vs : List IndexVersion) → read_lines 0 ls ≡ Ok vs → (length vs == 0) ≡ true → krate_of_lines ls ≡ Err error.NoCrateVersions
 none_read [] vs read is = refl
 none_read (line ∷ more) vs read is = some_read (record_of line) 0 (read_lines 1 more) vs error.NoCrateVersions (krate_of_lines (line ∷ more)) read is

@@ -12,11 +12,11 @@ data Outcome (found : Option Bool) (flags : List VersionFlag) (version : List �
   none : AllByRecursion (λ h. h.version ≢ version) flags → last_from found (flags_of_version version flags) ≡ found → Outcome found flags version
   some : (flag : Bool) → IsOfLast flags version flag → last_from found (flags_of_version version flags) ≡ Some flag → Outcome found flags version
 
--- the last of these is the last with one more in front
+-- the last of these is the last with one more before them
 later : (h : VersionFlag) (hs : List VersionFlag) (version : List ℕ) (flag : Bool) → IsOfLast hs version flag → IsOfLast (h ∷ hs) version flag
 later h hs version flag l = record { before = h ∷ l.before; last = l.last; after = l.after; whole = ap (λ (fs : List VersionFlag). h ∷ fs) l.whole; named = l.named; said = l.said; others = l.others }
 
--- the flags with one more in front, which has the version or hasn't
+-- the flags with one more before them, which has the version or hasn't
 taken : (h : VersionFlag) (hs : List VersionFlag) (version : List ℕ) → bytes_eq h.version version ≡ true → flags_of_version version (h ∷ hs) ≡ h.yanked ∷ flags_of_version version hs
 taken h hs version same = rw same refl
 

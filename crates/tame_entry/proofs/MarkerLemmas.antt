@@ -1,4 +1,4 @@
--- Each marker of a template is replaced where it stands.
+-- Each marker of a template is replaced where it is.
 use Rattle.std.proofs.Common.{◌≡◌, ℕ, List, [], ◌∷◌, ◌++◌, Bool, true, false, cond, Option, Some, None, codes, refl, sym, ap, ◌∙◌, append_assoc, append-nil}
 use Rattle.std.specs.Prelude.{◌≢◌, ◌||◌, flat_map, bytes_eq}
 use Rattle.std.specs.List.{list_any, onto_first, slice_split}
@@ -18,7 +18,7 @@ neither : (a b : Bool) → (a || b) ≡ false → (a ≡ false) × (b ≡ false)
 neither true b h = cc
 neither false b h = (refl, h)
 
--- ---- the text in front of a brace
+-- ---- the text before a brace
 
 onto_filled : (name version : List ℕ) (b : ℕ) (ps : List (List ℕ)) → filled_parts name version (onto_first b ps) ≡ b ∷ filled_parts name version ps
 onto_filled name version b [] = refl
@@ -67,7 +67,7 @@ split_front (b ∷ bs) rest first parts whole h =
     let both = neither (is_brace b) (list_any is_brace bs) whole in
     split_byte (is_brace b) b (bs ++ first) (slice_split is_brace (bs ++ rest)) parts both.0 (split_front bs rest first parts both.1 h)
 
--- what stands behind a brace is a marker's end with its value
+-- what follows a brace is a marker's end with its value
 marker_here : (name version end value rest : List ℕ) → Whole end → ((left : List ℕ) → filled_part name version (end ++ left) ≡ value ++ left)
     → filled name version (123 ∷ (end ++ rest)) ≡ value ++ filled name version rest
 marker_here name version end value rest whole gives =
@@ -119,7 +119,7 @@ begins (b ∷ bs) first parts h =
     let s = split_of bs in
     begins_case (is_brace b) b bs first parts s h (begins bs s.0 s.1 s.2)
 
--- a part begins with a marker's end only where the text does
+-- a part begins with a marker's end only if the text does
 none_there : (o : Option (List ℕ)) (end text first : List ℕ) (parts : List (List ℕ)) → slice_split is_brace text ≡ first ∷ parts → without_prefix end first ≡ o
     → ((rest : List ℕ) → text ≢ end ++ rest) → o ≡ None
 none_there None end text first parts split h lacks = refl

@@ -16,7 +16,7 @@ use Rattle.tame_entry.proofs.PrefixLemmas.{begins_so, none_behind, prefix_gone}
 abbrev mark : List ℕ
 mark = codes ": "
 
--- ---- of two texts that are one, the parts in front of the first `: ` are one
+-- ---- of two equal texts, the parts before the first `: ` are equal
 
 tail_unsplit : (b : ℕ) (bs : List ℕ) → IsUnsplit (b ∷ bs) → IsUnsplit bs
 tail_unsplit b bs h name value is = h (b ∷ name) value (ap (λ (xs : List ℕ). b ∷ xs) is)
@@ -33,7 +33,7 @@ with_heads a b c d xs h k = ap (λ (n : ℕ). n ∷ d ∷ xs) h ∙ ap (λ (n : 
 no_space : (n : ℕ) → 58 ≡ n → (n == 58) ≡ false → ⊥
 no_space n h other = let e : true ≡ false = ap (λ k. k == 58) h ∙ other in cc
 
--- a name isn't the beginning of another one
+-- a name isn't the start of another one
 no_longer : (c : ℕ) (cs x y : List ℕ) → IsUnsplit (c ∷ cs) → mark ++ x ≡ ((c ∷ cs) ++ mark) ++ y → ⊥
 no_longer c [] x y whole h = no_space 32 (two_heads 58 32 c 58 x (32 ∷ y) h).1 refl
 no_longer c (d ∷ ds) x y whole h =
@@ -118,7 +118,7 @@ unnamed text h =
     ap (λ o. etag_or o (date_or (without_prefix (codes "last-modified: ") text) (unnamed_revision text))) (unnamed_by (codes "etag") text h)
     ∙ ap (λ o. date_or o (unnamed_revision text)) (unnamed_by (codes "last-modified") text h)
 
--- ---- each revision is read from its own text alone
+-- ---- each revision is read only from its own text
 
 is_commit_of : (t : Bool) (text : List ℕ) (r : EntryRevision) → is_commit text ≡ t
     → cond t (Some (Commit text)) (cond (bytes_eq text (codes "Unknown")) (Some Unknown) None) ≡ Some r → (text ≡ entry_text r) × IsFormed r

@@ -1,4 +1,4 @@
--- A text without what it begins with.
+-- Text without its prefix.
 use Rattle.std.proofs.Common.{◌≡◌, ◌≢◌, ℕ, ◌==◌, List, [], ◌∷◌, ◌++◌, drop, Bool, true, false, cond, Option, Some, None, option_map, Bor, refl, sym, ap, ◌∙◌, rules}
 use Rattle.std.specs.Prelude.{MatchOption}
 use Rattle.std.specs.Str.Pattern.{FindsTextPrefix, StripsPrefix}
@@ -24,7 +24,7 @@ begins_so [] text rest h = cc
 begins_so (p ∷ ps) [] rest h = cc
 begins_so (p ∷ ps) (b ∷ bs) rest h = is_case (b == p) b p bs ps rest refl h (begins_so ps bs rest)
 
--- nothing stands behind a name with which the text doesn't begin
+-- nothing follows a name that the text doesn't begin with
 pub none_behind : (name text : List ℕ) (o : Option (List ℕ)) → without_prefix name text ≡ o → ((rest : List ℕ) → text ≢ name ++ rest) → o ≡ None
 none_behind name text None h lacks = refl
 none_behind name text (Some rest) h lacks = absurd (lacks rest (begins_so name text rest h))

@@ -1,4 +1,4 @@
--- Two puts, the second behind the first.
+-- Two puts, the second after the first.
 use Rattle.std.proofs.Common.{◌≡◌, ℕ, zero, suc, List, [], ◌∷◌, ◌++◌, take, refl, ap, ◌∙◌, append_assoc}
 use Rattle.tame_names.specs.Output.{AddsPrefix}
 

@@ -22,7 +22,7 @@ config_cmp one other =
     (ordering_then (option_cmp (slice_cmp nat_cmp) one.api other.api)
     (bool_cmp one.auth_required other.auth_required))
 
--- `dl` is a text, `api` a text or null, `auth-required` a flag
+-- `dl` is a string, `api` a string or null, `auth-required` a flag
 abbrev pub config_of_data : Data → Option IndexConfig
 config_of_data d =
     option_and_then (λ dl. option_and_then (λ api. option_map (λ auth. record {
@@ -39,7 +39,7 @@ config_of bytes = option_and_then config_of_data (value_of bytes)
 
 -- ---- where a crate is downloaded from
 
--- a value in front of what is left, where something is
+-- a value before what is left, if something is
 abbrev pub value_or : List ℕ → Option (List ℕ) → List ℕ → List ℕ
 value_or value (Some left) other = value ++ left
 value_or value None other = other
@@ -47,7 +47,7 @@ value_or value None other = other
 abbrev pub slash : List ℕ
 slash = codes "/"
 
--- what stands behind a `{`: a marker's end with its value, or text as it is
+-- what follows a `{`: a marker's end with its value, or text as it is
 abbrev pub filled_part : List ℕ → List ℕ → List ℕ → List ℕ
 filled_part name version part =
     value_or name (without_prefix (codes "crate}") part)
@@ -79,13 +79,13 @@ with_slash dl = if ends_with nat_eq dl slash then dl else dl ++ slash
 abbrev pub plain_url : List ℕ → List ℕ → List ℕ → List ℕ
 plain_url name version dl = with_slash dl ++ name ++ slash ++ version ++ codes "/download"
 
--- crates.io has a place of its own; a text with a brace is filled; another one is a folder
+-- crates.io has a url of its own; a text with a brace is filled; another one is a folder
 abbrev pub download_url : List ℕ → List ℕ → List ℕ → List ℕ
 download_url name version dl =
     if bytes_eq dl (codes "https://crates.io/api/v1/crates") then crates_io_url name version
     else if list_any is_brace dl then filled name version dl
     else plain_url name version dl
 
--- only names have one
+-- only valid names have one
 abbrev pub version_url : List ℕ → List ℕ → List ℕ → Option (List ℕ)
 version_url name version dl = if is_name name then Some (download_url name version dl) else None

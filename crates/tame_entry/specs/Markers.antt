@@ -1,7 +1,7 @@
 -- The markers of a download template.
 use Rattle.std.specs.Prelude.{◌≢◌, ℕ, codes, List, ◌++◌}
 
--- the text doesn't go on a `{` in front of it to a marker
+-- a `{` before the text isn't the start of a marker
 pub record EndsNoMarker (text : List ℕ) : Type 0 where
   pub crate : (rest : List ℕ) → text ≢ codes "crate}" ++ rest
   pub version : (rest : List ℕ) → text ≢ codes "version}" ++ rest

@@ -1,7 +1,7 @@
--- Texts without what they begin with.
+-- Text without its prefix.
 use Rattle.std.specs.Prelude.{ℕ, List, [], ◌∷◌, ◌==◌, Option, Some, None, if◌then◌else◌}
 
--- what stands behind a prefix, where the text begins with it
+-- what follows a prefix, if the text begins with it
 abbrev pub without_prefix : List ℕ → List ℕ → Option (List ℕ)
 without_prefix [] text = Some text
 without_prefix (p ∷ ps) [] = None

@@ -1,9 +1,9 @@
--- The version that stands in a line, found without reading the line as JSON.
+-- The version in a line, found without reading the line as JSON.
 use Rattle.std.specs.Prelude.{ℕ, codes, List, [], ◌∷◌, length, take, drop, ◌-◌, ◌==◌, ◌&&◌, nat_le, nat_eq, slice_index, Bool, Option, Some, None, option_map, unwrap_or, if◌then◌else◌}
 use Rattle.std.specs.List.{ends_with}
 use Rattle.tame_names.specs.Utf8.{utf8_text}
 
--- what stands before the first needle, and what stands behind it
+-- what is before the first needle, and what is after it
 abbrev pub cut_at : ℕ → List ℕ → Option (List ℕ × List ℕ)
 cut_at needle [] = None
 cut_at needle (b ∷ bs) =
@@ -28,7 +28,7 @@ between_quotes text =
     && slice_index text (length text - 1) == 34 then take (length text - 1 - 1) (drop 1 text)
     else []
 
--- what stands between quotes, after one space that may stand in front
+-- what is between quotes, after one space that may come first
 abbrev pub quoted_value : List ℕ → List ℕ
 quoted_value text = between_quotes (without_space text)
 

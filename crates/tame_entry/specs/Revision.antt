@@ -19,7 +19,7 @@ use Rattle.tame_entry.specs.declared.revisions.Revision.TheVariants as revision
 
 -- ---- HTTP revisions
 
--- what an honest server may use: not empty, only bytes 32 to 126, no space in front or at the end
+-- what an honest server may use: not empty, only bytes 32 to 126, no space at the start or the end
 abbrev pub is_honest_text : List ℕ → Bool
 is_honest_text [] = false
 is_honest_text (b ∷ bs) =
@@ -43,7 +43,7 @@ pub data EntryRevision : Type 0 where
   Commit : (digits : List ℕ) → EntryRevision
   Unknown : EntryRevision
 
--- its text in an entry: a name, and what stands behind it
+-- its text in an entry: a name, and what follows it
 abbrev pub entry_name : EntryRevision → List ℕ
 entry_name (Http (Etag text)) = codes "etag: "
 entry_name (Http (LastModified text)) = codes "last-modified: "
@@ -91,7 +91,7 @@ revision_of text =
     etag_or (without_prefix (codes "etag: ") text)
     (date_or (without_prefix (codes "last-modified: ") text) (unnamed_revision text))
 
--- ---- revisions as they are handed in
+-- ---- revisions as they are given
 
 abbrev pub http_value : HttpRevision → OwnedRevision
 http_value (http.Etag text) = Etag text.now
@@ -103,7 +103,7 @@ stored_value (stored.LastModified text) = Http (LastModified text.now)
 stored_value (stored.Commit digits) = Commit digits
 stored_value stored.Unknown = Unknown
 
--- of a commit's bytes the digits in lower case
+-- a commit's bytes have their digits in lower case
 abbrev pub commit_digits : GitRevision → List ℕ
 commit_digits (git.Raw bytes) = encode_lower bytes
 commit_digits (git.Hex digits) = digits
@@ -117,10 +117,10 @@ revision_value revision.Unknown = Unknown
 abbrev pub written_text : Revision → List ℕ
 written_text r = entry_text (revision_value r)
 
--- commits are equal where their digits are
+-- commits are equal if their digits are
 abbrev pub equal_commits : GitRevision → GitRevision → Bool
 equal_commits a b = bytes_eq (commit_digits a) (commit_digits b)
 
--- revisions are equal where they write equal texts
+-- revisions are equal if they write equal texts
 abbrev pub equal_revisions : Revision → Revision → Bool
 equal_revisions a b = bytes_eq (written_text a) (written_text b)

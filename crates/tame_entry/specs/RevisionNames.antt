@@ -3,7 +3,7 @@ use Rattle.std.specs.Prelude.{◌≢◌, ℕ, codes, List, ◌++◌, bytes_eq, O
 use Rattle.tame_entry.specs.Revision.{EntryRevision, Http}
 use Rattle.tame_entry.specs.declared.revisions.OwnedRevision.TheVariants.{Etag, LastModified}
 
--- `: ` stands nowhere in the text
+-- `: ` is nowhere in the text
 abbrev pub IsUnsplit : List ℕ → Type 0
 IsUnsplit text = (name value : List ℕ) → text ≢ name ++ codes ": " ++ value
 

@@ -24,7 +24,7 @@ abbrev pub flag_by : Option (List ℕ × List ℕ) → Option Flag
 flag_by None = None
 flag_by (Some p) = if names_yanked p.0 then Some (flag_value (without_space p.1)) else None
 
--- what a part says whose text before its first colon ends with `"yanked"`; other parts say nothing
+-- what a part says if its text before its first colon ends with `"yanked"`; others say nothing
 abbrev pub part_flag : List ℕ → Option Flag
 part_flag part = flag_by (cut_at 58 part)
 
@@ -32,8 +32,8 @@ abbrev pub decided : Option Flag → Flag → Flag
 decided None later = later
 decided (Some flag) later = flag
 
--- Back over the bytes: a `}` ends the search, a comma ends the part behind it, which may decide,
--- and another byte stands in front of the part. Without a decision the version isn't yanked.
+-- Back over the bytes: a `}` ends the search, a comma ends the part after it, which may decide,
+-- and another byte is added before the part. Without a decision the version isn't yanked.
 abbrev pub flag_back : List ℕ → List ℕ → Flag
 flag_back [] part = Ok false
 flag_back (b ∷ back) part =
@@ -44,7 +44,7 @@ flag_back (b ∷ back) part =
 abbrev pub without_last : List ℕ → List ℕ
 without_last bytes = take (length bytes - 1) bytes
 
--- Back over the bytes to the last comma or `}`, which has to be a `}`. What it begins is, without
+-- Back over the bytes to the last comma or `}`, which must be a `}`. What it begins is, without
 -- the line's last byte, the end of the first part.
 abbrev pub flag_from : List ℕ → List ℕ → Flag
 flag_from [] behind = Err UnexpectedEof

@@ -1,4 +1,4 @@
--- What the lines of a crate say of a version.
+-- What the lines of a crate say about a version.
 use Rattle.std.specs.Prelude.{◌≡◌, ◌≢◌, ℕ, List, [], ◌∷◌, ◌++◌, Bool, bytes_eq, filter, map, Option, Some, None, option_map, option_and_then}
 use Rattle.std.specs.List.{AllByRecursion}
 use Rattle.tame_records.specs.Record.{record_of, version_flag}
@@ -6,7 +6,7 @@ use Rattle.tame_records.specs.declared.versions.VersionFlag.{VersionFlag}
 use Rattle.tame_entry.specs.declared.version_status.VersionStatus.{VersionStatus}
 use Rattle.tame_entry.specs.declared.version_status.VersionStatus.TheVariants.{Unread, NoVersion, Flag}
 
--- version and flag of each line, where every line has a record
+-- version and flag of each line, if every line has a record
 abbrev pub version_flags : List (List ℕ) → Option (List VersionFlag)
 version_flags [] = Some []
 version_flags (l ∷ ls) =
@@ -33,7 +33,7 @@ abbrev pub status_among : Option (List VersionFlag) → List ℕ → VersionStat
 status_among None version = Unread
 status_among (Some flags) version = status_of_flag (last_flag flags version)
 
--- unread where some line has no record, no version where no record has it, else the flag of the
+-- unread if some line has no record, no version if no record has it, else the flag of the
 -- last record that has it
 abbrev pub version_status : List (List ℕ) → List ℕ → VersionStatus
 version_status ls version = status_among (version_flags ls) version

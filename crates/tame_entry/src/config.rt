@@ -24,7 +24,7 @@ pub struct IndexConfig {
     pub dl: Text,
     /// Where the registry's web API is.
     pub api: Option<Text>,
-    /// Whether each request has to be authorized.
+    /// Whether each request must be authorized.
     pub auth_required: bool,
 }
 
@@ -53,7 +53,7 @@ fn config_of(alloc: Global, value: &Value) -> Result<IndexConfig, LineFault>
 
 // ---- markers
 
-/// What stands before the first `{`, and what stands behind it.
+/// What is before the first `{`, and what is after it.
 fn cut_brace(text: &str) -> Option<(&str, &str)>
     ensures { MatchOption result (slice_split is_brace text.now ≡ text.now ∷ [])
         (λ p. slice_split is_brace text.now ≡ p.0.now ∷ slice_split is_brace p.1.now) }
@@ -81,7 +81,7 @@ fn push_prefix(
     Ok(out.push_str(folders.as_str())?)
 }
 
-/// Appends what stands behind a `{`, a marker's value in place of the marker.
+/// Appends what follows a `{`, with a marker's value in place of the marker.
 fn push_part(
     alloc: Global,
     out: &mut String,
@@ -112,7 +112,7 @@ fn push_part(
     Ok(out.push_str(part)?)
 }
 
-/// Appends the parts behind each `{`.
+/// Appends the parts after each `{`.
 fn push_parts(
     alloc: Global,
     out: &mut String,
@@ -218,7 +218,7 @@ impl IndexConfig {
     }
 }
 
-/// Where a version is downloaded from; nothing where its crate's name is no name.
+/// Where a version is downloaded from; nothing if its crate's name isn't valid.
 pub fn version_url(
     alloc: Global,
     version: &IndexVersion,

@@ -10,7 +10,7 @@ use tame_names::{InvalidJsonLines, SplitIter, split};
 use tame_records::trimmed;
 
 /// Lines that each look like a JSON object: two bytes or more, the first `{` and the last `}`.
-/// There is one line at least.
+/// There is at least one line.
 #[derive(Clone, Copy)]
 pub struct JsonLines<'r> {
     text: &'r [u8],
@@ -32,8 +32,8 @@ fn first_bad_line(text: &[u8]) -> Option<usize>
 impl<'r> JsonLines<'r> {
     ghost use Rattle.tame_entry.specs.JsonLines.{lines_of};
 
-    /// The lines of a body. Newlines that end it are dropped; a body without any line, or with
-    /// a line that doesn't look like a JSON object, is refused.
+    /// The lines of a body. Newlines at its end are dropped; a body without a line, or with a line
+    /// that doesn't look like a JSON object, is refused.
     pub fn validate(re: &'r [u8]) -> Result<JsonLines<'r>, InvalidJsonLines>
         ensures ok { IfOk result (λ json_lines. (lines_of json_lines ≡ lines_spec.lines re.now)
             × (invalid re.now ≡ None)) }

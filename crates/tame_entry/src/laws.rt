@@ -26,8 +26,8 @@ ghost use Rattle.tame_entry.specs.VersionStatuses.{IsOfLast, last_flag};
 ghost use Rattle.tame_records.specs.declared.versions.VersionFlag.{VersionFlag};
 ghost use Rattle.tame_entry.specs.Scannable.{IsScannable, IsTextOf, is_clear_behind};
 
-/// The entry of a plain body under a revision without a zero byte is readable for its index, whose
-/// url has no zero byte, with that revision and the lines of the body.
+/// The entry of a plain body, under a revision without a zero byte, is readable for its index, if
+/// its url has no zero byte, with that revision and the lines of the body.
 pub fn entries_read_back()
     ensures read { (index : List ℕ) (r : EntryRevision) (body : List ℕ)
         → IsTrue (has_no_zero index) → IsRevision r
@@ -40,10 +40,10 @@ pub fn entries_read_back()
         → lines_in (flat_map pair_bytes (pairs body)) ≡ lines body }
 {}
 
-/// Nothing is believed that isn't of the index and of this version: the entry of another index is
-/// refused; so is a file in which another text stands first, as a revision's does where an entry
-/// was of the version before, whatever became of its first byte; and so is each file with another
-/// first byte.
+/// Nothing is believed that isn't of the index and of this version. The entry of another index is
+/// refused. So is a file in which another text comes first, as a revision's does in an entry of the
+/// version before, even if its first byte was changed; and so is each file with another first
+/// byte.
 pub fn other_entries_are_refused()
     ensures index { (index url : List ℕ) (r : EntryRevision) (ps : List Pair)
         → IsTrue (has_no_zero url) → url ≢ index
@@ -55,7 +55,7 @@ pub fn other_entries_are_refused()
 {}
 
 /// What is read from the entry of a plain body is what is read from the body: its versions, or
-/// why it has none, and its lines, each under the version that stands in it.
+/// why it has none, and its lines, each under the version in it.
 pub fn entries_read_as_bodies()
     ensures versions { (index : List ℕ) (r : EntryRevision) (body : List ℕ)
         → IsTrue (has_no_zero index) → IsRevision r
@@ -71,8 +71,7 @@ pub fn entries_read_as_bodies()
         ≡ version_text None line }
 {}
 
-/// A file is readable as an entry of an index exactly where it is, joined, what an entry is made
-/// of.
+/// A file is readable as an entry of an index exactly if it is the parts of an entry, joined.
 pub fn readable_entries_are_joined()
     ensures entry { (index file : List ℕ) (e : ReadEntry)
         → (read_entry index file ≡ Ok e) ↔ IsEntryOf index file e }
@@ -80,8 +79,8 @@ pub fn readable_entries_are_joined()
         ↔ AreParts parts bytes }
 {}
 
-/// The text of a revision is split at its first `: `, and each revision is read from its own text
-/// alone.
+/// The text of a revision is split at its first `: `, and each revision is read only from its own
+/// text.
 pub fn revisions_are_read_by_name()
     ensures named { (name : List ℕ) (value : List ℕ) → IsUnsplit name
         → revision_of (name ++ codes ": " ++ value) ≡ revision_named name value }
@@ -91,8 +90,8 @@ pub fn revisions_are_read_by_name()
         ↔ ((text ≡ entry_text r) × IsFormed r) }
 {}
 
-/// Each marker of a template is replaced where it stands, and all else stays as it is. A text
-/// without a `{` is a folder, but for the one of crates.io, which names files of another form.
+/// Each marker of a template is replaced where it is, and all else stays as it is. A text without
+/// a `{` is a folder, except the one of crates.io, which names files of another form.
 pub fn markers_are_replaced_in_place()
     ensures template { (name version dl : List ℕ) → list_any is_brace dl ≡ true
         → download_url name version dl ≡ filled name version dl }
@@ -120,10 +119,10 @@ pub fn markers_are_replaced_in_place()
         ≡ before ++ codes "{" ++ filled name version behind }
 {}
 
-/// The scan of a written line finds the version that wrote it where neither its text nor the
-/// crate's name holds anything at which the scan would stop, as where the name is a name and the
-/// version is one of Semantic Versioning 2.0.0. The flag that it finds is yanked exactly where
-/// the version is and no text behind the flag has a `}`.
+/// The scan of a written line finds the version that wrote it if neither its text nor the crate's
+/// name holds anything at which the scan would stop: for example, if the name is valid and the
+/// version is one of Semantic Versioning 2.0.0. The flag that it finds is yanked exactly if the
+/// version is and no text after the flag has a `}`.
 pub fn written_lines_are_scanned()
     ensures names { (v : IndexVersion) (p : Parts) → IsUtf8 v.name → IsTrue (is_name v.name)
         → version_parts v.version ≡ Ok p → raw_version (line v) ≡ v.version }
@@ -135,8 +134,8 @@ pub fn written_lines_are_scanned()
         (line_flag (line v)) ≡ Ok (p, v.yanked) }
 {}
 
-/// Records say of a version what the last one with it says: those after it have other versions. They
-/// say nothing of it exactly if none has it.
+/// Records say about a version what the last one with it says: those after it have other versions.
+/// They say nothing about it exactly if none has it.
 pub fn last_record_decides()
     ensures last { (flags : List VersionFlag) (version : List ℕ) (flag : Bool)
         → (last_flag flags version ≡ Some flag) ↔ IsOfLast flags version flag }

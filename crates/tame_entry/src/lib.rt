@@ -1,11 +1,11 @@
-//! The lines of a crate in the index, what they say of a version, the revisions that they are
+//! The lines of a crate in the index, what they say about a version, the revisions that they are
 //! sent and kept under, and the entries of the cache as bytes.
 //!
-//! Promises: an entry is written exactly as its definition says, and where no zero byte stands in
-//! the url of its index, its revision and its lines it is read back as these, for that index
-//! alone; a file that is no entry is refused, by the first rule that it breaks. The entry of lines
-//! is given in pieces of 4,096 bytes, for which no memory is taken.
-//! Stands on the texts, names and sinks of `tame_names`, on the records of `tame_records`, and on
+//! Promises: an entry is written exactly as its definition says. If the url of its index, its
+//! revision and its lines have no zero byte, it is read back as these, only for that index. A file
+//! that is no entry is refused, by the first rule that it breaks. The entry of lines is given in
+//! pieces of 4,096 bytes, which need no memory.
+//! Depends on the texts, names and sinks of `tame_names`, on the records of `tame_records`, and on
 //! `serde_json`, `json`, `semver`, `hex` and `memchr`.
 //!
 //! ```ignore

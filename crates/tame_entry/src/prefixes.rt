@@ -1,8 +1,8 @@
-//! Texts without what they begin with.
+//! Text without its prefix.
 ghost use Rattle.std.specs.Prelude.{◌≡◌, option_map};
 ghost use Rattle.tame_entry.specs.Prefixes as spec;
 
-/// What stands behind a prefix, where the text begins with it.
+/// What follows a prefix, if the text begins with it.
 pub fn without_prefix<'t>(text: &'t str, prefix: &str) -> Option<&'t str>
     ensures { option_map (λ t. t.now) result ≡ spec.without_prefix prefix.now text.now }
 {

@@ -1,4 +1,4 @@
-//! The version that stands in a line, found without reading the line as JSON.
+//! The version in a line, found without reading the line as JSON.
 ghost use Rattle.std.specs.Prelude.{◌≡◌, ◌∷◌, ℕ, List, [], option_map, MatchOption};
 ghost use Rattle.std.specs.Iterator.{YieldsFirstRef, item_count};
 ghost use Rattle.tame_entry.specs.Entry as entry_spec;
@@ -9,7 +9,7 @@ use memchr::memchr;
 use std::marker::Model;
 use tame_names::utf8_text;
 
-/// What stands before the first needle, and what stands behind it.
+/// What is before the first needle, and what is after it.
 pub fn cut_at(bytes: &[u8], needle: u8) -> Option<(&[u8], &[u8])>
     ensures { option_map (λ p. (p.0.now, p.1.now)) result ≡ spec.cut_at needle bytes.now }
 {
@@ -43,7 +43,7 @@ impl<'a> Model for CommaParts<'a> {
     ghost view = { λ s. comma_parts s.left.now };
 }
 
-/// The first part that a comma ends, and what is left behind it.
+/// The first part that a comma ends, and what is left after it.
 fn first_part(bytes: &[u8]) -> Option<(&[u8], &[u8])>
     ensures { MatchOption result (comma_parts bytes.now ≡ [])
         (λ p. comma_parts bytes.now ≡ p.0.now ∷ comma_parts p.1.now) }
@@ -72,7 +72,7 @@ impl<'a> Iterator for CommaParts<'a> {
     }
 }
 
-/// The text without one space in front, where it begins with one.
+/// The text without one space at its start, if it begins with one.
 pub fn without_space(text: &[u8]) -> &[u8]
     ensures { result.now ≡ spec.without_space text.now }
 {
@@ -92,7 +92,7 @@ fn between_quotes(text: &[u8]) -> &[u8]
     }
 }
 
-/// What stands between quotes, after one space that may stand in front.
+/// What is between quotes, after one space that may come first.
 fn quoted_value(text: &[u8]) -> &[u8]
     ensures { result.now ≡ spec.quoted_value text.now }
 {
@@ -121,7 +121,7 @@ fn version_in(line: &[u8]) -> &[u8]
     &[]
 }
 
-/// The version that stands in a line; the empty text where none is found.
+/// The version in a line; the empty text if none is found.
 pub fn raw_version(line: &[u8]) -> &str
     ensures { result.now ≡ spec.raw_version line.now }
 {

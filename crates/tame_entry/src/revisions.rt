@@ -87,7 +87,7 @@ impl HttpRevision<'_> {
 }
 
 impl GitRevision {
-    /// The digits of the commit: of its bytes, in lower case, or those that were handed in.
+    /// The digits of the commit: those of its bytes in lower case, or those that were given.
     fn digits(&self) -> Sha1Hex
         ensures { result ≡ commit_digits self.now }
     {
@@ -98,7 +98,7 @@ impl GitRevision {
     }
 }
 
-/// A revision with its text in an entry at hand: that of a commit is its digits.
+/// A revision with its text in an entry ready; the text of a commit is its digits.
 #[derive(Clone, Copy)]
 pub enum StoredRevision<'s> {
     /// An entity tag.
@@ -112,7 +112,7 @@ pub enum StoredRevision<'s> {
 }
 
 impl StoredRevision<'_> {
-    /// The name in front of its text in an entry, and what stands behind that.
+    /// The name before its text in an entry, and what follows the name.
     pub(crate) fn parts(&self) -> (&'static str, &str)
         ensures name { result.0.now ≡ entry_name (stored_value self.now) }
         ensures value { result.1.now ≡ entry_value (stored_value self.now) }
@@ -127,7 +127,7 @@ impl StoredRevision<'_> {
     }
 }
 
-/// Puts two pieces, the second behind the first.
+/// Puts two pieces, the second after the first.
 fn put_both<S: Sink>(sink: &mut S, first: &[u8], second: &[u8]) -> Result<u64, SinkFault>
     ensures put { S.tells → OnOk result
         (S.holds sink.new ≡ S.holds sink.old ++ first.now ++ second.now) }
@@ -148,7 +148,7 @@ fn both_without_zero(first: &[u8], second: &[u8]) -> bool
 }
 
 impl<'s> Revision<'s> {
-    /// This revision with its text at hand. Takes no memory.
+    /// This revision with its text ready. Needs no memory.
     pub fn stored(&self) -> StoredRevision<'s>
         ensures { stored_value result ≡ revision_value self.now }
     {
@@ -160,7 +160,7 @@ impl<'s> Revision<'s> {
         }
     }
 
-    /// Puts the text of this revision in an entry, and answers the number of its bytes.
+    /// Writes the text of this revision in an entry, and returns the number of its bytes.
     pub fn write<S: Sink>(&self, sink: &mut S) -> Result<u64, SinkFault>
         ensures put { S.tells → OnOk result
             (S.holds sink.new ≡ S.holds sink.old ++ written_text self.now) }
@@ -174,7 +174,7 @@ impl<'s> Revision<'s> {
         put_both(sink, name.as_bytes(), value.as_bytes())
     }
 
-    /// Whether no zero byte stands in the text of this revision.
+    /// Whether the text of this revision has no zero byte.
     pub fn has_no_zero(&self) -> bool
         ensures formed { IsFormed (revision_value self.now) }
         ensures tested { result ≡ spec.has_no_zero (written_text self.now) }
@@ -185,7 +185,7 @@ impl<'s> Revision<'s> {
     }
 }
 
-// ---- equal where their digits, or what they write, are equal
+// ---- equal if their digits, or what they write, are equal
 
 ghost use Rattle.std.proofs.Common.{rules};
 ghost use Rattle.std.specs.Cmp.Rules.{comparing};
@@ -195,7 +195,7 @@ impl PartialEq for GitRevision {
 
     ghost laws = { Prim.search (comparing, rules) };
 
-    /// Whether the digits are equal, where those of bytes are in lower case.
+    /// Whether the digits are equal; those of bytes are in lower case.
     fn eq(&self, other: &GitRevision) -> bool {
         let (one, two) = (self.digits(), other.digits());
         one.as_str() == two.as_str()

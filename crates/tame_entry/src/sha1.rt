@@ -8,7 +8,7 @@ use std::convert::{AsSlice, AsStr};
 use std::marker::Model;
 use tame_records::is_hex_text;
 
-/// The bytes of an entry's revision that is a commit.
+/// The bytes of the revision of an entry if it is a commit.
 pub type HexBytes = [u8; 40];
 
 /// A SHA-1 digest as 40 hex digits.
@@ -41,7 +41,7 @@ impl Sha1Hex {
         Sha1Hex { digits }
     }
 
-    /// The digits that a text is, in the case that it has.
+    /// The digits that a text is, in its own case.
     pub fn parse(text: &str) -> Option<Sha1Hex>
         ensures { MatchOption result (spec.is_commit text.now ≡ false)
             (λ s. (spec.is_commit text.now ≡ true) × (s ≡ text.now)) }

@@ -1,4 +1,4 @@
-//! What the lines of a crate say of a version.
+//! What the lines of a crate say about a version.
 ghost use Rattle.std.specs.Prelude.{◌≡◌, IfOk, map};
 ghost use Rattle.tame_entry.specs.JsonLines.{lines_of};
 ghost use Rattle.tame_entry.specs.VersionStatuses.{version_flags};
@@ -10,7 +10,7 @@ use std::alloc::Global;
 use tame_names::{Items, NoMemory};
 use tame_records::{VersionFlag, read_version_flag};
 
-/// What lines say of a version.
+/// What lines say about a version.
 #[derive(Clone, Copy, Debug, PartialEq, Eq)]
 pub enum VersionStatus {
     /// Some line has no record.
@@ -21,7 +21,7 @@ pub enum VersionStatus {
     Flag(bool),
 }
 
-/// Version and flag of each line; nothing where some line has no record.
+/// Version and flag of each line; nothing if some line has no record.
 pub fn read_version_flags(
     alloc: Global,
     lines: JsonLines<'_>,
@@ -38,7 +38,7 @@ pub fn read_version_flags(
     Ok(Some(flags))
 }
 
-/// Version and flag of each item's line; nothing where some line has no record.
+/// Version and flag of each item's line; nothing if some line has no record.
 pub fn read_item_version_flags(
     alloc: Global,
     items: IndexEntryIter<'_>,
@@ -68,7 +68,7 @@ fn last_flag(flags: &[VersionFlag], version: &str) -> Option<bool>
     found
 }
 
-/// What lines with these versions and flags say of a version.
+/// What lines with these versions and flags say about a version.
 pub fn status_among(flags: &Option<Items<VersionFlag>>, version: &str) -> VersionStatus
     ensures { result ≡ spec.status_among flags.now version.now }
 {

@@ -45,7 +45,7 @@ impl<'r> From<&'r IndexKrate> for CacheWrite<'r> {
     }
 }
 
-/// The bytes, and behind them a version with the line that it writes.
+/// The bytes, and after them a version with the line that it writes.
 fn with_version(alloc: Global, bytes: Vec<u8>, version: &IndexVersion) -> Result<Vec<u8>, NoMemory>
     ensures { IfOk result (λ all. all.items
         ≡ bytes.items ++ pair_bytes (version_pair version.now)) }
@@ -109,7 +109,7 @@ fn versions_are_storable(alloc: Global, versions: &[IndexVersion]) -> Result<boo
     Ok(true)
 }
 
-/// The number of bytes of the entry of lines. `NoMemory` where it isn't below 2^64.
+/// The number of bytes of the entry of lines. `NoMemory` if it isn't below 2^64.
 fn lines_len(index: &str, revision: &Revision<'_>, lines: JsonLines<'_>) -> Result<u64, NoMemory>
     ensures ok { IfOk result (λ n. n ≡ length (spec.entry index.now (revision_value revision.now)
         (map pair_of (lines_of lines.entry)))) }
@@ -140,7 +140,7 @@ fn bytes_of(alloc: Global, pieces: EntryPieces<'_>) -> Result<Vec<u8>, NoMemory>
     }
 }
 
-/// Puts what is left of an entry, each piece by a put of its own.
+/// Puts what is left of an entry, each piece by its own `put`.
 fn put_pieces<S: Sink>(sink: &mut S, pieces: EntryPieces<'_>) -> Result<(), SinkFault>
     ensures put { S.tells → OnOk result (S.holds sink.new ≡ S.holds sink.old ++ pieces.entry) }
     ensures part { S.tells → AddsPrefix (S.holds sink.old) pieces.entry (S.holds sink.new) }
@@ -157,7 +157,7 @@ fn put_pieces<S: Sink>(sink: &mut S, pieces: EntryPieces<'_>) -> Result<(), Sink
     }
 }
 
-/// Puts an entry of lines, and answers the number of its bytes.
+/// Writes an entry of lines, and returns the number of its bytes.
 fn put_lines<S: Sink>(
     sink: &mut S,
     index: &str,
@@ -185,7 +185,7 @@ fn put_lines<S: Sink>(
     }
 }
 
-/// Puts the bytes of an entry, and answers their number.
+/// Writes the bytes of an entry, and returns their number.
 fn put_bytes<S: Sink>(sink: &mut S, bytes: &[u8]) -> Result<u64, Error>
     ensures put { S.tells → OnOk result (S.holds sink.new ≡ S.holds sink.old ++ bytes.now) }
     ensures part { S.tells → AddsPrefix (S.holds sink.old) bytes.now (S.holds sink.new) }
@@ -201,7 +201,7 @@ fn put_bytes<S: Sink>(sink: &mut S, bytes: &[u8]) -> Result<u64, Error>
 }
 
 impl CacheWrite<'_> {
-    /// Whether no zero byte stands in the versions and lines that are written.
+    /// Whether the versions and lines that are written have no zero byte.
     fn pairs_are_storable(&self, alloc: Global) -> Result<bool, NoMemory>
         ensures storable { IfOk result (λ storable. storable
             ≡ list_all is_storable_pair (written_pairs self.now)) }
@@ -213,8 +213,8 @@ impl CacheWrite<'_> {
         }
     }
 
-    /// Whether these lines can be stored under a revision, as an entry of the index at a url: no
-    /// zero byte stands in what is written.
+    /// Whether these lines can be stored under a revision, as an entry of the index at a url: what
+    /// is written has no zero byte.
     pub fn is_storable(
         &self,
         alloc: Global,
@@ -253,8 +253,8 @@ impl CacheWrite<'_> {
         }
     }
 
-    /// Puts the entry of these lines under a revision, of the index at a url, and answers the
-    /// number of its bytes. `Io(Failed)` where the sink failed, which then holds a part of it.
+    /// Writes the entry of these lines under a revision, of the index at a url, and returns the
+    /// number of its bytes. `Io(Failed)` if the sink failed; it then holds a part of the entry.
     pub fn write_cache_entry<S: Sink>(
         &self,
         alloc: Global,
@@ -273,7 +273,7 @@ impl CacheWrite<'_> {
         ensures failed { IfErr result (λ e. (e ≡ Error.NoMemory)
             ⊎ ((e ≡ Error.Io IoKind.Failed) × CountRose (S.faults sink.old) (S.faults sink.new))) }
         ensures same { S.tells → result ≡ Err Error.NoMemory → S.holds sink.new ≡ S.holds sink.old }
-        // no memory is taken for lines; their entry may be too long for its length to be told
+        // lines need no memory, but the length of their entry may not fit
         ensures memory { result ≡ Err Error.NoMemory → TakesMemory self.now
             ⊎ (2 ^ 64 ≤ length (spec.entry index.now (revision_value revision.now)
             (written_pairs self.now))) }
@@ -297,7 +297,7 @@ impl CacheWrite<'_> {
         ensures formed { OnOk result (IsFormed (revision_value revision.now)) }
         ensures len { IfOk result (λ n. n ≡ length
             (spec.entry index.now (revision_value revision.now) (written_pairs self.now))) }
-        // no memory is taken for lines; their entry may be too long for its length to be told
+        // lines need no memory, but the length of their entry may not fit
         ensures memory { IsErr result → TakesMemory self.now
             ⊎ (2 ^ 64 ≤ length (spec.entry index.now (revision_value revision.now)
             (written_pairs self.now))) }

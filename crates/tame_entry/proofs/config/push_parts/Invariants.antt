@@ -6,7 +6,7 @@ use Rattle.tame_names.specs.KrateNames.{text_of}
 use Rattle.tame_entry.specs.Config.{filled_part, is_brace}
 use Rattle.tame_entry.proofs.config.push_parts.Given as goal
 
--- what is put, in front of what is put for the parts that are left
+-- what is put, before what is put for the parts that are left
 abbrev pub invariant-loop-part : goal.invariant-loop-part
 invariant-loop-part l = record {
   is_text : shadow (Utf8 l.left);

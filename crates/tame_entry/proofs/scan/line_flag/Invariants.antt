@@ -2,7 +2,7 @@ use Rattle.std.proofs.Common.{◌≡◌, ◌≤◌, length, ◌-◌, reverse, ta
 use Rattle.tame_entry.specs.Scan.{flag_back, line_flag}
 use Rattle.tame_entry.proofs.scan.line_flag.Given as goal
 
--- what is left, and the part between here and where the one behind it begins
+-- what is left, and the part between here and where the one after it begins
 abbrev pub invariant-loop-at : goal.invariant-loop-at
 invariant-loop-at l = record {
   ordered : l.at ≤ l.end;
