@@ -237,7 +237,7 @@ fn take_turn<W: Wire, D: CacheDisk>(
 }
 
 /// One turn for each name, in their order; for a part of them from the front where memory runs out.
-pub fn ask<W: Wire, D: CacheDisk>(
+pub fn ask_all<W: Wire, D: CacheDisk>(
     alloc: Global,
     index: &SparseIndex,
     lock: &FileLock,

@@ -8,9 +8,9 @@ ghost use Rattle.audit_core.specs.Leaves.{AsksOnly, CallsBy, holding};
 ghost use Rattle.audit_core.specs.Paths.{asked_paths, defaults};
 ghost use Rattle.audit_core.specs.Turns.{StaysKept};
 
-use crate::asking::{AnsweredTurn, Turn, ask};
+use crate::asking::{AnsweredTurn, Turn, ask_all};
 use crate::judging::judge;
-use crate::planning::{Plan, plan_turns};
+use crate::planning::{TurnPlan, plan_turns};
 use crate::recalling::recall_all;
 use crate::verdicts::Judged;
 use audit_lock::Package;
@@ -109,7 +109,7 @@ fn check_online<W: Wire, D: CacheDisk>(
 {
     let index = crates_io(alloc)?;
     let plan = plan_turns(alloc, packages)?;
-    let answered_turns = ask(alloc, &index, lock, wire, disk, plan.names.as_slice())?;
+    let answered_turns = ask_all(alloc, &index, lock, wire, disk, plan.names.as_slice())?;
     let verdicts = judge(
         alloc,
         answered_turns.as_slice(),

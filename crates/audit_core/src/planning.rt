@@ -23,7 +23,7 @@ pub enum Planned {
 
 /// What is asked for a lockfile's packages.
 #[derive(Drop)]
-pub struct Plan {
+pub struct TurnPlan {
     /// For each path that is asked for, in their order, the name of its first package.
     pub names: Items<Text>,
     /// For each package its turn.
@@ -105,7 +105,7 @@ impl Places {
 }
 
 /// What is asked for a lockfile's packages.
-pub fn plan_turns(alloc: Global, packages: &[Package]) -> Result<Plan, NoMemory>
+pub fn plan_turns(alloc: Global, packages: &[Package]) -> Result<TurnPlan, NoMemory>
     ensures named { IfOk result (λ p. map path p.names
         ≡ map (λ q. Some q) (asked_paths packages.now)) }
     ensures planned { IfOk result (λ p. ArePlanned
@@ -118,5 +118,5 @@ pub fn plan_turns(alloc: Global, packages: &[Package]) -> Result<Plan, NoMemory>
         turns.add(turn)?;
     }
     let Places { names, .. } = places;
-    Ok(Plan { names, turns })
+    Ok(TurnPlan { names, turns })
 }

@@ -17,7 +17,7 @@ use Rattle.audit_report.specs.SelfReports.{self_summary, self_text}
 use Rattle.audit_report.specs.StatusLines.{loaded_line, scanning_line_in, unchecked_line, updating_line}
 use Rattle.audit_report.specs.declared.presenters.Presenter.{Presenter}
 use Rattle.audit_output.specs.Printed.{cause_word, verdict_lines}
-use Rattle.audit_output.specs.declared.printing.Sheet.{Sheet}
+use Rattle.audit_output.specs.declared.printing.AuditSheet.{AuditSheet}
 
 -- the text for out, and the text for err
 pub record Output : Type 0 where
@@ -61,7 +61,7 @@ pub record Shown : Type 0 where
   pub checks : Checks
   pub advisories : List Advisory
 
-abbrev pub shown_on : Sheet → Shown
+abbrev pub shown_on : AuditSheet → Shown
 shown_on sheet = record {
   config = sheet.config.now;
   database = sheet.database.now;

@@ -21,5 +21,5 @@ mod putting;
 
 pub use binary_printing::{BinarySheet, print_binaries};
 pub use lockfile_words::{push_lockfile_words, push_numbered, push_package, push_two};
-pub use printing::{Sheet, print};
+pub use printing::{AuditSheet, print};
 pub use putting::{PrintFault, print_text, put_text};

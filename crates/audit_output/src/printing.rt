@@ -19,7 +19,7 @@ use tame_names::Sink;
 
 /// What is printed of the audit of a lockfile, and how.
 #[derive(Clone, Copy)]
-pub struct Sheet<'a> {
+pub struct AuditSheet<'a> {
     /// What is denied, and how the report is shown.
     pub config: &'a OutputConfig,
     /// The lockfile's path.
@@ -33,7 +33,7 @@ pub struct Sheet<'a> {
 }
 
 /// The status lines of an audit.
-fn status_lines(alloc: Global, sheet: &Sheet<'_>) -> Result<String, AllocError>
+fn status_lines(alloc: Global, sheet: &AuditSheet<'_>) -> Result<String, AllocError>
     ensures { IfOk result (λ lines. string_bytes lines
         ≡ spec.status_lines (shown_on sheet.now) sheet.now.place.now sheet.now.audited.now) }
 {
@@ -49,7 +49,11 @@ fn status_lines(alloc: Global, sheet: &Sheet<'_>) -> Result<String, AllocError>
 }
 
 /// Puts the status lines.
-fn print_status<E: Sink>(alloc: Global, sheet: &Sheet<'_>, err: &mut E) -> Result<(), PrintFault>
+fn print_status<E: Sink>(
+    alloc: Global,
+    sheet: &AuditSheet<'_>,
+    err: &mut E,
+) -> Result<(), PrintFault>
     ensures err { E.tells → IsPut (E.holds err.old)
         (spec.status_lines (shown_on sheet.now) sheet.now.place.now sheet.now.audited.now)
         (E.holds err.new) result }
@@ -66,7 +70,7 @@ fn print_status<E: Sink>(alloc: Global, sheet: &Sheet<'_>, err: &mut E) -> Resul
 /// itself say.
 fn print_all<O: Sink, E: Sink>(
     alloc: Global,
-    sheet: &Sheet<'_>,
+    sheet: &AuditSheet<'_>,
     out: &mut O,
     err: &mut E,
 ) -> Result<(), PrintFault>
@@ -121,7 +125,7 @@ pub fn print_verdicts<O: Sink>(
 pub fn print<O: Sink, E: Sink>(
     alloc: Global,
     verdicts: bool,
-    sheet: &Sheet<'_>,
+    sheet: &AuditSheet<'_>,
     out: &mut O,
     err: &mut E,
 ) -> Result<(), PrintFault>

@@ -34,7 +34,7 @@ use Rattle.vendor_registry.specs.Checks.{Stock, all_checked, and_then, checked, 
 use Rattle.vendor_registry.specs.Looked.{AreInOrder, looked}
 use Rattle.vendor_registry.specs.Vendored.{on, paths_of}
 use Rattle.vendor_registry.specs.Vendoring.{IsRegistryMade, IsRegistryRefused, vendoring}
-use Rattle.vendor_registry.specs.declared.checks.Checked.{Checked}
+use Rattle.vendor_registry.specs.declared.checks.CheckedCrate.{CheckedCrate}
 use Rattle.vendor_registry.specs.declared.faults.VendorFault.{VendorFault}
 use Rattle.vendor_registry.specs.declared.faults.VendorFault.TheVariants as fault
 use Rattle.vendor_registry.specs.declared.vendoring.Vendored.{Vendored}
@@ -89,8 +89,8 @@ one_host F host there crates place p same = ap (λ (s : List ℕ → Standing). 
 all_same : (s t : Stock) (ps : List (ℕ × Package)) → AllByRecursion (λ p. checked s p.0 p.1 ≡ checked t p.0 p.1) ps → all_checked s ps ≡ all_checked t ps
 all_same s t [] h = refl
 all_same s t (p ∷ ps) h =
-    ap (λ (r : Result Checked VendorFault). and_then (λ c. and_then (λ (cs : List Checked). Ok (c ∷ cs)) (all_checked s ps)) r) h.0
-    ∙ ap (λ (r : Result (List Checked) VendorFault). and_then (λ c. and_then (λ (cs : List Checked). Ok (c ∷ cs)) r) (checked t p.0 p.1)) (all_same s t ps h.1)
+    ap (λ (r : Result CheckedCrate VendorFault). and_then (λ c. and_then (λ (cs : List CheckedCrate). Ok (c ∷ cs)) (all_checked s ps)) r) h.0
+    ∙ ap (λ (r : Result (List CheckedCrate) VendorFault). and_then (λ c. and_then (λ (cs : List CheckedCrate). Ok (c ∷ cs)) r) (checked t p.0 p.1)) (all_same s t ps h.1)
 
 each_looked : (P : ℕ → Package → Type 0) (packages : List Package) (from : ℕ) (found : List (ℕ × Package)) → AllByRecursion (λ p. is_default p.1 ≡ true) found → AreInOrder packages from found
     → ((place : ℕ) (p : Package) → slice_get packages place ≡ Some p → is_default p ≡ true → P place p) → AllByRecursion (λ p. P p.0 p.1) found
@@ -112,13 +112,13 @@ after_same [] h k same = same
 after_same (Makes folder ∷ cs) h k same = after_same cs (after_change (Makes folder) h) (after_change (Makes folder) k) (ap (λ (s : List ℕ → Standing). with_folders_at (ways_to folder) s) same)
 after_same (Creates at bytes ∷ cs) h k same = after_same cs (after_change (Creates at bytes) h) (after_change (Creates at bytes) k) (ap (λ (s : List ℕ → Standing). with_standing at (File bytes) s) same)
 
-never_at : (folder q : List ℕ) (cs : List Checked) (h k : Host) → h.stands ≡ k.stands → IsTakenAt folder q cs h → IsFilled folder q cs k → ⊥
+never_at : (folder q : List ℕ) (cs : List CheckedCrate) (h k : Host) → h.stands ≡ k.stands → IsTakenAt folder q cs h → IsFilled folder q cs k → ⊥
 never_at folder q [] h k same taken filled = taken
 never_at folder q (c ∷ cs) h k same taken filled =
     let none : is_nothing (h.stands (join (index_of folder) q)) ≡ true = ap (λ (s : List ℕ → Standing). is_nothing (s (join (index_of folder) q))) same ∙ ap is_nothing filled.0 in
     cc (none, taken)
 
-taken_same : (folder : List ℕ) (cs : List Checked) (qs : List (List ℕ)) (h k now now_too : Host) → h.stands ≡ k.stands → IsTaken folder cs qs h now → IsTaken folder cs qs k now_too → now.stands ≡ now_too.stands
+taken_same : (folder : List ℕ) (cs : List CheckedCrate) (qs : List (List ℕ)) (h k now now_too : Host) → h.stands ≡ k.stands → IsTaken folder cs qs h now → IsTaken folder cs qs k now_too → now.stands ≡ now_too.stands
 taken_same folder cs [] h k now now_too same taken taken_too = absurd taken
 taken_same folder cs (q ∷ qs) h k now now_too same (inl a) (inl b) = ap (λ (x : Host). x.stands) a.1 ∙ same ∙ sym (ap (λ (x : Host). x.stands) b.1)
 taken_same folder cs (q ∷ qs) h k now now_too same (inl a) (inr b) = absurd (never_at folder q (on q cs) h k same a.0 b.0)
@@ -126,7 +126,7 @@ taken_same folder cs (q ∷ qs) h k now now_too same (inr a) (inl b) = absurd (n
 taken_same folder cs (q ∷ qs) h k now now_too same (inr a) (inr b) =
     taken_same folder cs qs (after (path_made folder q (on q cs)) h) (after (path_made folder q (on q cs)) k) now now_too (after_same (path_made folder q (on q cs)) h k same) a.1 b.1
 
-taken_filled : (folder : List ℕ) (cs : List Checked) (qs : List (List ℕ)) (h k now : Host) → h.stands ≡ k.stands → IsTaken folder cs qs h now → AreFilled folder cs qs k → ⊥
+taken_filled : (folder : List ℕ) (cs : List CheckedCrate) (qs : List (List ℕ)) (h k now : Host) → h.stands ≡ k.stands → IsTaken folder cs qs h now → AreFilled folder cs qs k → ⊥
 taken_filled folder cs [] h k now same taken filled = taken
 taken_filled folder cs (q ∷ qs) h k now same (inl a) filled = never_at folder q (on q cs) h k same a.0 filled.0
 taken_filled folder cs (q ∷ qs) h k now same (inr a) filled =
@@ -174,20 +174,20 @@ abbrev IsPackage : Stock → List Package → Host → VendorFault → Type 0
 IsPackage stock packages now e = (all_checked stock (looked packages) ≡ Err e) × (now ≡ stock.host)
 
 record IsFolder (stock : Stock) (packages : List Package) (to : List ℕ) (now : Host) (e : VendorFault) : Type 0 where
-  pub cs : List Checked
+  pub cs : List CheckedCrate
   pub are : all_checked stock (looked packages) ≡ Ok cs
   pub there : free_fault (stock.host.stands to) ≡ Some e
   pub same : now ≡ stock.host
 
 record IsCome (stock : Stock) (packages : List Package) (to : List ℕ) (now : Host) (e : VendorFault) : Type 0 where
-  pub cs : List Checked
+  pub cs : List CheckedCrate
   pub are : all_checked stock (looked packages) ≡ Ok cs
   pub one : e ≡ fault.NotEmpty 1
   pub free : free_fault (stock.host.stands to) ≡ None
   pub taken : IsTaken to cs (paths_of cs) (after_change (created to) stock.host) now
 
 record IsOtherwise (stock : Stock) (packages : List Package) (to : List ℕ) (now : Host) (e : VendorFault) : Type 0 where
-  pub cs : List Checked
+  pub cs : List CheckedCrate
   pub are : all_checked stock (looked packages) ≡ Ok cs
   pub why : Error
   pub one : e ≡ fault.ReadBack why
@@ -200,7 +200,7 @@ abbrev IsSo : Stock → List Package → List ℕ → Host → VendorFault → T
 IsSo stock packages to now e =
     IsPackage stock packages now e ⊎ (IsFolder stock packages to now e ⊎ (IsCome stock packages to now e ⊎ IsOtherwise stock packages to now e))
 
-ok_of : (r : Result (List Checked) VendorFault) → IsOk r → (cs : List Checked) × (r ≡ Ok cs)
+ok_of : (r : Result (List CheckedCrate) VendorFault) → IsOk r → (cs : List CheckedCrate) × (r ≡ Ok cs)
 ok_of (Ok cs) is = (cs, refl)
 ok_of (Err e) is = cc (is)
 
@@ -236,10 +236,10 @@ so_is F D stock packages to now n n_now (fault.NotEmpty count) f d said h = go (
 
 -- ---- two of them
 
-both_ok : (r s : Result (List Checked) VendorFault) (cs ds : List Checked) → r ≡ s → r ≡ Ok cs → s ≡ Ok ds → cs ≡ ds
+both_ok : (r s : Result (List CheckedCrate) VendorFault) (cs ds : List CheckedCrate) → r ≡ s → r ≡ Ok cs → s ≡ Ok ds → cs ≡ ds
 both_ok r s cs ds same is too = cc (same, is, too)
 
-never_both : {X : Type 0} (r s : Result (List Checked) VendorFault) (e : VendorFault) (ds : List Checked) → r ≡ s → r ≡ Err e → s ≡ Ok ds → X
+never_both : {X : Type 0} (r s : Result (List CheckedCrate) VendorFault) (e : VendorFault) (ds : List CheckedCrate) → r ≡ s → r ≡ Err e → s ≡ Ok ds → X
 never_both r s e ds same is too = cc (same, is, too)
 
 never_free : {X : Type 0} (a b : List ℕ → Standing) (to : List ℕ) (e : VendorFault) → a ≡ b → free_fault (a to) ≡ Some e → free_fault (b to) ≡ None → X
@@ -253,17 +253,17 @@ module _ (stock other : Stock) (packages packages_too : List Package) (to : List
   come_otherwise now now_too e g h k =
       let same = both_ok _ _ h.cs k.cs checks h.are k.are in
       taken_filled to k.cs (paths_of k.cs) (after_change (created to) stock.host) (after_change (created to) other.host) now created_same
-      (subst (λ (cs : List Checked). IsTaken to cs (paths_of cs) (after_change (created to) stock.host) now) same h.taken) k.filled
+      (subst (λ (cs : List CheckedCrate). IsTaken to cs (paths_of cs) (after_change (created to) stock.host) now) same h.taken) k.filled
 
   otherwise_come : (now now_too : Host) (e g : VendorFault) → IsOtherwise stock packages to now e → IsCome other packages_too to now_too g → ⊥
   otherwise_come now now_too e g h k =
       let same = both_ok _ _ h.cs k.cs checks h.are k.are in
       taken_filled to k.cs (paths_of k.cs) (after_change (created to) other.host) (after_change (created to) stock.host) now_too (sym created_same) k.taken
-      (subst (λ (cs : List Checked). AreFilled to cs (paths_of cs) (after_change (created to) stock.host)) same h.filled)
+      (subst (λ (cs : List CheckedCrate). AreFilled to cs (paths_of cs) (after_change (created to) stock.host)) same h.filled)
 
-  built_same : (now now_too : Host) (cs ds : List Checked) → cs ≡ ds → now ≡ after (all_made to cs) stock.host → now_too ≡ after (all_made to ds) other.host → now.stands ≡ now_too.stands
+  built_same : (now now_too : Host) (cs ds : List CheckedCrate) → cs ≡ ds → now ≡ after (all_made to cs) stock.host → now_too ≡ after (all_made to ds) other.host → now.stands ≡ now_too.stands
   built_same now now_too cs ds same h k =
-      ap (λ (x : Host). x.stands) h ∙ ap (λ (xs : List Checked). (after (all_made to xs) stock.host).stands) same ∙ after_same (all_made to ds) stock.host other.host stands ∙ sym (ap (λ (x : Host). x.stands) k)
+      ap (λ (x : Host). x.stands) h ∙ ap (λ (xs : List CheckedCrate). (after (all_made to xs) stock.host).stands) same ∙ after_same (all_made to ds) stock.host other.host stands ∙ sym (ap (λ (x : Host). x.stands) k)
 
   unmoved : (now now_too : Host) → now ≡ stock.host → now_too ≡ other.host → now.stands ≡ now_too.stands
   unmoved now now_too h k = ap (λ (x : Host). x.stands) h ∙ stands ∙ sym (ap (λ (x : Host). x.stands) k)
@@ -294,7 +294,7 @@ module _ (stock other : Stock) (packages packages_too : List Package) (to : List
       let same = both_ok _ _ h.cs k.cs checks h.are k.are in (
         ap vendor_words (h.one ∙ sym k.one),
         taken_same to k.cs (paths_of k.cs) (after_change (created to) stock.host) (after_change (created to) other.host) now now_too created_same
-            (subst (λ (cs : List Checked). IsTaken to cs (paths_of cs) (after_change (created to) stock.host) now) same h.taken) k.taken,
+            (subst (λ (cs : List CheckedCrate). IsTaken to cs (paths_of cs) (after_change (created to) stock.host) now) same h.taken) k.taken,
       )
   so_same now now_too e g (inr (inr (inl h))) (inr (inr (inr k))) = absurd (come_otherwise now now_too e g h k)
   so_same now now_too e g (inr (inr (inr h))) (inr (inr (inl k))) = absurd (otherwise_come now now_too e g h k)

@@ -11,7 +11,7 @@ use crate::outcomes::{Outcome, failed};
 use crate::tasks::Task;
 use audit_asked::{Asked, Runner, ask};
 use audit_core::Auditor;
-use audit_output::Sheet;
+use audit_output::AuditSheet;
 use audit_remedies::{RunFault, finish, make};
 use std::alloc::Global;
 use tame_cache::CacheDisk;
@@ -76,7 +76,7 @@ fn run_given<F: Files, R: Runner, W: Wire, D: CacheDisk, O: Sink, E: Sink>(
         Ok(made) => made,
         Err(fault) => return failed(alloc, err, task.place(), fault).with_audit(audited, None),
     };
-    let sheet = Sheet {
+    let sheet = AuditSheet {
         config: &config.output,
         place: place.as_str(),
         database: database.as_str(),

@@ -14,7 +14,7 @@ use crate::faults::RunFault;
 use crate::fix_runs::print_and_fix;
 use crate::makings::Made;
 use audit_asked::Runner;
-use audit_output::{PrintFault, Sheet, print, put_text};
+use audit_output::{AuditSheet, PrintFault, print, put_text};
 use baseline_gate::{finding_lines, gate_status};
 use known_findings::Finding;
 use report_parts::push_number;
@@ -26,7 +26,7 @@ use vendor_registry::Vendored;
 /// Puts the lines of a plan.
 fn put_plan<O: Sink>(
     alloc: Global,
-    sheet: &Sheet<'_>,
+    sheet: &AuditSheet<'_>,
     items: &[PlanItem],
     out: &mut O,
 ) -> Result<(), PrintFault>
@@ -83,7 +83,7 @@ fn put_registry<O: Sink>(alloc: Global, made: &Vendored, out: &mut O) -> Result<
 pub fn finish<R: Runner, O: Sink, E: Sink>(
     alloc: Global,
     verdicts: bool,
-    sheet: &Sheet<'_>,
+    sheet: &AuditSheet<'_>,
     made: &Made,
     runner: &mut R,
     out: &mut O,

@@ -13,7 +13,7 @@ ghost use Rattle.audit_remedies.specs.declared.makings.Made.TheVariants as Made;
 use crate::faults::RunFault;
 use audit_asked::Runner;
 use audit_fix::{FixPlan, failed_starts, fix_lines, fix_status, start_steps};
-use audit_output::{PrintFault, Sheet, print, put_text};
+use audit_output::{AuditSheet, PrintFault, print, put_text};
 use std::alloc::Global;
 use tame_names::Sink;
 
@@ -23,7 +23,7 @@ fn put_lines<E: Sink>(
     alloc: Global,
     dry_run: bool,
     verdicts: bool,
-    sheet: &Sheet<'_>,
+    sheet: &AuditSheet<'_>,
     statuses: &[Option<i32>],
     err: &mut E,
 ) -> Result<(), PrintFault>
@@ -44,7 +44,12 @@ fn put_lines<E: Sink>(
 }
 
 /// The status of `fix`, by how many of its steps couldn't be started, which may be none.
-fn fix_ended(sheet: &Sheet<'_>, plan: &FixPlan, dry_run: bool, failed: u64) -> Result<u8, RunFault>
+fn fix_ended(
+    sheet: &AuditSheet<'_>,
+    plan: &FixPlan,
+    dry_run: bool,
+    failed: u64,
+) -> Result<u8, RunFault>
     requires plan { plan.now ≡ fix_plan_of dry_run sheet.now.auditor.now.database
         sheet.now.audited.now }
     ensures status { IfOk result (λ status. status ≡ made_status
@@ -65,7 +70,7 @@ fn fix<R: Runner, E: Sink>(
     alloc: Global,
     dry_run: bool,
     verdicts: bool,
-    sheet: &Sheet<'_>,
+    sheet: &AuditSheet<'_>,
     runner: &mut R,
     err: &mut E,
 ) -> Result<u8, RunFault>
@@ -100,7 +105,7 @@ pub fn print_and_fix<R: Runner, O: Sink, E: Sink>(
     alloc: Global,
     dry_run: bool,
     verdicts: bool,
-    sheet: &Sheet<'_>,
+    sheet: &AuditSheet<'_>,
     runner: &mut R,
     out: &mut O,
     err: &mut E,

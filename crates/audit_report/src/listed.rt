@@ -14,7 +14,10 @@ use crate::objects::{write_hit, write_warning};
 use audit_advisory::{Advisory, Vulnerability, Warning, WarningKind, advisory_at, listed_at};
 use audit_lock::{Package, package_at};
 use json::Writer;
-use report_parts::{close_array, close_object, kind_word, open_array, open_object, write_count, write_flag, write_name};
+use report_parts::{
+    close_array, close_object, kind_word, open_array, open_object, write_count, write_flag,
+    write_name,
+};
 use std::alloc::AllocError;
 
 fn write_hit_of(

@@ -11,7 +11,10 @@ ghost use Rattle.report_parts.specs.Values.{text_or_null, texts};
 use audit_advisory::{Advisory, Informational, Metadata, WarningKind};
 use audit_lock::Package;
 use json::Writer;
-use report_parts::{close_object, kind_word, open_object, stated_informational, write_name, write_optional, write_requirements, write_score, write_str, write_text, write_word};
+use report_parts::{
+    close_object, kind_word, open_object, stated_informational, write_name, write_optional,
+    write_requirements, write_score, write_str, write_text, write_word,
+};
 use std::alloc::AllocError;
 
 /// Writes the member that tells what an informational advisory tells, or null.

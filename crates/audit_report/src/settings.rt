@@ -9,7 +9,9 @@ ghost use Rattle.report_parts.specs.Words.{informational_word, severity_word};
 
 use audit_advisory::{Informational, Settings, Severity};
 use json::Writer;
-use report_parts::{close_object, informational_word, open_object, stated_severity, write_texts, write_word};
+use report_parts::{
+    close_object, informational_word, open_object, stated_severity, write_texts, write_word,
+};
 use std::alloc::AllocError;
 use tame_names::Items;
 

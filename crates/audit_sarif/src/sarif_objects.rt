@@ -13,7 +13,10 @@ use crate::sarif_logs::{Rule, Run, SarifLog, SarifResult};
 use crate::sarif_rule_objects::{write_level, write_rule};
 use audit_advisory::VERSION;
 use json::Writer;
-use report_parts::{close_array, close_object, open_array, open_object, write_count, write_name, write_str, write_text};
+use report_parts::{
+    close_array, close_object, open_array, open_object, write_count, write_name, write_str,
+    write_text,
+};
 use std::alloc::{AllocError, Global};
 use tame_names::Text;
 

@@ -11,7 +11,9 @@ ghost use Rattle.report_parts.specs.Values.{texts};
 use crate::sarif_logs::{Level, MultiformatMessageString, Precision, Rule};
 use crate::sarif_words::{level_word, precision_word, problem_severity, tag_word};
 use json::Writer;
-use report_parts::{close_array, close_object, open_array, open_object, write_name, write_str, write_text};
+use report_parts::{
+    close_array, close_object, open_array, open_object, write_name, write_str, write_text,
+};
 use std::alloc::AllocError;
 use tame_names::Text;
 

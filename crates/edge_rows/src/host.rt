@@ -8,7 +8,7 @@ use std::rt::Files;
 
 /// What is counted, and what befalls the call that is meant.
 #[derive(Drop)]
-pub struct Plan {
+pub struct FailurePlan {
     /// The calls since the last command began.
     pub made: Cell<u64>,
     /// The number of the call that fails, from 1; 0 is none.
@@ -21,9 +21,9 @@ pub struct Plan {
     pub is_told: Cell<bool>,
 }
 
-impl Plan {
-    pub fn new() -> Plan {
-        Plan {
+impl FailurePlan {
+    pub fn new() -> FailurePlan {
+        FailurePlan {
             made: Cell::new(0),
             fails_at: Cell::new(0),
             kind: Cell::new(ErrorKind::PermissionDenied),
@@ -56,7 +56,7 @@ impl Plan {
 #[derive(Drop)]
 pub struct Host<'a> {
     pub rt: &'a HostRuntime,
-    pub plan: &'a Plan,
+    pub plan: &'a FailurePlan,
 }
 
 impl<'a> Host<'a> {

@@ -38,13 +38,13 @@ mod script;
 mod surroundings;
 mod texts;
 
-use crate::host::{Host, Plan};
+use crate::host::{FailurePlan, Host};
 use crate::script::Script;
 use std::io;
 use std::process::ExitCode;
 
 fn play(rt: &HostRuntime) -> io::Result<()> {
-    let plan = Plan::new();
+    let plan = FailurePlan::new();
     let host = Host { rt, plan: &plan };
     let mut script = Script::new(&host);
     for line in rt.lines(rt.alloc()) {

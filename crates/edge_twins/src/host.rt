@@ -22,7 +22,7 @@ pub enum Failing {
 
 /// What befalls the calls of a host, and what it has but for files.
 #[derive(Drop)]
-pub struct Plan {
+pub struct FailurePlan {
     pub failing: Cell<Failing>,
     /// How many calls were made since it was said which fail.
     pub calls: Cell<u64>,
@@ -40,7 +40,7 @@ pub struct Plan {
     pub current: Vec<u8>,
 }
 
-impl Plan {
+impl FailurePlan {
     /// Counts a call, and fails where it is to fail.
     fn call(&self) -> io::Result<()> {
         let before = self.calls.get();
@@ -67,7 +67,7 @@ impl Plan {
 pub struct Host<'a> {
     pub rt: &'a HostRuntime,
     pub base: &'a str,
-    pub plan: &'a Plan,
+    pub plan: &'a FailurePlan,
 }
 
 impl<'a> Host<'a> {
@@ -113,7 +113,7 @@ impl<'a> Alloc for Host<'a> {
 #[derive(Drop)]
 pub struct HostFile<'a> {
     file: File,
-    plan: &'a Plan,
+    plan: &'a FailurePlan,
 }
 
 /// An open folder.

@@ -2,7 +2,7 @@
 use crate::audits::{audits_of, index_at, krate_paths};
 use crate::chance::{Chance, contents};
 use crate::disks::{Disks, disk_failing, disk_paths};
-use crate::host::{Failing, Host, Plan};
+use crate::host::{Failing, FailurePlan, Host};
 use crate::hosts::{Hosts, failing, lay, lay_aside, stated, variables};
 use crate::places::{Spelling, paths_of, spelled};
 use crate::play::{Count, Difference, play};
@@ -21,7 +21,7 @@ use tame_cache::MemCacheDisk;
 use tame_names::{Items, MemFiles, MemSink, Text};
 
 /// What a host has but for files, by a number.
-pub fn plan_of(alloc: Global, variant: u64) -> Result<Plan, AllocError> {
+pub fn plan_of(alloc: Global, variant: u64) -> Result<FailurePlan, AllocError> {
     let mut chance = Chance::of(variant);
     let input = chance.among(&[0, 1, 5, 5, 4096, 8192, 8193, 20000]) as usize;
     let current: &[u8] = match chance.below(6) {
@@ -30,7 +30,7 @@ pub fn plan_of(alloc: Global, variant: u64) -> Result<Plan, AllocError> {
         2 => "/é\n/b".as_bytes(),
         _ => "/home/x".as_bytes(),
     };
-    Ok(Plan {
+    Ok(FailurePlan {
         failing: Cell::new(Failing::None),
         calls: Cell::new(0),
         turn: Cell::new(UNTURNED),

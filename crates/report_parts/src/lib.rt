@@ -16,8 +16,8 @@ pub use attributes::{
 };
 pub use members::{
     close_array, close_object, open_array, open_object, requirement_text, write_count, write_flag,
-    write_name, write_optional, write_requirements, write_score, write_str, write_text, write_texts,
-    write_word,
+    write_name, write_optional, write_requirements, write_score, write_str, write_text,
+    write_texts, write_word,
 };
 pub use placing::{are_placed, is_placed};
 pub use putting::{PrintError, put_text, put_texts};

@@ -26,7 +26,7 @@ use Rattle.tame_local.proofs.Standings.{AreElsewhere, folders_nothing, nothing_s
 use Rattle.vendor_registry.specs.Built.{IsTaken, IsTakenAt, crate_made, path_made}
 use Rattle.vendor_registry.specs.Checks.{Stock}
 use Rattle.vendor_registry.specs.Vendored.{IsBare, IsInner, on, paths_of}
-use Rattle.vendor_registry.specs.declared.checks.Checked.{Checked}
+use Rattle.vendor_registry.specs.declared.checks.CheckedCrate.{CheckedCrate}
 
 -- ---- texts that begin others
 
@@ -186,7 +186,7 @@ ways_to_index to name utf8 named =
 
 -- ---- the changes of another path
 
-crates_keep : (s : Stock) (to p q : List ℕ) (cs : List Checked) (host : Host) → IsNamed q → AreOn s p cs → is_nothing (host.stands (join (index_of to) q)) ≡ true
+crates_keep : (s : Stock) (to p q : List ℕ) (cs : List CheckedCrate) (host : Host) → IsNamed q → AreOn s p cs → is_nothing (host.stands (join (index_of to) q)) ≡ true
     → is_nothing ((after (map (crate_made to) cs) host).stands (join (index_of to) q)) ≡ true
 crates_keep s to p q [] host n are none = none
 crates_keep s to p q (c ∷ cs) host n are none =
@@ -199,14 +199,14 @@ crates_keep s to p q (c ∷ cs) host n are none =
     ∙ differ file inner (λ e. crate_not_index name c.version.version q are.0.utf8 are.0.named (front_is q n) e) in
     crates_keep s to p q cs (with_file (join to file) c.bytes host) n are.2 (nothing_stays (join to file) (File c.bytes) host.stands (join (index_of to) q) other none)
 
-path_keeps : (s : Stock) (to p q : List ℕ) (cs : List Checked) (host : Host) → IsNamed q → AreOn s p cs → bytes_eq p q ≡ false
+path_keeps : (s : Stock) (to p q : List ℕ) (cs : List CheckedCrate) (host : Host) → IsNamed q → AreOn s p cs → bytes_eq p q ≡ false
     → is_nothing (host.stands (join (index_of to) q)) ≡ true → is_nothing ((after (path_made to p cs) host).stands (join (index_of to) q)) ≡ true
 path_keeps s to p q [] host n are apart none = none
 path_keeps s to p q (c ∷ cs) host n are apart none =
     let m : IsNamed p = (c.version.name, are.0.utf8, are.0.named, are.0.path_is ∙ are.1) in
     let file : List ℕ = join (index_of to) p in
     let other : List ℕ = join (index_of to) q in
-    let lines : List ℕ = json_lines (map (λ (d : Checked). d.version) (c ∷ cs)) in
+    let lines : List ℕ = json_lines (map (λ (d : CheckedCrate). d.version) (c ∷ cs)) in
     let folder : List ℕ = folder_path to m.0 in
     let long : length (base to) + 6 < length (file_path to m.0) = file_size to m.0 in
     let size : length (folder_path to m.0) ≡ length (base to) + length (codes "index" ++ 47 ∷ folder_of m.0) = length-append (base to) (codes "index" ++ 47 ∷ folder_of m.0) in
@@ -244,7 +244,7 @@ abbrev AreApart : List (List ℕ) → Type 0
 AreApart [] = Unit {0}
 AreApart (q ∷ qs) = DifferFrom q qs × AreApart qs
 
-all_keep : (s : Stock) (to p : List ℕ) (cs : List Checked) (qs : List (List ℕ)) (host : Host) → AreOn s p cs → AreNamed qs → DifferFrom p qs → AreAbsent to qs host
+all_keep : (s : Stock) (to p : List ℕ) (cs : List CheckedCrate) (qs : List (List ℕ)) (host : Host) → AreOn s p cs → AreNamed qs → DifferFrom p qs → AreAbsent to qs host
     → AreAbsent to qs (after (path_made to p cs) host)
 all_keep s to p cs [] host are named apart absent = tt
 all_keep s to p cs (q ∷ qs) host are named apart absent =
@@ -254,11 +254,11 @@ not_both : (t : Bool) → t ≡ true → t ≡ false → ⊥
 not_both true h k = cc
 not_both false h k = cc
 
-taken_there : (to q : List ℕ) (cs : List Checked) (host : Host) → IsTakenAt to q cs host → is_nothing (host.stands (join (index_of to) q)) ≡ false
+taken_there : (to q : List ℕ) (cs : List CheckedCrate) (host : Host) → IsTakenAt to q cs host → is_nothing (host.stands (join (index_of to) q)) ≡ false
 taken_there to q [] host taken = absurd taken
 taken_there to q (c ∷ cs) host taken = taken
 
-none_taken : (s : Stock) (to : List ℕ) (all : List Checked) (qs : List (List ℕ)) (host now : Host) → AreKnown s all → AreNamed qs → AreApart qs → AreAbsent to qs host
+none_taken : (s : Stock) (to : List ℕ) (all : List CheckedCrate) (qs : List (List ℕ)) (host now : Host) → AreKnown s all → AreNamed qs → AreApart qs → AreAbsent to qs host
     → IsTaken to all qs host now → ⊥
 none_taken s to all [] host now known named apart absent taken = taken
 none_taken s to all (q ∷ qs) host now known named apart absent (inl some) = not_both _ absent.0 (taken_there to q (on q all) host some.0)
@@ -272,10 +272,10 @@ named_case : (t : Bool) (q : List ℕ) (ps qs : List (List ℕ)) → IsNamed q �
 named_case true q ps qs n many more = many
 named_case false q ps qs n many more = (n, more)
 
-paths_named : (s : Stock) (seen : List (List ℕ)) (cs : List Checked) → AreKnown s cs → AreNamed (distinct_after seen (map (λ (c : Checked). c.path) cs))
+paths_named : (s : Stock) (seen : List (List ℕ)) (cs : List CheckedCrate) → AreKnown s cs → AreNamed (distinct_after seen (map (λ (c : CheckedCrate). c.path) cs))
 paths_named s seen [] known = tt
 paths_named s seen (c ∷ cs) known =
-    named_case (is_among c.path seen) c.path (distinct_after seen (map (λ (d : Checked). d.path) cs)) (distinct_after (seen ++ c.path ∷ []) (map (λ (d : Checked). d.path) cs))
+    named_case (is_among c.path seen) c.path (distinct_after seen (map (λ (d : CheckedCrate). d.path) cs)) (distinct_after (seen ++ c.path ∷ []) (map (λ (d : CheckedCrate). d.path) cs))
     (c.version.name, known.0.utf8, known.0.named, known.0.path_is) (paths_named s seen cs known.1) (paths_named s (seen ++ c.path ∷ []) cs known.1)
 
 or_left : (a b : Bool) → (a || b) ≡ false → a ≡ false
@@ -331,7 +331,7 @@ bare_absent to (q ∷ qs) host bare named =
     (subst (AreElsewhere (ways_to (base to ++ codes "index"))) (sym (file_is to q n)) (ways_to_index to n.0 n.1 n.2)) in
     (folders_nothing (ways_to (index_of to)) host.stands path elsewhere none, bare_absent to qs host bare named.1)
 
-pub never_taken : (s : Stock) (to : List ℕ) (cs : List Checked) (host now : Host) → AreKnown s cs → IsBare host to → IsTaken to cs (paths_of cs) (after_change (created to) host) now → ⊥
+pub never_taken : (s : Stock) (to : List ℕ) (cs : List CheckedCrate) (host now : Host) → AreKnown s cs → IsBare host to → IsTaken to cs (paths_of cs) (after_change (created to) host) now → ⊥
 never_taken s to cs host now known bare taken =
-    none_taken s to cs (paths_of cs) (after_change (created to) host) now known (paths_named s [] cs known) (paths_apart [] (map (λ (c : Checked). c.path) cs)).1
+    none_taken s to cs (paths_of cs) (after_change (created to) host) now known (paths_named s [] cs known) (paths_apart [] (map (λ (c : CheckedCrate). c.path) cs)).1
     (bare_absent to (paths_of cs) host bare (paths_named s [] cs known)) taken

@@ -12,7 +12,7 @@ use Rattle.vendor_registry.specs.Checks.{Stock, all_checked, and_then, checked, 
 use Rattle.std.specs.Str.{IsUtf8}
 use Rattle.vendor_registry.specs.Looked.{is_looked}
 use Rattle.vendor_registry.specs.Named.{AreTexts}
-use Rattle.vendor_registry.specs.declared.checks.Checked.{Checked}
+use Rattle.vendor_registry.specs.declared.checks.CheckedCrate.{CheckedCrate}
 use Rattle.vendor_registry.specs.declared.faults.VendorFault.{VendorFault}
 use Rattle.vendor_registry.specs.declared.faults.VendorFault.TheVariants as fault
 
@@ -27,18 +27,18 @@ behind xs (Err e) = Err e
 
 -- ---- packages that are left
 
-abbrev pub rest : Stock → List Package → ℕ → List Package → Result (List Checked) VendorFault
+abbrev pub rest : Stock → List Package → ℕ → List Package → Result (List CheckedCrate) VendorFault
 rest s all i ps = all_checked s (filter (is_looked all) (enumerate_from i ps))
 
-next_case : (cs : List Checked) (c : Checked) (r : Result (List Checked) VendorFault) → behind cs (and_then (λ (ds : List Checked). Ok (c ∷ ds)) r) ≡ behind (cs ++ c ∷ []) r
+next_case : (cs : List CheckedCrate) (c : CheckedCrate) (r : Result (List CheckedCrate) VendorFault) → behind cs (and_then (λ (ds : List CheckedCrate). Ok (c ∷ ds)) r) ≡ behind (cs ++ c ∷ []) r
 next_case cs c (Ok ds) = ap Ok (sym (append_assoc cs (c ∷ []) ds))
 next_case cs c (Err e) = refl
 
-pub rest_taken : (s : Stock) (all : List Package) (i : ℕ) (p : Package) (ps : List Package) (cs : List Checked) (c : Checked) → is_looked all (i, p) ≡ true → checked s i p ≡ Ok c
+pub rest_taken : (s : Stock) (all : List Package) (i : ℕ) (p : Package) (ps : List Package) (cs : List CheckedCrate) (c : CheckedCrate) → is_looked all (i, p) ≡ true → checked s i p ≡ Ok c
     → behind cs (rest s all i (p ∷ ps)) ≡ behind (cs ++ c ∷ []) (rest s all (i + 1) ps)
 rest_taken s all i p ps cs c is done =
     ap (λ b. behind cs (all_checked s (cond b ((i, p) ∷ filter (is_looked all) (enumerate_from (i + 1) ps)) (filter (is_looked all) (enumerate_from (i + 1) ps))))) is
-    ∙ ap (λ r. behind cs (and_then (λ d. and_then (λ (ds : List Checked). Ok (d ∷ ds)) (rest s all (i + 1) ps)) r)) done
+    ∙ ap (λ r. behind cs (and_then (λ d. and_then (λ (ds : List CheckedCrate). Ok (d ∷ ds)) (rest s all (i + 1) ps)) r)) done
     ∙ next_case cs c (rest s all (i + 1) ps)
 
 pub rest_passed : (s : Stock) (all : List Package) (i : ℕ) (p : Package) (ps : List Package) → is_looked all (i, p) ≡ false
@@ -50,7 +50,7 @@ pub rest_refused : (s : Stock) (all : List Package) (i : ℕ) (p : Package) (ps 
     → rest s all i (p ∷ ps) ≡ Err e
 rest_refused s all i p ps e is done =
     ap (λ b. all_checked s (cond b ((i, p) ∷ filter (is_looked all) (enumerate_from (i + 1) ps)) (filter (is_looked all) (enumerate_from (i + 1) ps)))) is
-    ∙ ap (λ r. and_then (λ d. and_then (λ (ds : List Checked). Ok (d ∷ ds)) (rest s all (i + 1) ps)) r) done
+    ∙ ap (λ r. and_then (λ d. and_then (λ (ds : List CheckedCrate). Ok (d ∷ ds)) (rest s all (i + 1) ps)) r) done
 
 -- ---- a disk that stays
 
@@ -70,7 +70,7 @@ checked_same past now index host crates i p same = named_case (path p.name)
 
 -- ---- the next package
 
-pub texts_more : (cs : List Checked) (c : Checked) → AreTexts cs → IsUtf8 c.version.name → AreTexts (cs ++ c ∷ [])
+pub texts_more : (cs : List CheckedCrate) (c : CheckedCrate) → AreTexts cs → IsUtf8 c.version.name → AreTexts (cs ++ c ∷ [])
 texts_more [] c all is = (is, tt)
 texts_more (d ∷ ds) c all is = (all.0, texts_more ds c all.1 is)
 
@@ -79,7 +79,7 @@ pub same_check : (past now : List ℕ → List Step) (index : SparseIndex) (host
 same_check past now index host mid crates i p same files =
     sym (checked_same past now index host crates i p same) ∙ ap (λ h. checked (stock_of now index h crates) i p) (sym files)
 
-pub taken_here : (past now : List ℕ → List Step) (index : SparseIndex) (host mid : Host) (crates : List ℕ) (all ps left : List Package) (i : ℕ) (p : Package) (cs : List Checked) (c : Checked)
+pub taken_here : (past now : List ℕ → List Step) (index : SparseIndex) (host mid : Host) (crates : List ℕ) (all ps left : List Package) (i : ℕ) (p : Package) (cs : List CheckedCrate) (c : CheckedCrate)
     → ((q : List ℕ) → now q ≡ past q) → mid ≡ host → left ≡ p ∷ ps → is_looked all (i, p) ≡ true
     → rest (stock_of past index host crates) all 0 all ≡ behind cs (rest (stock_of past index host crates) all i left)
     → checked (stock_of now index mid crates) i p ≡ Ok c
@@ -88,12 +88,12 @@ taken_here past now index host mid crates all ps left i p cs c same files at is 
     let s : Stock = stock_of past index host crates in
     so_far ∙ ap (λ l. behind cs (rest s all i l)) at ∙ rest_taken s all i p ps cs c is (same_check past now index host mid crates i p same files ∙ done)
 
-pub passed_here : (s : Stock) (all ps left : List Package) (i : ℕ) (p : Package) (cs : List Checked) → left ≡ p ∷ ps → is_looked all (i, p) ≡ false
+pub passed_here : (s : Stock) (all ps left : List Package) (i : ℕ) (p : Package) (cs : List CheckedCrate) → left ≡ p ∷ ps → is_looked all (i, p) ≡ false
     → rest s all 0 all ≡ behind cs (rest s all i left) → rest s all 0 all ≡ behind cs (rest s all (i + 1) ps)
 passed_here s all ps left i p cs at is so_far =
     so_far ∙ ap (λ l. behind cs (rest s all i l)) at ∙ ap (behind cs) (rest_passed s all i p ps is)
 
-pub refused_here : (past now : List ℕ → List Step) (index : SparseIndex) (host mid : Host) (crates : List ℕ) (all ps left : List Package) (i : ℕ) (p : Package) (cs : List Checked) (e : VendorFault)
+pub refused_here : (past now : List ℕ → List Step) (index : SparseIndex) (host mid : Host) (crates : List ℕ) (all ps left : List Package) (i : ℕ) (p : Package) (cs : List CheckedCrate) (e : VendorFault)
     → ((q : List ℕ) → now q ≡ past q) → mid ≡ host → left ≡ p ∷ ps → is_looked all (i, p) ≡ true
     → rest (stock_of past index host crates) all 0 all ≡ behind cs (rest (stock_of past index host crates) all i left)
     → checked (stock_of now index mid crates) i p ≡ Err e

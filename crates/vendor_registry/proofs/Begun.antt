@@ -5,7 +5,7 @@ use Rattle.tame_names.specs.Standing.{Host}
 use Rattle.tame_local.specs.Builders.{HostChange, Makes, Creates, AreBegun, after, after_change, created}
 use Rattle.vendor_registry.specs.Built.{AreFilled, IsFilled, IsTaken, IsTakenAt, all_made, path_made, paths_made}
 use Rattle.vendor_registry.specs.Vendored.{on, paths_of}
-use Rattle.vendor_registry.specs.declared.checks.Checked.{Checked}
+use Rattle.vendor_registry.specs.declared.checks.CheckedCrate.{CheckedCrate}
 
 pub none_begun : (cs : List HostChange) (h : Host) → AreBegun cs h h
 none_begun [] h = refl
@@ -27,35 +27,35 @@ begun_behind (b ∷ bs) cs h now is = inr (begun_behind bs cs (after_change b h)
 
 -- ---- paths that are left
 
-pub begun_here : (folder : List ℕ) (cs : List Checked) (q p : List ℕ) (ps left : List (List ℕ)) (h now : Host) → left ≡ q ∷ ps → p ≡ q
+pub begun_here : (folder : List ℕ) (cs : List CheckedCrate) (q p : List ℕ) (ps left : List (List ℕ)) (h now : Host) → left ≡ q ∷ ps → p ≡ q
     → AreBegun (path_made folder p (on p cs)) h now → AreBegun (paths_made folder cs left) h now
 begun_here folder cs q p ps left h now at same is =
     subst (λ (l : List (List ℕ)). AreBegun (paths_made folder cs l) h now) (sym at)
     (begun_front (path_made folder q (on q cs)) (paths_made folder cs ps) h now (subst (λ (r : List ℕ). AreBegun (path_made folder r (on r cs)) h now) same is))
 
-pub begun_more : (folder : List ℕ) (cs : List Checked) (q p : List ℕ) (ps left : List (List ℕ)) (h mid now : Host) → left ≡ q ∷ ps → p ≡ q
+pub begun_more : (folder : List ℕ) (cs : List CheckedCrate) (q p : List ℕ) (ps left : List (List ℕ)) (h mid now : Host) → left ≡ q ∷ ps → p ≡ q
     → mid ≡ after (path_made folder p (on p cs)) h → AreBegun (paths_made folder cs ps) mid now → AreBegun (paths_made folder cs left) h now
 begun_more folder cs q p ps left h mid now at same done is =
     let made : mid ≡ after (path_made folder q (on q cs)) h = done ∙ ap (λ (r : List ℕ). after (path_made folder r (on r cs)) h) same in
     subst (λ (l : List (List ℕ)). AreBegun (paths_made folder cs l) h now) (sym at)
     (begun_behind (path_made folder q (on q cs)) (paths_made folder cs ps) h now (subst (λ (m : Host). AreBegun (paths_made folder cs ps) m now) made is))
 
-pub filled_more : (folder : List ℕ) (cs : List Checked) (q p : List ℕ) (ps left : List (List ℕ)) (h mid : Host) → left ≡ q ∷ ps → p ≡ q
+pub filled_more : (folder : List ℕ) (cs : List CheckedCrate) (q p : List ℕ) (ps left : List (List ℕ)) (h mid : Host) → left ≡ q ∷ ps → p ≡ q
     → mid ≡ after (path_made folder p (on p cs)) h → IsFilled folder p (on p cs) h → AreFilled folder cs ps mid → AreFilled folder cs left h
 filled_more folder cs q p ps left h mid at same done is more =
     let made : mid ≡ after (path_made folder q (on q cs)) h = done ∙ ap (λ (r : List ℕ). after (path_made folder r (on r cs)) h) same in
     let here : IsFilled folder q (on q cs) h = subst (λ (r : List ℕ). IsFilled folder r (on r cs) h) same is in
     subst (λ (l : List (List ℕ)). AreFilled folder cs l h) (sym at) (here, subst (λ (m : Host). AreFilled folder cs ps m) made more)
 
-pub filled_none : (folder : List ℕ) (cs : List Checked) (left : List (List ℕ)) (h : Host) → left ≡ [] → AreFilled folder cs left h
+pub filled_none : (folder : List ℕ) (cs : List CheckedCrate) (left : List (List ℕ)) (h : Host) → left ≡ [] → AreFilled folder cs left h
 filled_none folder cs left h none = subst (λ (l : List (List ℕ)). AreFilled folder cs l h) (sym none) tt
 
-pub taken_here : (folder : List ℕ) (cs : List Checked) (q p : List ℕ) (ps left : List (List ℕ)) (h now : Host) → left ≡ q ∷ ps → p ≡ q
+pub taken_here : (folder : List ℕ) (cs : List CheckedCrate) (q p : List ℕ) (ps left : List (List ℕ)) (h now : Host) → left ≡ q ∷ ps → p ≡ q
     → IsTakenAt folder p (on p cs) h → now ≡ h → IsTaken folder cs left h now
 taken_here folder cs q p ps left h now at same some stays =
     subst (λ (l : List (List ℕ)). IsTaken folder cs l h now) (sym at) (inl (subst (λ (r : List ℕ). IsTakenAt folder r (on r cs) h) same some, stays))
 
-pub taken_more : (folder : List ℕ) (cs : List Checked) (q p : List ℕ) (ps left : List (List ℕ)) (h mid now : Host) → left ≡ q ∷ ps → p ≡ q
+pub taken_more : (folder : List ℕ) (cs : List CheckedCrate) (q p : List ℕ) (ps left : List (List ℕ)) (h mid now : Host) → left ≡ q ∷ ps → p ≡ q
     → mid ≡ after (path_made folder p (on p cs)) h → IsFilled folder p (on p cs) h → IsTaken folder cs ps mid now → IsTaken folder cs left h now
 taken_more folder cs q p ps left h mid now at same done is taken =
     let made : mid ≡ after (path_made folder q (on q cs)) h = done ∙ ap (λ (r : List ℕ). after (path_made folder r (on r cs)) h) same in
@@ -68,9 +68,9 @@ pub on_err : {A E : Type 0} (r : Result A E) (P : Type 0) → P → OnErr r P
 on_err (Ok a) P h = tt
 on_err (Err e) P h = h
 
-pub created_begun : (to : List ℕ) (cs : List Checked) (old mid : Host) → mid ≡ after_change (created to) old → AreBegun (all_made to cs) old mid
+pub created_begun : (to : List ℕ) (cs : List CheckedCrate) (old mid : Host) → mid ≡ after_change (created to) old → AreBegun (all_made to cs) old mid
 created_begun to cs old mid made =
     inr (subst (λ (h : Host). AreBegun (paths_made to cs (paths_of cs)) h mid) made (none_begun (paths_made to cs (paths_of cs)) mid))
 
-pub whole_begun : (to : List ℕ) (cs : List Checked) (old now : Host) → now ≡ after (all_made to cs) old → AreBegun (all_made to cs) old now
+pub whole_begun : (to : List ℕ) (cs : List CheckedCrate) (old now : Host) → now ≡ after (all_made to cs) old → AreBegun (all_made to cs) old now
 whole_begun to cs old now made = subst (λ (h : Host). AreBegun (all_made to cs) old h) (sym made) (all_begun (all_made to cs) old)

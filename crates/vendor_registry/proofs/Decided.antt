@@ -23,7 +23,7 @@ use Rattle.vendor_registry.specs.Checks.{Stock, crate_path, deciding, entry_reco
 use Rattle.vendor_registry.specs.Looked.{is_looked, looked}
 use Rattle.vendor_registry.specs.Named.{AreTexts, AreVersioned}
 use Rattle.vendor_registry.specs.Vendored.{is_on, on}
-use Rattle.vendor_registry.specs.declared.checks.Checked.{Checked}
+use Rattle.vendor_registry.specs.declared.checks.CheckedCrate.{CheckedCrate}
 use Rattle.vendor_registry.specs.declared.faults.VendorFault.{VendorFault}
 use Rattle.vendor_registry.specs.declared.faults.VendorFault.TheVariants as fault
 
@@ -75,7 +75,7 @@ deciding_text version records v h = found_text version v (last_has (λ w. bytes_
 
 -- ---- what was checked
 
-pub record IsDecided (s : Stock) (c : Checked) : Type 0 where
+pub record IsDecided (s : Stock) (c : CheckedCrate) : Type 0 where
   pub utf8 : IsUtf8 c.version.name
   pub named : IsTrue (is_name c.version.name)
   pub path_is : relative_path (separator None) c.version.name ≡ c.path
@@ -84,7 +84,7 @@ pub record IsDecided (s : Stock) (c : Checked) : Type 0 where
   pub decides : decided_on s c.path c.version.version ≡ Some c.version
   pub digest : has_digest c.bytes c.version.checksum.0 ≡ true
 
-abbrev pub AreDecided : Stock → List Checked → Type 0
+abbrev pub AreDecided : Stock → List CheckedCrate → Type 0
 AreDecided s [] = Unit {0}
 AreDecided s (c ∷ cs) = IsDecided s c × AreDecided s cs
 
@@ -103,7 +103,7 @@ looked_versioned all i [] are = tt
 looked_versioned all i (p ∷ ps) are =
     looked_case (is_looked all (i, p)) (i, p) (filter (is_looked all) (enumerate_from (i + 1) ps)) are.0 (looked_versioned all (i + 1) ps are.1)
 
-one_decided : (s : Stock) (place : ℕ) (p : Package) (c : Checked) → Fact s place p c → IsUtf8 c.version.name → IsTrue (is_ok (version_parts p.version)) → IsDecided s c
+one_decided : (s : Stock) (place : ℕ) (p : Package) (c : CheckedCrate) → Fact s place p c → IsUtf8 c.version.name → IsTrue (is_ok (version_parts p.version)) → IsDecided s c
 one_decided s place p c f utf8 version =
     let named = path_of_name c.version.name c.path (ap path f.name_is ∙ f.path_is) in
     let same : c.version.version ≡ p.version = deciding_text p.version f.records c.version f.decides in
@@ -118,31 +118,31 @@ one_decided s place p c f utf8 version =
       digest = f.digest;
     }
 
-decided_each : (s : Stock) (ps : List (ℕ × Package)) (cs : List Checked) → Facts s ps cs → AreTexts cs → AreVersionedAt ps → AreDecided s cs
+decided_each : (s : Stock) (ps : List (ℕ × Package)) (cs : List CheckedCrate) → Facts s ps cs → AreTexts cs → AreVersionedAt ps → AreDecided s cs
 decided_each s [] [] f texts are = tt
 decided_each s [] (c ∷ cs) f texts are = absurd f
 decided_each s (p ∷ ps) [] f texts are = absurd f
 decided_each s (p ∷ ps) (c ∷ cs) f texts are =
     (one_decided s p.0 p.1 c f.0 texts.0 are.0, decided_each s ps cs f.1 texts.1 are.1)
 
-pub all_decided : (s : Stock) (packages : List Package) (cs : List Checked) → Facts s (looked packages) cs → AreTexts cs → AreVersioned packages → AreDecided s cs
+pub all_decided : (s : Stock) (packages : List Package) (cs : List CheckedCrate) → Facts s (looked packages) cs → AreTexts cs → AreVersioned packages → AreDecided s cs
 all_decided s packages cs f texts are = decided_each s (looked packages) cs f texts (looked_versioned packages 0 packages are)
 
 -- ---- on one path
 
-abbrev AreDecidedOn : Stock → List ℕ → List Checked → Type 0
+abbrev AreDecidedOn : Stock → List ℕ → List CheckedCrate → Type 0
 AreDecidedOn s q [] = Unit {0}
 AreDecidedOn s q (c ∷ cs) = IsDecided s c × (c.path ≡ q) × AreDecidedOn s q cs
 
-on_case : (t : Bool) (s : Stock) (q : List ℕ) (c : Checked) (cs : List Checked) → is_on q c ≡ t → IsDecided s c → AreDecidedOn s q cs → AreDecidedOn s q (cond t (c ∷ cs) cs)
+on_case : (t : Bool) (s : Stock) (q : List ℕ) (c : CheckedCrate) (cs : List CheckedCrate) → is_on q c ≡ t → IsDecided s c → AreDecidedOn s q cs → AreDecidedOn s q (cond t (c ∷ cs) cs)
 on_case true s q c cs is one all = (one, (bytes_eq-Decides c.path q).0 is, all)
 on_case false s q c cs is one all = all
 
-on_decided : (s : Stock) (q : List ℕ) (cs : List Checked) → AreDecided s cs → AreDecidedOn s q (on q cs)
+on_decided : (s : Stock) (q : List ℕ) (cs : List CheckedCrate) → AreDecided s cs → AreDecidedOn s q (on q cs)
 on_decided s q [] all = tt
 on_decided s q (c ∷ cs) all = on_case (is_on q c) s q c (on q cs) refl all.0 (on_decided s q cs all.1)
 
-on_more : (s : Stock) (q : List ℕ) (fs : List Checked) (c : Checked) → AreDecidedOn s q fs → IsDecided s c → c.path ≡ q → AreDecidedOn s q (fs ++ c ∷ [])
+on_more : (s : Stock) (q : List ℕ) (fs : List CheckedCrate) (c : CheckedCrate) → AreDecidedOn s q fs → IsDecided s c → c.path ≡ q → AreDecidedOn s q (fs ++ c ∷ [])
 on_more s q [] c all one is = (one, is, tt)
 on_more s q (f ∷ fs) c all one is = (all.0, all.1, on_more s q fs c all.2 one is)
 
@@ -150,7 +150,7 @@ some_same : (v w : IndexVersion) → Some v ≡ Some w → v ≡ w
 some_same v w h = cc
 
 -- two of one version on one path are the same record
-same_record : (s : Stock) (q : List ℕ) (f c : Checked) → IsDecided s f → f.path ≡ q → IsDecided s c → c.path ≡ q → f.version.version ≡ c.version.version → f.version ≡ c.version
+same_record : (s : Stock) (q : List ℕ) (f c : CheckedCrate) → IsDecided s f → f.path ≡ q → IsDecided s c → c.path ≡ q → f.version.version ≡ c.version.version → f.version ≡ c.version
 same_record s q f c one at other there same =
     some_same f.version c.version
     (sym one.decides ∙ ap (λ p. decided_on s p f.version.version) (at ∙ sym there) ∙ ap (decided_on s c.path) same ∙ other.decides)
@@ -159,14 +159,14 @@ found_case : (t : Bool) (v w : IndexVersion) (o : Option IndexVersion) → (t �
 found_case true v w o same is = ap Some (same refl)
 found_case false v w o same is = is
 
-first_found : (s : Stock) (q : List ℕ) (fs : List Checked) (c : Checked) (cs : List Checked) → AreDecidedOn s q fs → IsDecided s c → c.path ≡ q
-    → find (λ v. bytes_eq v.version c.version.version) (map (λ (d : Checked). d.version) (fs ++ c ∷ cs)) ≡ Some c.version
+first_found : (s : Stock) (q : List ℕ) (fs : List CheckedCrate) (c : CheckedCrate) (cs : List CheckedCrate) → AreDecidedOn s q fs → IsDecided s c → c.path ≡ q
+    → find (λ v. bytes_eq v.version c.version.version) (map (λ (d : CheckedCrate). d.version) (fs ++ c ∷ cs)) ≡ Some c.version
 first_found s q [] c cs all one is = rw ((bytes_eq-Decides c.version.version c.version.version).1 refl) refl
 first_found s q (f ∷ fs) c cs all one is =
     found_case (bytes_eq f.version.version c.version.version) f.version c.version _
     (λ same. same_record s q f c all.0 all.1 one is ((bytes_eq-Decides f.version.version c.version.version).0 same)) (first_found s q fs c cs all.2 one is)
 
-stocked_behind : (s : Stock) (q : List ℕ) (fs cs : List Checked) → AreDecidedOn s q fs → AreDecidedOn s q cs → AreStocked q (map (λ (d : Checked). d.version) (fs ++ cs)) cs
+stocked_behind : (s : Stock) (q : List ℕ) (fs cs : List CheckedCrate) → AreDecidedOn s q fs → AreDecidedOn s q cs → AreStocked q (map (λ (d : CheckedCrate). d.version) (fs ++ cs)) cs
 stocked_behind s q fs [] front are = tt
 stocked_behind s q fs (c ∷ cs) front are = (
   record {
@@ -178,11 +178,11 @@ stocked_behind s q fs (c ∷ cs) front are = (
     found = ap (option_map (λ (v : IndexVersion). v.checksum)) (first_found s q fs c cs front are.0 are.1);
     digest = are.0.digest;
   },
-  subst (λ (l : List Checked). AreStocked q (map (λ (d : Checked). d.version) l) cs) (append_assoc fs (c ∷ []) cs)
+  subst (λ (l : List CheckedCrate). AreStocked q (map (λ (d : CheckedCrate). d.version) l) cs) (append_assoc fs (c ∷ []) cs)
       (stocked_behind s q (fs ++ c ∷ []) cs (on_more s q fs c front are.0 are.1) are.2),
 )
 
-pub stocked_on : (s : Stock) (q : List ℕ) (cs : List Checked) → AreDecided s cs → AreStocked q (map (λ (d : Checked). d.version) (on q cs)) (on q cs)
+pub stocked_on : (s : Stock) (q : List ℕ) (cs : List CheckedCrate) → AreDecided s cs → AreStocked q (map (λ (d : CheckedCrate). d.version) (on q cs)) (on q cs)
 stocked_on s q cs all = stocked_behind s q [] (on q cs) tt (on_decided s q cs all)
 
 -- ---- a crate file that couldn't be read
@@ -196,7 +196,7 @@ crate_case crates v p e rose at name version is (inr (inr h)) =
     let same : at ≡ crate_path crates v.name v.version = cc (is, h.0) in
     (same ∙ ap (λ (n : List ℕ). crate_path crates n v.version) name ∙ ap (crate_path crates p.name) version, h.1)
 
-pub crate_read : (crates : List ℕ) (v : IndexVersion) (p : Package) (r : Result Checked VendorFault) (rose : Type 0) → v.name ≡ p.name → v.version ≡ p.version
+pub crate_read : (crates : List ℕ) (v : IndexVersion) (p : Package) (r : Result CheckedCrate VendorFault) (rose : Type 0) → v.name ≡ p.name → v.version ≡ p.version
     → (at : List ℕ) → r ≡ Err (fault.File at)
     → IfErr r (λ e. (e ≡ fault.NoMemory) ⊎ (IsTrue (is_of_package e) ⊎ ((e ≡ fault.File (crate_path crates v.name v.version)) × rose)))
     → (at ≡ crate_path crates p.name p.version) × rose

@@ -18,7 +18,7 @@ use Rattle.vendor_registry.specs.Built.{all_made, crate_made, path_made, paths_m
 use Rattle.vendor_registry.specs.Checks.{Stock, crate_path}
 use Rattle.vendor_registry.specs.Named.{AreTexts}
 use Rattle.vendor_registry.specs.Vendored.{Files, HoldsEach, HoldsNoOther, IsAmong, first, later, IsBare, IsInner, crate_entry, index_entry, is_on, on, path_files, paths_of, size_of, vendored_files}
-use Rattle.vendor_registry.specs.declared.checks.Checked.{Checked}
+use Rattle.vendor_registry.specs.declared.checks.CheckedCrate.{CheckedCrate}
 
 -- ---- the last of files at a path
 
@@ -81,21 +81,21 @@ stands_last x b _ s alone (later f fs more) =
 -- ---- each file is one of the index or of a crate
 
 -- where the bytes of a crate file come from
-abbrev pub Right : Stock → List Checked → List ℕ → List ℕ → Type 0
+abbrev pub Right : Stock → List CheckedCrate → List ℕ → List ℕ → Type 0
 Right s cs x b =
     ((q : List ℕ) × (begins_with_slash q ≡ false) × ((x, b) ≡ index_entry q (on q cs)))
     ⊎ ((name : List ℕ) × (version : List ℕ) × IsUtf8 name × IsTrue (is_name name) × (x ≡ crate_file name version)
     × (s.host.stands (join s.crates x) ≡ File b))
 
-abbrev pub AreRight : Stock → List Checked → Files → Type 0
+abbrev pub AreRight : Stock → List CheckedCrate → Files → Type 0
 AreRight s cs [] = Unit {0}
 AreRight s cs (f ∷ fs) = IsInner f.0 × Right s cs f.0 f.1 × AreRight s cs fs
 
-right_at : (s : Stock) (cs : List Checked) (x b : List ℕ) (fs : Files) → AreRight s cs fs → IsAmong x b fs → IsInner x × Right s cs x b
+right_at : (s : Stock) (cs : List CheckedCrate) (x b : List ℕ) (fs : Files) → AreRight s cs fs → IsAmong x b fs → IsInner x × Right s cs x b
 right_at s cs x b _ right (first fs) = (right.0, right.1)
 right_at s cs x b _ right (later f fs more) = right_at s cs x b fs right.2 more
 
-right_append : (s : Stock) (cs : List Checked) (es fs : Files) → AreRight s cs es → AreRight s cs fs → AreRight s cs (es ++ fs)
+right_append : (s : Stock) (cs : List CheckedCrate) (es fs : Files) → AreRight s cs es → AreRight s cs fs → AreRight s cs (es ++ fs)
 right_append s cs [] fs left right = right
 right_append s cs (e ∷ es) fs left right = (left.0, left.1, right_append s cs es fs left.2 right)
 
@@ -103,7 +103,7 @@ file_same : (bs cs : List ℕ) → File bs ≡ File cs → bs ≡ cs
 file_same bs cs h = cc
 
 -- two at one path have the same bytes
-agree : (s : Stock) (cs : List Checked) (x a b : List ℕ) → Right s cs x a → Right s cs x b → a ≡ b
+agree : (s : Stock) (cs : List CheckedCrate) (x a b : List ℕ) → Right s cs x a → Right s cs x b → a ≡ b
 agree s cs x a b (inl h) (inl k) =
     let one : x ≡ join (codes "index") h.0 = ap (λ (f : List ℕ × List ℕ). f.0) h.2 in
     let two : x ≡ join (codes "index") k.0 = ap (λ (f : List ℕ × List ℕ). f.0) k.2 in
@@ -118,17 +118,17 @@ agree s cs x a b (inr h) (inr k) = file_same a b (sym h.5 ∙ k.5)
 -- ---- what is put on a path
 
 -- what was checked has its facts
-pub record IsKnown (s : Stock) (c : Checked) : Type 0 where
+pub record IsKnown (s : Stock) (c : CheckedCrate) : Type 0 where
   pub utf8 : IsUtf8 c.version.name
   pub named : IsTrue (is_name c.version.name)
   pub path_is : relative_path (separator None) c.version.name ≡ c.path
   pub crate : s.host.stands (crate_path s.crates c.version.name c.version.version) ≡ File c.bytes
 
-abbrev pub AreKnown : Stock → List Checked → Type 0
+abbrev pub AreKnown : Stock → List CheckedCrate → Type 0
 AreKnown s [] = Unit {0}
 AreKnown s (c ∷ cs) = IsKnown s c × AreKnown s cs
 
-pub known : (s : Stock) (ps : List (ℕ × Package)) (cs : List Checked) → Facts s ps cs → AreTexts cs → AreKnown s cs
+pub known : (s : Stock) (ps : List (ℕ × Package)) (cs : List CheckedCrate) → Facts s ps cs → AreTexts cs → AreKnown s cs
 known s [] [] f t = tt
 known s [] (c ∷ cs) f t = absurd f
 known s (p ∷ ps) [] f t = absurd f
@@ -137,19 +137,19 @@ known s (p ∷ ps) (c ∷ cs) f t =
     (record { utf8 = t.0; named = named.0; path_is = named.1; crate = f.0.crate }, known s ps cs f.1 t.1)
 
 -- what is on a path is known, and has this path
-abbrev pub AreOn : Stock → List ℕ → List Checked → Type 0
+abbrev pub AreOn : Stock → List ℕ → List CheckedCrate → Type 0
 AreOn s q [] = Unit {0}
 AreOn s q (c ∷ cs) = IsKnown s c × (c.path ≡ q) × AreOn s q cs
 
-on_case : (t : Bool) (s : Stock) (q : List ℕ) (c : Checked) (cs : List Checked) → is_on q c ≡ t → IsKnown s c → AreOn s q cs → AreOn s q (cond t (c ∷ cs) cs)
+on_case : (t : Bool) (s : Stock) (q : List ℕ) (c : CheckedCrate) (cs : List CheckedCrate) → is_on q c ≡ t → IsKnown s c → AreOn s q cs → AreOn s q (cond t (c ∷ cs) cs)
 on_case true s q c cs is known all = (known, (bytes_eq-Decides c.path q).0 is, all)
 on_case false s q c cs is known all = all
 
-pub on_known : (s : Stock) (q : List ℕ) (cs : List Checked) → AreKnown s cs → AreOn s q (on q cs)
+pub on_known : (s : Stock) (q : List ℕ) (cs : List CheckedCrate) → AreKnown s cs → AreOn s q (on q cs)
 on_known s q [] all = tt
 on_known s q (c ∷ cs) all = on_case (is_on q c) s q c (on q cs) refl all.0 (on_known s q cs all.1)
 
-crates_right : (s : Stock) (all : List Checked) (q : List ℕ) (cs : List Checked) → AreOn s q cs → AreRight s all (map crate_entry cs)
+crates_right : (s : Stock) (all : List CheckedCrate) (q : List ℕ) (cs : List CheckedCrate) → AreOn s q cs → AreRight s all (map crate_entry cs)
 crates_right s all q [] are = tt
 crates_right s all q (c ∷ cs) are = (
   crate_inner c.version.name c.version.version are.0.utf8 are.0.named,
@@ -157,15 +157,15 @@ crates_right s all q (c ∷ cs) are = (
   crates_right s all q cs are.2,
 )
 
-front_of : (s : Stock) (q : List ℕ) (c : Checked) → IsKnown s c → c.path ≡ q → begins_with_slash q ≡ false
+front_of : (s : Stock) (q : List ℕ) (c : CheckedCrate) → IsKnown s c → c.path ≡ q → begins_with_slash q ≡ false
 front_of s q c k is =
     subst (λ p. begins_with_slash p ≡ false) (k.path_is ∙ is) (path_front c.version.name k.utf8 k.named)
 
-inner_of : (s : Stock) (q : List ℕ) (c : Checked) → IsKnown s c → c.path ≡ q → IsInner (join (codes "index") q)
+inner_of : (s : Stock) (q : List ℕ) (c : CheckedCrate) → IsKnown s c → c.path ≡ q → IsInner (join (codes "index") q)
 inner_of s q c k is =
     subst (λ p. IsInner (join (codes "index") p)) (k.path_is ∙ is) (index_inner c.version.name k.utf8 k.named)
 
-path_right : (s : Stock) (all : List Checked) (q : List ℕ) (cs : List Checked) → cs ≡ on q all → AreOn s q cs → AreRight s all (path_files q cs)
+path_right : (s : Stock) (all : List CheckedCrate) (q : List ℕ) (cs : List CheckedCrate) → cs ≡ on q all → AreOn s q cs → AreRight s all (path_files q cs)
 path_right s all q [] is are = tt
 path_right s all q (c ∷ cs) is are = (
   inner_of s q c are.0 are.1,
@@ -173,7 +173,7 @@ path_right s all q (c ∷ cs) is are = (
   crates_right s all q (c ∷ cs) are,
 )
 
-paths_right : (s : Stock) (all : List Checked) (qs : List (List ℕ)) → AreKnown s all → AreRight s all (flat_map (λ q. path_files q (on q all)) qs)
+paths_right : (s : Stock) (all : List CheckedCrate) (qs : List (List ℕ)) → AreKnown s all → AreRight s all (flat_map (λ q. path_files q (on q all)) qs)
 paths_right s all [] known = tt
 paths_right s all (q ∷ qs) known =
     right_append s all (path_files q (on q all)) (flat_map (λ q. path_files q (on q all)) qs)
@@ -181,7 +181,7 @@ paths_right s all (q ∷ qs) known =
 
 -- ---- changes and files
 
-crates_last : (s : Stock) (folder q : List ℕ) (cs : List Checked) (x : List ℕ) (o : Option (List ℕ)) → AreOn s q cs → IsInner x
+crates_last : (s : Stock) (folder q : List ℕ) (cs : List CheckedCrate) (x : List ℕ) (o : Option (List ℕ)) → AreOn s q cs → IsInner x
     → last_at (map (crate_made folder) cs) (join folder x) o ≡ last_in (map crate_entry cs) x o
 crates_last s folder q [] x o are inner = refl
 crates_last s folder q (c ∷ cs) x o are inner =
@@ -189,18 +189,18 @@ crates_last s folder q (c ∷ cs) x o are inner =
     (same_inner folder (crate_file c.version.name c.version.version) x (crate_inner c.version.name c.version.version are.0.utf8 are.0.named) inner)
     ∙ crates_last s folder q cs x (cond (bytes_eq (crate_file c.version.name c.version.version) x) (Some c.bytes) o) are.2 inner
 
-path_last : (s : Stock) (folder q : List ℕ) (cs : List Checked) (x : List ℕ) (o : Option (List ℕ)) → AreOn s q cs → IsInner x
+path_last : (s : Stock) (folder q : List ℕ) (cs : List CheckedCrate) (x : List ℕ) (o : Option (List ℕ)) → AreOn s q cs → IsInner x
     → last_at (path_made folder q cs) (join folder x) o ≡ last_in (path_files q cs) x o
 path_last s folder q [] x o are inner = refl
 path_last s folder q (c ∷ cs) x o are inner =
-    let lines : List ℕ = json_lines (map (λ (d : Checked). d.version) (c ∷ cs)) in
+    let lines : List ℕ = json_lines (map (λ (d : CheckedCrate). d.version) (c ∷ cs)) in
     ap (λ p. last_at (map (crate_made folder) (c ∷ cs)) (join folder x) (cond (is_same p (join folder x)) (Some lines) o))
     (index_join folder q (front_of s q c are.0 are.1))
     ∙ ap (λ t. last_at (map (crate_made folder) (c ∷ cs)) (join folder x) (cond t (Some lines) o))
     (same_inner folder (join (codes "index") q) x (inner_of s q c are.0 are.1) inner)
     ∙ crates_last s folder q (c ∷ cs) x (cond (bytes_eq (join (codes "index") q) x) (Some lines) o) are inner
 
-paths_last : (s : Stock) (folder : List ℕ) (all : List Checked) (qs : List (List ℕ)) (x : List ℕ) (o : Option (List ℕ)) → AreKnown s all → IsInner x
+paths_last : (s : Stock) (folder : List ℕ) (all : List CheckedCrate) (qs : List (List ℕ)) (x : List ℕ) (o : Option (List ℕ)) → AreKnown s all → IsInner x
     → last_at (paths_made folder all qs) (join folder x) o ≡ last_in (flat_map (λ q. path_files q (on q all)) qs) x o
 paths_last s folder all [] x o known inner = refl
 paths_last s folder all (q ∷ qs) x o known inner =
@@ -211,7 +211,7 @@ paths_last s folder all (q ∷ qs) x o known inner =
 
 -- ---- the folder
 
-all_bytes : (s : Stock) (folder : List ℕ) (cs : List Checked) (host : Host) (x : List ℕ) → StandsPlain host.stands → AreKnown s cs → IsInner x
+all_bytes : (s : Stock) (folder : List ℕ) (cs : List CheckedCrate) (host : Host) (x : List ℕ) → StandsPlain host.stands → AreKnown s cs → IsInner x
     → bytes_in ((after (all_made folder cs) host).stands (join folder x)) ≡ last_in (vendored_files cs) x (bytes_in (host.stands (join folder x)))
 all_bytes s folder cs host x plain known inner =
     after_bytes (all_made folder cs) host (join folder x) plain
@@ -221,7 +221,7 @@ none_case : {A : Type 0} (b : List ℕ) (o : A ⊎ (None ≡ Some b)) → A
 none_case b (inl a) = a
 none_case b (inr h) = cc
 
-pub holds_each : (s : Stock) (folder : List ℕ) (cs : List Checked) (host : Host) → StandsPlain host.stands → AreKnown s cs
+pub holds_each : (s : Stock) (folder : List ℕ) (cs : List CheckedCrate) (host : Host) → StandsPlain host.stands → AreKnown s cs
     → HoldsEach (after (all_made folder cs) host) folder (vendored_files cs)
 holds_each s folder cs host plain known =
     let right : AreRight s cs (vendored_files cs) = paths_right s cs (paths_of cs) known in
@@ -230,7 +230,7 @@ holds_each s folder cs host plain known =
     file_in _ b (all_bytes s folder cs host x plain known at.0
     ∙ stands_last x b (vendored_files cs) (bytes_in (host.stands (join folder x))) (λ other h. agree s cs x other b (right_at s cs x other (vendored_files cs) right h).1 at.1) among)
 
-pub holds_no_other : (s : Stock) (folder : List ℕ) (cs : List Checked) (host : Host) → StandsPlain host.stands → AreKnown s cs → IsBare host folder
+pub holds_no_other : (s : Stock) (folder : List ℕ) (cs : List CheckedCrate) (host : Host) → StandsPlain host.stands → AreKnown s cs → IsBare host folder
     → HoldsNoOther (after (all_made folder cs) host) folder (vendored_files cs)
 holds_no_other s folder cs host plain known bare = λ x b inner is.
     let nothing : bytes_in (host.stands (join folder x)) ≡ None = ap bytes_in (bare x inner) in
@@ -240,20 +240,20 @@ holds_no_other s folder cs host plain known bare = λ x b inner is.
 
 -- ---- bytes
 
-crates_size : (folder : List ℕ) (cs : List Checked) → builders.size_of (map (crate_made folder) cs) ≡ size_of (map crate_entry cs)
+crates_size : (folder : List ℕ) (cs : List CheckedCrate) → builders.size_of (map (crate_made folder) cs) ≡ size_of (map crate_entry cs)
 crates_size folder [] = refl
 crates_size folder (c ∷ cs) = ap (λ n. length c.bytes + n) (crates_size folder cs)
 
-path_size : (folder q : List ℕ) (cs : List Checked) → builders.size_of (path_made folder q cs) ≡ size_of (path_files q cs)
+path_size : (folder q : List ℕ) (cs : List CheckedCrate) → builders.size_of (path_made folder q cs) ≡ size_of (path_files q cs)
 path_size folder q [] = refl
 path_size folder q (c ∷ cs) =
-    ap (λ n. length (json_lines (map (λ (d : Checked). d.version) (c ∷ cs))) + n) (crates_size folder (c ∷ cs))
+    ap (λ n. length (json_lines (map (λ (d : CheckedCrate). d.version) (c ∷ cs))) + n) (crates_size folder (c ∷ cs))
 
 files_append : (es fs : Files) → size_of (es ++ fs) ≡ size_of es + size_of fs
 files_append [] fs = sym (zero-add (size_of fs))
 files_append (e ∷ es) fs = ap (λ n. length e.1 + n) (files_append es fs) ∙ sym (add_assoc (length e.1) (size_of es) (size_of fs))
 
-paths_size : (folder : List ℕ) (all : List Checked) (qs : List (List ℕ)) → builders.size_of (paths_made folder all qs) ≡ size_of (flat_map (λ q. path_files q (on q all)) qs)
+paths_size : (folder : List ℕ) (all : List CheckedCrate) (qs : List (List ℕ)) → builders.size_of (paths_made folder all qs) ≡ size_of (flat_map (λ q. path_files q (on q all)) qs)
 paths_size folder all [] = refl
 paths_size folder all (q ∷ qs) =
     size_append (path_made folder q (on q all)) (paths_made folder all qs)
@@ -261,5 +261,5 @@ paths_size folder all (q ∷ qs) =
     ∙ ap (λ n. size_of (path_files q (on q all)) + n) (paths_size folder all qs)
     ∙ sym (files_append (path_files q (on q all)) (flat_map (λ q. path_files q (on q all)) qs))
 
-pub all_size : (folder : List ℕ) (cs : List Checked) → builders.size_of (all_made folder cs) ≡ size_of (vendored_files cs)
+pub all_size : (folder : List ℕ) (cs : List CheckedCrate) → builders.size_of (all_made folder cs) ≡ size_of (vendored_files cs)
 all_size folder cs = paths_size folder cs (paths_of cs)

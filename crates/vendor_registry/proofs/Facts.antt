@@ -10,7 +10,7 @@ use Rattle.tame_local.specs.Digests.{has_digest}
 use Rattle.audit_lock.specs.declared.resolving.Package.{Package}
 use Rattle.vendor_registry.specs.Checks.{Stock, all_checked, and_then, checked, checked_at, crate_bytes, crate_checked, crate_path, deciding, decided, file_records, is_of_package, named_so, or_fault, valid_bytes}
 use Rattle.vendor_registry.specs.Named.{ArePathed}
-use Rattle.vendor_registry.specs.declared.checks.Checked.{Checked}
+use Rattle.vendor_registry.specs.declared.checks.CheckedCrate.{CheckedCrate}
 use Rattle.vendor_registry.specs.declared.faults.VendorFault.{VendorFault}
 use Rattle.vendor_registry.specs.declared.faults.VendorFault.TheVariants as fault
 
@@ -43,7 +43,7 @@ same_text xs ys h = (bytes_eq-Decides xs ys).0 h
 
 -- ---- one package
 
-pub record Fact (s : Stock) (place : ℕ) (p : Package) (c : Checked) : Type 0 where
+pub record Fact (s : Stock) (place : ℕ) (p : Package) (c : CheckedCrate) : Type 0 where
   pub path_is : path p.name ≡ Some c.path
   pub name_is : c.version.name ≡ p.name
   pub records : List IndexVersion
@@ -60,7 +60,7 @@ decided_ok place p records v h =
     let some : deciding p.version records ≡ Some v = or_fault_ok (fault.NoVersion place) (deciding p.version records) found.0 found.1 ∙ ap Some named.1 in
     (some, ap (λ (w : IndexVersion). w.name) (sym named.1) ∙ same_text found.0.name p.name named.0)
 
-pub fact_of : (s : Stock) (place : ℕ) (p : Package) (c : Checked) → checked s place p ≡ Ok c → Fact s place p c
+pub fact_of : (s : Stock) (place : ℕ) (p : Package) (c : CheckedCrate) → checked s place p ≡ Ok c → Fact s place p c
 fact_of s place p c h =
     let at = and_then_ok (checked_at s place p) (or_fault (fault.Name place) (path p.name)) c h in
     let q : List ℕ = at.0 in
@@ -71,7 +71,7 @@ fact_of s place p c h =
     let decides = decided_ok place p lines.0 v lines.2 in
     let bytes_at = and_then_ok (valid_bytes place q v) (crate_bytes place (crate_path s.crates v.name v.version) (s.host.stands (crate_path s.crates v.name v.version))) c record_at.2 in
     let bytes : List ℕ = bytes_at.0 in
-    let made : Checked = record { place = place; path = q; version = v; bytes = bytes } in
+    let made : CheckedCrate = record { place = place; path = q; version = v; bytes = bytes } in
     let valid = cond_ok (has_digest bytes v.checksum.0) made c _ bytes_at.2 in
     let there : s.host.stands (crate_path s.crates v.name v.version) ≡ File bytes = crate_there place _ _ bytes bytes_at.1 in
     subst (Fact s place p) valid.1 (record {
@@ -86,18 +86,18 @@ fact_of s place p c h =
 
 -- ---- all packages
 
-abbrev pub Facts : Stock → List (ℕ × Package) → List Checked → Type 0
+abbrev pub Facts : Stock → List (ℕ × Package) → List CheckedCrate → Type 0
 Facts s [] [] = Unit {0}
 Facts s [] (c ∷ cs) = ⊥
 Facts s (p ∷ ps) [] = ⊥
 Facts s (p ∷ ps) (c ∷ cs) = Fact s p.0 p.1 c × Facts s ps cs
 
-pub facts_of : (s : Stock) (ps : List (ℕ × Package)) (cs : List Checked) → all_checked s ps ≡ Ok cs → Facts s ps cs
+pub facts_of : (s : Stock) (ps : List (ℕ × Package)) (cs : List CheckedCrate) → all_checked s ps ≡ Ok cs → Facts s ps cs
 facts_of s [] [] h = tt
 facts_of s [] (c ∷ cs) h = cc
 facts_of s (p ∷ ps) all h =
-    let one = and_then_ok (λ c. and_then (λ (cs : List Checked). Ok (c ∷ cs)) (all_checked s ps)) (checked s p.0 p.1) all h in
-    let more = and_then_ok (λ (cs : List Checked). Ok (one.0 ∷ cs)) (all_checked s ps) all one.2 in
+    let one = and_then_ok (λ c. and_then (λ (cs : List CheckedCrate). Ok (c ∷ cs)) (all_checked s ps)) (checked s p.0 p.1) all h in
+    let more = and_then_ok (λ (cs : List CheckedCrate). Ok (one.0 ∷ cs)) (all_checked s ps) all one.2 in
     let same : one.0 ∷ more.0 ≡ all = cc in
     subst (Facts s (p ∷ ps)) same (fact_of s p.0 p.1 one.0 one.1, facts_of s ps more.0 more.1)
 
@@ -111,7 +111,7 @@ named_case false q r h = cc
 pub path_of_name : (name q : List ℕ) → path name ≡ Some q → IsTrue (is_name name) × (relative_path (separator None) name ≡ q)
 path_of_name name q h = named_case (is_name name) (relative_path (separator None) name) q h
 
-pub pathed : (s : Stock) (ps : List (ℕ × Package)) (cs : List Checked) → Facts s ps cs → ArePathed cs
+pub pathed : (s : Stock) (ps : List (ℕ × Package)) (cs : List CheckedCrate) → Facts s ps cs → ArePathed cs
 pathed s [] [] f = tt
 pathed s [] (c ∷ cs) f = absurd f
 pathed s (p ∷ ps) [] f = absurd f
@@ -127,15 +127,15 @@ checked_is s place p q records v named kept decides =
     ∙ ap (λ r. and_then (crate_checked s place q) (and_then (decided place p) r)) kept
     ∙ ap (and_then (crate_checked s place q)) decides
 
-pub package_ok : (one other : Result Checked VendorFault) (r : Result Checked VendorFault) → one ≡ other → IfOk r (λ c. other ≡ Ok c) → IfOk r (λ c. one ≡ Ok c)
+pub package_ok : (one other : Result CheckedCrate VendorFault) (r : Result CheckedCrate VendorFault) → one ≡ other → IfOk r (λ c. other ≡ Ok c) → IfOk r (λ c. one ≡ Ok c)
 package_ok one other (Ok c) same h = same ∙ h
 package_ok one other (Err e) same h = tt
 
-pub package_refused : (one other : Result Checked VendorFault) (r : Result Checked VendorFault) → one ≡ other → IfErr r (λ e. IsTrue (is_of_package e) → other ≡ Err e)
+pub package_refused : (one other : Result CheckedCrate VendorFault) (r : Result CheckedCrate VendorFault) → one ≡ other → IfErr r (λ e. IsTrue (is_of_package e) → other ≡ Err e)
     → IfErr r (λ e. IsTrue (is_of_package e) → one ≡ Err e)
 package_refused one other (Ok c) same h = tt
 package_refused one other (Err e) same h = λ told. same ∙ h told
 
-pub text_ok : (v : IndexVersion) (name : List ℕ) (r : Result Checked VendorFault) → IsUtf8 name → v.name ≡ name → IfOk r (λ c. c.version ≡ v) → IfOk r (λ c. IsUtf8 c.version.name)
+pub text_ok : (v : IndexVersion) (name : List ℕ) (r : Result CheckedCrate VendorFault) → IsUtf8 name → v.name ≡ name → IfOk r (λ c. c.version ≡ v) → IfOk r (λ c. IsUtf8 c.version.name)
 text_ok v name (Ok c) utf8 same h = subst IsUtf8 (sym same ∙ ap (λ (w : IndexVersion). w.name) (sym h)) utf8
 text_ok v name (Err e) utf8 same h = tt

@@ -25,37 +25,37 @@ use Rattle.vendor_registry.proofs.Facts.{path_of_name}
 use Rattle.vendor_registry.specs.Built.{IsFilled, IsTakenAt, crate_made, free_fault, path_made, paths_made}
 use Rattle.vendor_registry.specs.Named.{ArePathed}
 use Rattle.vendor_registry.specs.Vendored.{is_on, on}
-use Rattle.vendor_registry.specs.declared.checks.Checked.{Checked}
+use Rattle.vendor_registry.specs.declared.checks.CheckedCrate.{CheckedCrate}
 use Rattle.vendor_registry.specs.declared.faults.VendorFault.TheVariants as fault
 
 -- ---- one path
 
-abbrev ArePathedOn : List ℕ → List Checked → Type 0
+abbrev ArePathedOn : List ℕ → List CheckedCrate → Type 0
 ArePathedOn q [] = Unit {0}
 ArePathedOn q (c ∷ cs) = (path c.version.name ≡ Some c.path) × (c.path ≡ q) × ArePathedOn q cs
 
-on_case : (t : Bool) (q : List ℕ) (c : Checked) (cs : List Checked) → is_on q c ≡ t → path c.version.name ≡ Some c.path → ArePathedOn q cs → ArePathedOn q (cond t (c ∷ cs) cs)
+on_case : (t : Bool) (q : List ℕ) (c : CheckedCrate) (cs : List CheckedCrate) → is_on q c ≡ t → path c.version.name ≡ Some c.path → ArePathedOn q cs → ArePathedOn q (cond t (c ∷ cs) cs)
 on_case true q c cs is named all = (named, (bytes_eq-Decides c.path q).0 is, all)
 on_case false q c cs is named all = all
 
-pathed_on : (q : List ℕ) (cs : List Checked) → ArePathed cs → ArePathedOn q (on q cs)
+pathed_on : (q : List ℕ) (cs : List CheckedCrate) → ArePathed cs → ArePathedOn q (on q cs)
 pathed_on q [] all = tt
 pathed_on q (c ∷ cs) all = on_case (is_on q c) q c (on q cs) refl all.0 (pathed_on q cs all.1)
 
-inserted_at : (folder q : List ℕ) (cs : List Checked) (vs : List IndexVersion) (ks : List ValidKrate) → ArePathedOn q cs → vs ≡ map (λ (c : Checked). c.version) cs
+inserted_at : (folder q : List ℕ) (cs : List CheckedCrate) (vs : List IndexVersion) (ks : List ValidKrate) → ArePathedOn q cs → vs ≡ map (λ (c : CheckedCrate). c.version) cs
     → (length vs == 0) ≡ false → crates_made folder ks ≡ map (crate_made folder) cs → inserted folder (first_name vs) vs ks ≡ path_made folder q cs
 inserted_at folder q [] vs ks are is some crates =
     absurd (false≢true (sym some ∙ ap (λ (ws : List IndexVersion). length ws == 0) is))
 inserted_at folder q (c ∷ cs) vs ks are is some crates =
     let file : List ℕ = join (index_of folder) q in
-    let lines : List ℕ = json_lines (map (λ (d : Checked). d.version) (c ∷ cs)) in
+    let lines : List ℕ = json_lines (map (λ (d : CheckedCrate). d.version) (c ∷ cs)) in
     let relative : relative_path (separator None) c.version.name ≡ q = (path_of_name c.version.name c.path are.0).1 ∙ are.1 in
     let file_is : index_file (index_of folder) (first_name vs) ≡ file =
     ap (λ (ws : List IndexVersion). index_file (index_of folder) (first_name ws)) is ∙ ap (join (index_of folder)) relative in
     ap (λ f. written folder f (json_lines vs) ks) file_is ∙ ap (λ (ws : List IndexVersion). written folder file (json_lines ws) ks) is
     ∙ ap (λ more. Makes (unwrap_or (parent file) []) ∷ Creates file lines ∷ more) crates
 
-pub inserted_is : (folder q : List ℕ) (all : List Checked) (vs : List IndexVersion) (ks : List ValidKrate) → ArePathed all → vs ≡ map (λ (c : Checked). c.version) (on q all)
+pub inserted_is : (folder q : List ℕ) (all : List CheckedCrate) (vs : List IndexVersion) (ks : List ValidKrate) → ArePathed all → vs ≡ map (λ (c : CheckedCrate). c.version) (on q all)
     → (length vs == 0) ≡ false → crates_made folder ks ≡ map (crate_made folder) (on q all) → inserted folder (first_name vs) vs ks ≡ path_made folder q (on q all)
 inserted_is folder q all vs ks pathed is some crates = inserted_at folder q (on q all) vs ks (pathed_on q all pathed) is some crates
 
@@ -68,7 +68,7 @@ absent_there None p (Folder es) h = cc
 absent_there None p Other h = cc
 absent_there (Some why) p s h = cc
 
-filled_at : (folder q : List ℕ) (cs : List Checked) (vs : List IndexVersion) (host : Host) → ArePathedOn q cs → vs ≡ map (λ (c : Checked). c.version) cs
+filled_at : (folder q : List ℕ) (cs : List CheckedCrate) (vs : List IndexVersion) (host : Host) → ArePathedOn q cs → vs ≡ map (λ (c : CheckedCrate). c.version) cs
     → AreWritten vs → insertable folder (first_name vs) host ≡ Ok tt → IsFilled folder q cs host
 filled_at folder q [] vs host are is written can = tt
 filled_at folder q (c ∷ cs) vs host are is written can =
@@ -80,7 +80,7 @@ filled_at folder q (c ∷ cs) vs host are is written can =
       subst AreWritten is written,
     )
 
-pub filled_is : (folder q : List ℕ) (all : List Checked) (vs : List IndexVersion) (host : Host) → ArePathed all → vs ≡ map (λ (c : Checked). c.version) (on q all)
+pub filled_is : (folder q : List ℕ) (all : List CheckedCrate) (vs : List IndexVersion) (host : Host) → ArePathed all → vs ≡ map (λ (c : CheckedCrate). c.version) (on q all)
     → AreWritten vs → insertable folder (first_name vs) host ≡ Ok tt → IsFilled folder q (on q all) host
 filled_is folder q all vs host pathed is written can = filled_at folder q (on q all) vs host (pathed_on q all pathed) is written can
 
@@ -91,7 +91,7 @@ absent_some None p (Folder es) n q h = refl
 absent_some None p Other n q h = refl
 absent_some (Some why) p s n q h = cc
 
-taken_at : (folder q : List ℕ) (cs : List Checked) (vs : List IndexVersion) (host : Host) (n : ℕ) (p : List ℕ) → ArePathedOn q cs → vs ≡ map (λ (c : Checked). c.version) cs
+taken_at : (folder q : List ℕ) (cs : List CheckedCrate) (vs : List IndexVersion) (host : Host) (n : ℕ) (p : List ℕ) → ArePathedOn q cs → vs ≡ map (λ (c : CheckedCrate). c.version) cs
     → (length vs == 0) ≡ false → insertable folder (first_name vs) host ≡ Err (Occupied n p) → IsTakenAt folder q cs host
 taken_at folder q [] vs host n p are is some taken =
     absurd (false≢true (sym some ∙ ap (λ (ws : List IndexVersion). length ws == 0) is))
@@ -103,7 +103,7 @@ taken_at folder q (c ∷ cs) vs host n p are is some taken =
     ap (λ x. is_nothing (host.stands x)) (sym file_is)
     ∙ absent_some (refusal_of name) (index_file (index_of folder) name) (host.stands (index_file (index_of folder) name)) n p taken
 
-pub taken_is : (folder q : List ℕ) (all : List Checked) (vs : List IndexVersion) (host : Host) (n : ℕ) (p : List ℕ) → ArePathed all → vs ≡ map (λ (c : Checked). c.version) (on q all)
+pub taken_is : (folder q : List ℕ) (all : List CheckedCrate) (vs : List IndexVersion) (host : Host) (n : ℕ) (p : List ℕ) → ArePathed all → vs ≡ map (λ (c : CheckedCrate). c.version) (on q all)
     → (length vs == 0) ≡ false → insertable folder (first_name vs) host ≡ Err (Occupied n p) → IsTakenAt folder q (on q all) host
 taken_is folder q all vs host n p pathed is some taken = taken_at folder q (on q all) vs host n p (pathed_on q all pathed) is some taken
 
@@ -153,13 +153,13 @@ no_folder p Other q h = refl
 
 -- ---- paths that are left
 
-pub made_more : (folder : List ℕ) (cs : List Checked) (q : List ℕ) (ps left : List (List ℕ)) (whole mid now : Host) → left ≡ q ∷ ps
+pub made_more : (folder : List ℕ) (cs : List CheckedCrate) (q : List ℕ) (ps left : List (List ℕ)) (whole mid now : Host) → left ≡ q ∷ ps
     → whole ≡ after (paths_made folder cs left) mid → now ≡ after (path_made folder q (on q cs)) mid → whole ≡ after (paths_made folder cs ps) now
 made_more folder cs q ps left whole mid now at so_far done =
     so_far ∙ ap (λ l. after (paths_made folder cs l) mid) at ∙ after_append (path_made folder q (on q cs)) (paths_made folder cs ps) mid
     ∙ ap (after (paths_made folder cs ps)) (sym done)
 
-pub size_more : (folder : List ℕ) (cs : List Checked) (q : List ℕ) (ps left : List (List ℕ)) → left ≡ q ∷ ps
+pub size_more : (folder : List ℕ) (cs : List CheckedCrate) (q : List ℕ) (ps left : List (List ℕ)) → left ≡ q ∷ ps
     → size_of (paths_made folder cs left) ≡ size_of (path_made folder q (on q cs)) + size_of (paths_made folder cs ps)
 size_more folder cs q ps left at =
     ap (λ l. size_of (paths_made folder cs l)) at ∙ size_append (path_made folder q (on q cs)) (paths_made folder cs ps)

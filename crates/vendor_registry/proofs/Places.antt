@@ -21,7 +21,7 @@ use Rattle.vendor_registry.specs.Built.{AreFilled, IsFilled, IsReadBack, all_mad
 use Rattle.vendor_registry.specs.Checks.{Stock}
 use Rattle.vendor_registry.specs.Named.{IsPlace}
 use Rattle.vendor_registry.specs.Vendored.{on, paths_of}
-use Rattle.vendor_registry.specs.declared.checks.Checked.{Checked}
+use Rattle.vendor_registry.specs.declared.checks.CheckedCrate.{CheckedCrate}
 
 abbrev slashed : List ℕ → List ℕ
 slashed w = w ++ 47 ∷ []
@@ -64,35 +64,35 @@ slash_same w some = (bytes_eq-Decides (plain_path (slashed w)) (plain_path w)).1
 
 -- ---- the changes in it
 
-crates_same : (s : Stock) (w q : List ℕ) (cs : List Checked) → IsPlace w → AreOn s q cs → map (crate_made (slashed w)) cs ≡ map (crate_made w) cs
+crates_same : (s : Stock) (w q : List ℕ) (cs : List CheckedCrate) → IsPlace w → AreOn s q cs → map (crate_made (slashed w)) cs ≡ map (crate_made w) cs
 crates_same s w q [] place are = refl
 crates_same s w q (c ∷ cs) place are =
     let file : List ℕ = crate_file c.version.name c.version.version in
     ap (λ p. Creates p c.bytes ∷ map (crate_made (slashed w)) cs) (join_same w file place (crate_inner c.version.name c.version.version are.0.utf8 are.0.named).front)
     ∙ ap (λ more. crate_made w c ∷ more) (crates_same s w q cs place are.2)
 
-path_same : (s : Stock) (w q : List ℕ) (cs : List Checked) → IsPlace w → AreOn s q cs → path_made (slashed w) q cs ≡ path_made w q cs
+path_same : (s : Stock) (w q : List ℕ) (cs : List CheckedCrate) → IsPlace w → AreOn s q cs → path_made (slashed w) q cs ≡ path_made w q cs
 path_same s w q [] place are = refl
 path_same s w q (c ∷ cs) place are =
-    let lines : List ℕ = json_lines (map (λ (d : Checked). d.version) (c ∷ cs)) in
+    let lines : List ℕ = json_lines (map (λ (d : CheckedCrate). d.version) (c ∷ cs)) in
     ap (λ i. Makes (unwrap_or (parent (join i q)) []) ∷ Creates (join i q) lines ∷ map (crate_made (slashed w)) (c ∷ cs)) (index_same w place)
     ∙ ap (λ more. Makes (unwrap_or (parent (join (index_of w) q)) []) ∷ Creates (join (index_of w) q) lines ∷ more) (crates_same s w q (c ∷ cs) place are)
 
-paths_same : (s : Stock) (w : List ℕ) (all : List Checked) (qs : List (List ℕ)) → IsPlace w → AreKnown s all → paths_made (slashed w) all qs ≡ paths_made w all qs
+paths_same : (s : Stock) (w : List ℕ) (all : List CheckedCrate) (qs : List (List ℕ)) → IsPlace w → AreKnown s all → paths_made (slashed w) all qs ≡ paths_made w all qs
 paths_same s w all [] place known = refl
 paths_same s w all (q ∷ qs) place known =
     ap (λ more. more ++ paths_made (slashed w) all qs) (path_same s w q (on q all) place (on_known s q all known))
     ∙ ap (λ more. path_made w q (on q all) ++ more) (paths_same s w all qs place known)
 
-all_same : (s : Stock) (w : List ℕ) (all : List Checked) → IsPlace w → AreKnown s all → all_made (slashed w) all ≡ all_made w all
+all_same : (s : Stock) (w : List ℕ) (all : List CheckedCrate) → IsPlace w → AreKnown s all → all_made (slashed w) all ≡ all_made w all
 all_same s w all place known =
     ap (λ i. Makes i ∷ paths_made (slashed w) all (paths_of all)) (index_same w place) ∙ ap (λ more. created w ∷ more) (paths_same s w all (paths_of all) place known)
 
-filled_here : (w q : List ℕ) (cs : List Checked) (host : Host) → IsPlace w → IsFilled (slashed w) q cs host → IsFilled w q cs host
+filled_here : (w q : List ℕ) (cs : List CheckedCrate) (host : Host) → IsPlace w → IsFilled (slashed w) q cs host → IsFilled w q cs host
 filled_here w q [] host place is = tt
 filled_here w q (c ∷ cs) host place is = (ap (λ i. host.stands (join i q)) (sym (index_same w place)) ∙ is.0, is.1)
 
-filled_same : (s : Stock) (w : List ℕ) (all : List Checked) (qs : List (List ℕ)) (host : Host) → IsPlace w → AreKnown s all → AreFilled (slashed w) all qs host → AreFilled w all qs host
+filled_same : (s : Stock) (w : List ℕ) (all : List CheckedCrate) (qs : List (List ℕ)) (host : Host) → IsPlace w → AreKnown s all → AreFilled (slashed w) all qs host → AreFilled w all qs host
 filled_same s w all [] host place known are = tt
 filled_same s w all (q ∷ qs) host place known are = (
   filled_here w q (on q all) host place are.0,
@@ -102,7 +102,7 @@ filled_same s w all (q ∷ qs) host place known are = (
 
 -- ---- a registry in it
 
-pub read_back_same : (s : Stock) (w : List ℕ) (cs : List Checked) (before now : Host) (why : Error) → IsPlace w → AreKnown s cs → StandsPlain before.stands
+pub read_back_same : (s : Stock) (w : List ℕ) (cs : List CheckedCrate) (before now : Host) (why : Error) → IsPlace w → AreKnown s cs → StandsPlain before.stands
     → IsReadBack (slashed w) cs before now why → IsReadBack w cs before now why
 read_back_same s w cs before now why place known plain back =
     let index = index_same w place in

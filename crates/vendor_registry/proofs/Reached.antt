@@ -10,7 +10,7 @@ use Rattle.vendor_registry.specs.declared.faults.VendorFault.{VendorFault}
 use Rattle.vendor_registry.specs.declared.faults.VendorFault.TheVariants as fault
 use Rattle.vendor_registry.specs.Checks.{IsReached, IsStopped, Stock, all_checked, and_then, checked, crate_path}
 use Rattle.vendor_registry.specs.Looked.{is_looked, looked}
-use Rattle.vendor_registry.specs.declared.checks.Checked.{Checked}
+use Rattle.vendor_registry.specs.declared.checks.CheckedCrate.{CheckedCrate}
 
 -- ---- lists with their places
 
@@ -30,20 +30,20 @@ parted {A} f (x ∷ xs) ys = ap (λ (zs : List A). cond (f x) (x ∷ zs) zs) (pa
 
 -- ---- one package more
 
-more_case : (c : Checked) (r : Result Checked VendorFault) (rest more : Result (List Checked) VendorFault) (cs : List Checked)
-    → ((bs : List Checked) → rest ≡ Ok bs → more ≡ Ok (bs ++ c ∷ []))
-    → and_then (λ a. and_then (λ (bs : List Checked). Ok (a ∷ bs)) rest) r ≡ Ok cs → and_then (λ a. and_then (λ (bs : List Checked). Ok (a ∷ bs)) more) r ≡ Ok (cs ++ c ∷ [])
+more_case : (c : CheckedCrate) (r : Result CheckedCrate VendorFault) (rest more : Result (List CheckedCrate) VendorFault) (cs : List CheckedCrate)
+    → ((bs : List CheckedCrate) → rest ≡ Ok bs → more ≡ Ok (bs ++ c ∷ []))
+    → and_then (λ a. and_then (λ (bs : List CheckedCrate). Ok (a ∷ bs)) rest) r ≡ Ok cs → and_then (λ a. and_then (λ (bs : List CheckedCrate). Ok (a ∷ bs)) more) r ≡ Ok (cs ++ c ∷ [])
 more_case c (Err e) rest more cs next h = cc
 more_case c (Ok a) (Err e) more cs next h = cc
 more_case c (Ok a) (Ok bs) more cs next h =
     let same : a ∷ bs ≡ cs = cc in
-    ap (and_then (λ (ds : List Checked). Ok (a ∷ ds))) (next bs refl) ∙ ap (λ (ds : List Checked). Ok (ds ++ c ∷ [])) same
+    ap (and_then (λ (ds : List CheckedCrate). Ok (a ∷ ds))) (next bs refl) ∙ ap (λ (ds : List CheckedCrate). Ok (ds ++ c ∷ [])) same
 
-checked_more : (s : Stock) (ps : List (ℕ × Package)) (p : ℕ × Package) (cs : List Checked) (c : Checked) → all_checked s ps ≡ Ok cs → checked s p.0 p.1 ≡ Ok c
+checked_more : (s : Stock) (ps : List (ℕ × Package)) (p : ℕ × Package) (cs : List CheckedCrate) (c : CheckedCrate) → all_checked s ps ≡ Ok cs → checked s p.0 p.1 ≡ Ok c
     → all_checked s (ps ++ p ∷ []) ≡ Ok (cs ++ c ∷ [])
 checked_more s [] p cs c h done =
     let none : [] ≡ cs = cc in
-    ap (and_then (λ (a : Checked). and_then (λ (bs : List Checked). Ok (a ∷ bs)) (Ok []))) done ∙ ap (λ (ds : List Checked). Ok (ds ++ c ∷ [])) none
+    ap (and_then (λ (a : CheckedCrate). and_then (λ (bs : List CheckedCrate). Ok (a ∷ bs)) (Ok []))) done ∙ ap (λ (ds : List CheckedCrate). Ok (ds ++ c ∷ [])) none
 checked_more s (q ∷ qs) p cs c h done =
     more_case c (checked s q.0 q.1) (all_checked s qs) (all_checked s (qs ++ p ∷ [])) cs (λ bs is. checked_more s qs p bs c is done) h
 
@@ -63,17 +63,17 @@ front_next all i p low at =
     ∙ ap (filter (is_looked all)) (numbered 0 (take i all) (p ∷ []) ∙ ap (λ k. enumerate_from 0 (take i all) ++ enumerate_from k (p ∷ [])) size)
     ∙ parted (is_looked all) (enumerate_from 0 (take i all)) ((i, p) ∷ [])
 
-pub front_taken : (s : Stock) (all : List Package) (i : ℕ) (p : Package) (cs : List Checked) (c : Checked) → i < length all → p ≡ get_or all i p → is_looked all (i, p) ≡ true
+pub front_taken : (s : Stock) (all : List Package) (i : ℕ) (p : Package) (cs : List CheckedCrate) (c : CheckedCrate) → i < length all → p ≡ get_or all i p → is_looked all (i, p) ≡ true
     → all_checked s (front_of all i) ≡ Ok cs → checked s i p ≡ Ok c → all_checked s (front_of all (i + 1)) ≡ Ok (cs ++ c ∷ [])
 front_taken s all i p cs c low at is h done =
     ap (all_checked s) (front_next all i p low at ∙ ap (λ b. front_of all i ++ cond b ((i, p) ∷ []) []) is) ∙ checked_more s (front_of all i) (i, p) cs c h done
 
-pub front_passed : (s : Stock) (all : List Package) (i : ℕ) (p : Package) (cs : List Checked) → i < length all → p ≡ get_or all i p → is_looked all (i, p) ≡ false
+pub front_passed : (s : Stock) (all : List Package) (i : ℕ) (p : Package) (cs : List CheckedCrate) → i < length all → p ≡ get_or all i p → is_looked all (i, p) ≡ false
     → all_checked s (front_of all i) ≡ Ok cs → all_checked s (front_of all (i + 1)) ≡ Ok cs
 front_passed s all i p cs low at is h =
     ap (all_checked s) (front_next all i p low at ∙ ap (λ b. front_of all i ++ cond b ((i, p) ∷ []) []) is ∙ append-nil (front_of all i)) ∙ h
 
-pub reached_at : (s : Stock) (all : List Package) (i : ℕ) (p : Package) (cs : List Checked) → i < length all → p ≡ get_or all i p → is_looked all (i, p) ≡ true
+pub reached_at : (s : Stock) (all : List Package) (i : ℕ) (p : Package) (cs : List CheckedCrate) → i < length all → p ≡ get_or all i p → is_looked all (i, p) ≡ true
     → all_checked s (front_of all i) ≡ Ok cs → IsReached s (looked all) i p
 reached_at s all i p cs low at is h =
     let rest : List Package = drop (suc i) all in

@@ -23,10 +23,10 @@ use Rattle.tame_local.proofs.Standings.{file_stays, folders_nothing, ways_elsewh
 use Rattle.vendor_registry.specs.Built.{AreFilled, IsFilled, crate_made, path_made, paths_made}
 use Rattle.vendor_registry.specs.Named.{IsPlace}
 use Rattle.vendor_registry.specs.Vendored.{on}
-use Rattle.vendor_registry.specs.declared.checks.Checked.{Checked}
+use Rattle.vendor_registry.specs.declared.checks.CheckedCrate.{CheckedCrate}
 
 -- what was checked is on a path, and the first record of its version there has its checksum
-pub record IsStocked (q : List ℕ) (vs : List IndexVersion) (c : Checked) : Type 0 where
+pub record IsStocked (q : List ℕ) (vs : List IndexVersion) (c : CheckedCrate) : Type 0 where
   pub utf8 : IsUtf8 c.version.name
   pub named : IsTrue (is_name c.version.name)
   pub path_is : relative_path (separator None) c.version.name ≡ q
@@ -35,17 +35,17 @@ pub record IsStocked (q : List ℕ) (vs : List IndexVersion) (c : Checked) : Typ
   pub found : sum_in c.version.version vs ≡ Some c.version.checksum
   pub digest : has_digest c.bytes c.version.checksum.0 ≡ true
 
-abbrev pub AreStocked : List ℕ → List IndexVersion → List Checked → Type 0
+abbrev pub AreStocked : List ℕ → List IndexVersion → List CheckedCrate → Type 0
 AreStocked q vs [] = Unit {0}
 AreStocked q vs (c ∷ cs) = IsStocked q vs c × AreStocked q vs cs
 
 -- the index file of what was checked
-file_at : (r q : List ℕ) (vs : List IndexVersion) (c : Checked) → IsPlace r → IsStocked q vs c → join (index_of r) q ≡ file_of r c.version.name
+file_at : (r q : List ℕ) (vs : List IndexVersion) (c : CheckedCrate) → IsPlace r → IsStocked q vs c → join (index_of r) q ≡ file_of r c.version.name
 file_at r q vs c place is = ap (join (index_of r)) (sym is.path_is) ∙ file_is r c.version.name place is.utf8 is.named
 
 -- ---- crate files
 
-crates_kept : (r q : List ℕ) (vs : List IndexVersion) (cs : List Checked) (host : Host) → IsPlace r → records_in (json_lines vs) ≡ Ok vs → AreStocked q vs cs → Sound r host.stands
+crates_kept : (r q : List ℕ) (vs : List IndexVersion) (cs : List CheckedCrate) (host : Host) → IsPlace r → records_in (json_lines vs) ≡ Ok vs → AreStocked q vs cs → Sound r host.stands
     → host.stands (join (index_of r) q) ≡ File (json_lines vs) → Sound r (after (map (crate_made r) cs) host).stands
 crates_kept r q vs [] host place read all sound index = sound
 crates_kept r q vs (c ∷ cs) host place read all sound index =
@@ -68,11 +68,11 @@ crates_kept r q vs (c ∷ cs) host place read all sound index =
 
 -- ---- a path
 
-path_filled : (r q : List ℕ) (c : Checked) (cs : List Checked) (host : Host) → IsPlace r → AreStocked q (map (λ (d : Checked). d.version) (c ∷ cs)) (c ∷ cs)
-    → AreWritten (map (λ (d : Checked). d.version) (c ∷ cs)) → is_nothing (host.stands (join (index_of r) q)) ≡ true → Sound r host.stands
+path_filled : (r q : List ℕ) (c : CheckedCrate) (cs : List CheckedCrate) (host : Host) → IsPlace r → AreStocked q (map (λ (d : CheckedCrate). d.version) (c ∷ cs)) (c ∷ cs)
+    → AreWritten (map (λ (d : CheckedCrate). d.version) (c ∷ cs)) → is_nothing (host.stands (join (index_of r) q)) ≡ true → Sound r host.stands
     → Sound r (after (path_made r q (c ∷ cs)) host).stands
 path_filled r q c cs host place all written none sound =
-    let vs : List IndexVersion = map (λ (d : Checked). d.version) (c ∷ cs) in
+    let vs : List IndexVersion = map (λ (d : CheckedCrate). d.version) (c ∷ cs) in
     let is : IsStocked q vs c = all.0 in
     let name : List ℕ = c.version.name in
     let lines : List ℕ = json_lines vs in
@@ -97,15 +97,15 @@ path_filled r q c cs host place all written none sound =
     subst (λ p. Sound r (after (Makes (unwrap_or (parent p) []) ∷ Creates p lines ∷ map (crate_made r) (c ∷ cs)) host).stands) (sym file)
     (subst (λ f. Sound r (after (map (crate_made r) (c ∷ cs)) (with_file path lines (with_folders (ways_to f) host))).stands) (sym in_folder) kept)
 
-path_sound : (r q : List ℕ) (cs : List Checked) (host : Host) → IsPlace r → AreStocked q (map (λ (d : Checked). d.version) cs) cs → IsFilled r q cs host → Sound r host.stands
+path_sound : (r q : List ℕ) (cs : List CheckedCrate) (host : Host) → IsPlace r → AreStocked q (map (λ (d : CheckedCrate). d.version) cs) cs → IsFilled r q cs host → Sound r host.stands
     → Sound r (after (path_made r q cs) host).stands
 path_sound r q [] host place all filled sound = sound
 path_sound r q (c ∷ cs) host place all filled sound = path_filled r q c cs host place all filled.1 (ap is_nothing filled.0) sound
 
 -- ---- all paths
 
-pub paths_sound : (r : List ℕ) (all : List Checked) (qs : List (List ℕ)) (host : Host) → IsPlace r
-    → ((q : List ℕ) → AreStocked q (map (λ (d : Checked). d.version) (on q all)) (on q all)) → AreFilled r all qs host → Sound r host.stands
+pub paths_sound : (r : List ℕ) (all : List CheckedCrate) (qs : List (List ℕ)) (host : Host) → IsPlace r
+    → ((q : List ℕ) → AreStocked q (map (λ (d : CheckedCrate). d.version) (on q all)) (on q all)) → AreFilled r all qs host → Sound r host.stands
     → Sound r (after (paths_made r all qs) host).stands
 paths_sound r all [] host place stocked filled sound = sound
 paths_sound r all (q ∷ qs) host place stocked filled sound =

@@ -30,7 +30,7 @@ use Rattle.vendor_registry.specs.Failed.{IsToldIn, IsWithin}
 use Rattle.vendor_registry.specs.Looked.{looked}
 use Rattle.vendor_registry.specs.Named.{ArePathed, AreTexts, AreVersioned, IsFolderPath, IsPlace}
 use Rattle.vendor_registry.specs.Vendored.{HoldsEach, HoldsNoOther, IsBare, IsVendored, paths_of, size_of, vendored_files}
-use Rattle.vendor_registry.specs.declared.checks.Checked.{Checked}
+use Rattle.vendor_registry.specs.declared.checks.CheckedCrate.{CheckedCrate}
 use Rattle.vendor_registry.specs.declared.vendoring.Vendored.{Vendored}
 
 -- ---- a registry that was opened
@@ -70,12 +70,12 @@ opened host folder path h =
 
 -- ---- the paths of what was checked
 
-pub checked_pathed : (stock : Stock) (packages : List Package) (cs : List Checked) → all_checked stock (looked packages) ≡ Ok cs → ArePathed cs
+pub checked_pathed : (stock : Stock) (packages : List Package) (cs : List CheckedCrate) → all_checked stock (looked packages) ≡ Ok cs → ArePathed cs
 checked_pathed stock packages cs h = pathed stock (looked packages) cs (facts_of stock (looked packages) cs h)
 
 -- ---- the folder
 
-pub is_vendored : (stock : Stock) (packages : List Package) (to : List ℕ) (now : Host) (made : Vendored) (cs : List Checked)
+pub is_vendored : (stock : Stock) (packages : List Package) (to : List ℕ) (now : Host) (made : Vendored) (cs : List CheckedCrate)
     → all_checked stock (looked packages) ≡ Ok cs → AreTexts cs → StandsPlain stock.host.stands
     → now ≡ after (all_made to cs) stock.host → registry_at now to true ≡ Ok made.registry.index.path → made.packages ≡ length cs
     → made.bytes ≡ min (builders.size_of (all_made to cs)) (2 ^ 64 - 1) → IsVendored stock packages to now made
@@ -106,7 +106,7 @@ free_back path Other h = cc
 ok_no_err : {A : Type 0} (a : A) (e : LocalRefusal) → Ok a ≡ Err e → ⊥
 ok_no_err a e h = cc
 
-never_read_back : (stock : Stock) (packages : List Package) (to : List ℕ) (cs : List Checked) (before now : Host) (why : Error)
+never_read_back : (stock : Stock) (packages : List Package) (to : List ℕ) (cs : List CheckedCrate) (before now : Host) (why : Error)
     → all_checked stock (looked packages) ≡ Ok cs → AreTexts cs → StandsPlain before.stands → IsPlace to → AreVersioned packages
     → IsReadBack to cs before now why → ⊥
 never_read_back stock packages to cs before now why checks texts plain place versioned back =
@@ -122,7 +122,7 @@ never_read_back stock packages to cs before now why checks texts plain place ver
     (sym (registry_agrees to whole place sound) ∙ ap (λ h. registry_at h to true) (sym (back.made named)) ∙ back.refused)
 
 -- the same of a folder that is named with a slash at its end
-place_case : (stock : Stock) (packages : List Package) (w to : List ℕ) (cs : List Checked) (before now : Host) (why : Error)
+place_case : (stock : Stock) (packages : List Package) (w to : List ℕ) (cs : List CheckedCrate) (before now : Host) (why : Error)
     → all_checked stock (looked packages) ≡ Ok cs → AreTexts cs → StandsPlain before.stands → IsPlace w → AreVersioned packages
     → (to ≡ w) ⊎ (to ≡ w ++ 47 ∷ []) → IsReadBack to cs before now why → ⊥
 place_case stock packages w to cs before now why checks texts plain place versioned (inl is) back =
@@ -132,7 +132,7 @@ place_case stock packages w to cs before now why checks texts plain place versio
     (read_back_same stock w cs before now why place (known stock (looked packages) cs (facts_of stock (looked packages) cs checks) texts) plain
     (subst (λ p. IsReadBack p cs before now why) is back))
 
-pub no_read_back : (stock : Stock) (packages : List Package) (to : List ℕ) (cs : List Checked) (before now : Host) (why : Error)
+pub no_read_back : (stock : Stock) (packages : List Package) (to : List ℕ) (cs : List CheckedCrate) (before now : Host) (why : Error)
     → all_checked stock (looked packages) ≡ Ok cs → AreTexts cs → StandsPlain before.stands → IsFolderPath to → AreVersioned packages
     → IsReadBack to cs before now why → ⊥
 no_read_back stock packages to cs before now why checks texts plain path versioned back =
@@ -140,7 +140,7 @@ no_read_back stock packages to cs before now why checks texts plain path version
 
 -- ---- an index file that has come meanwhile
 
-pub occupied_before : (stock : Stock) (packages : List Package) (to : List ℕ) (cs : List Checked) (before now : Host) (n : ℕ)
+pub occupied_before : (stock : Stock) (packages : List Package) (to : List ℕ) (cs : List CheckedCrate) (before now : Host) (n : ℕ)
     → all_checked stock (looked packages) ≡ Ok cs → AreTexts cs → IsBare before to → IsOccupied (before.stands to) (fault.NotEmpty n)
     → (free_fault (before.stands to) ≡ None → IsTaken to cs (paths_of cs) (after_change (created to) before) now)
     → free_fault (before.stands to) ≡ Some (fault.NotEmpty n)
@@ -150,11 +150,11 @@ occupied_before stock packages to cs before now n checks texts bare (inr h) take
 
 -- ---- a call that failed
 
-pub by_build : (stock : Stock) (packages : List Package) (folder : List ℕ) (e : VendorFault) {cs : List Checked} → IsBuildFault e → IsToldIn folder e
+pub by_build : (stock : Stock) (packages : List Package) (folder : List ℕ) (e : VendorFault) {cs : List CheckedCrate} → IsBuildFault e → IsToldIn folder e
     → all_checked stock (looked packages) ≡ Ok cs → IsStoppedBy stock packages folder e
 by_build stock packages folder e fault within checks = inr (fault, within, is_ok (all_checked stock (looked packages)) checks)
   where
-    is_ok : (a : Result (List Checked) VendorFault) {cs : List Checked} → a ≡ Ok cs → IsOk a
+    is_ok : (a : Result (List CheckedCrate) VendorFault) {cs : List CheckedCrate} → a ≡ Ok cs → IsOk a
     is_ok (Ok cs) h = refl
     is_ok (Err e) h = cc
 
@@ -165,12 +165,12 @@ outside_unwritten folder at e P within is outside =
 
 -- ---- what was checked is so alone
 
-pub one_checked : (r : Result (List Checked) VendorFault) (a b : List Checked) → r ≡ Ok a → r ≡ Ok b → a ≡ b
+pub one_checked : (r : Result (List CheckedCrate) VendorFault) (a b : List CheckedCrate) → r ≡ Ok a → r ≡ Ok b → a ≡ b
 one_checked r a b h k = cc (h, k)
 
 -- the numbers of crate files and of bytes by what was checked
-pub numbers_of : (to : List ℕ) (packages bytes : ℕ) (cs others : List Checked) → cs ≡ others → packages ≡ length cs → bytes ≡ min (builders.size_of (all_made to cs)) (2 ^ 64 - 1)
+pub numbers_of : (to : List ℕ) (packages bytes : ℕ) (cs others : List CheckedCrate) → cs ≡ others → packages ≡ length cs → bytes ≡ min (builders.size_of (all_made to cs)) (2 ^ 64 - 1)
     → (packages ≡ length others) × (bytes ≡ min (size_of (vendored_files others)) (2 ^ 64 - 1))
 numbers_of to packages bytes cs others same count size =
-    subst (λ (ds : List Checked). (packages ≡ length ds) × (bytes ≡ min (size_of (vendored_files ds)) (2 ^ 64 - 1))) same
+    subst (λ (ds : List CheckedCrate). (packages ≡ length ds) × (bytes ≡ min (size_of (vendored_files ds)) (2 ^ 64 - 1))) same
     (count, size ∙ ap (λ m. min m (2 ^ 64 - 1)) (all_size to cs))

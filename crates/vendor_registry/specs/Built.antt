@@ -16,18 +16,18 @@ use Rattle.vendor_registry.specs.Failed.{IsToldIn}
 use Rattle.vendor_registry.specs.Looked.{looked}
 use Rattle.vendor_registry.specs.Named.{ArePathed}
 use Rattle.vendor_registry.specs.Vendored.{on, paths_of}
-use Rattle.vendor_registry.specs.declared.checks.Checked.{Checked}
+use Rattle.vendor_registry.specs.declared.checks.CheckedCrate.{CheckedCrate}
 use Rattle.vendor_registry.specs.declared.faults.VendorFault.{VendorFault}
 use Rattle.vendor_registry.specs.declared.faults.VendorFault.TheVariants as fault
 
 -- ---- changes
 
 -- the crate file of what was checked
-abbrev pub crate_made : List ℕ → Checked → HostChange
+abbrev pub crate_made : List ℕ → CheckedCrate → HostChange
 crate_made folder c = Creates (crate_path folder c.version.name c.version.version) c.bytes
 
 -- what is put on a path: the folder of its index file, that file, and the crate files in order
-abbrev pub path_made : List ℕ → List ℕ → List Checked → List HostChange
+abbrev pub path_made : List ℕ → List ℕ → List CheckedCrate → List HostChange
 path_made folder q [] = []
 path_made folder q (c ∷ cs) =
     Makes (unwrap_or (parent (join (index_of folder) q)) [])
@@ -35,38 +35,38 @@ path_made folder q (c ∷ cs) =
     ∷ map (crate_made folder) (c ∷ cs)
 
 -- what is put on these paths, one after the other
-abbrev pub paths_made : List ℕ → List Checked → List (List ℕ) → List HostChange
+abbrev pub paths_made : List ℕ → List CheckedCrate → List (List ℕ) → List HostChange
 paths_made folder cs qs = flat_map (λ q. path_made folder q (on q cs)) qs
 
 -- the folder of the index, and then path by path
-abbrev pub all_made : List ℕ → List Checked → List HostChange
+abbrev pub all_made : List ℕ → List CheckedCrate → List HostChange
 all_made folder cs = created folder ∷ paths_made folder cs (paths_of cs)
 
 -- ---- what is there when a change is made
 
 -- nothing is at the index file of a path, and what is put there are records that their lines read
 -- back to
-abbrev pub IsFilled : List ℕ → List ℕ → List Checked → Host → Type 0
+abbrev pub IsFilled : List ℕ → List ℕ → List CheckedCrate → Host → Type 0
 IsFilled folder q [] host = Unit {0}
 IsFilled folder q (c ∷ cs) host =
     (host.stands (join (index_of folder) q) ≡ Nothing)
     × AreWritten (map (λ c. c.version) (c ∷ cs))
 
 -- the same of each of these paths, behind those in front
-abbrev pub AreFilled : List ℕ → List Checked → List (List ℕ) → Host → Type 0
+abbrev pub AreFilled : List ℕ → List CheckedCrate → List (List ℕ) → Host → Type 0
 AreFilled folder cs [] host = Unit {0}
 AreFilled folder cs (q ∷ qs) host =
     IsFilled folder q (on q cs) host
     × AreFilled folder cs qs (after (path_made folder q (on q cs)) host)
 
 -- something is at the index file of a path where something is to be put
-abbrev pub IsTakenAt : List ℕ → List ℕ → List Checked → Host → Type 0
+abbrev pub IsTakenAt : List ℕ → List ℕ → List CheckedCrate → Host → Type 0
 IsTakenAt folder q [] host = ⊥
 IsTakenAt folder q (c ∷ cs) host = is_nothing (host.stands (join (index_of folder) q)) ≡ false
 
 -- something is at the index file of one of these paths when its turn comes, of the first such, and
 -- nothing was written from then on
-abbrev pub IsTaken : List ℕ → List Checked → List (List ℕ) → Host → Host → Type 0
+abbrev pub IsTaken : List ℕ → List CheckedCrate → List (List ℕ) → Host → Host → Type 0
 IsTaken folder cs [] host now = ⊥
 IsTaken folder cs (q ∷ qs) host now =
     (IsTakenAt folder q (on q cs) host × (now ≡ host))
@@ -77,7 +77,7 @@ IsTaken folder cs (q ∷ qs) host now =
 -- file of one of their paths when its turn comes; what was put on the paths in front of it stays
 abbrev pub IsTakenFor : Stock → List Package → List ℕ → Host → Host → Type 0
 IsTakenFor stock packages folder before now =
-    (cs : List Checked) × (all_checked stock (looked packages) ≡ Ok cs)
+    (cs : List CheckedCrate) × (all_checked stock (looked packages) ≡ Ok cs)
     × IsTaken folder cs (paths_of cs) (after_change (created folder) before) now
 
 -- what a refused call left: the host as it was, or all packages were checked and the changes were
@@ -85,14 +85,14 @@ IsTakenFor stock packages folder before now =
 abbrev pub IsUnfinished : Stock → List Package → List ℕ → Host → Host → Type 0
 IsUnfinished stock packages folder before now =
     (now ≡ before)
-    ⊎ ((cs : List Checked) × (all_checked stock (looked packages) ≡ Ok cs)
+    ⊎ ((cs : List CheckedCrate) × (all_checked stock (looked packages) ≡ Ok cs)
     × AreBegun (all_made folder cs) before now)
 
 -- all packages were checked, and the host is the one before with all changes that make the registry
 -- of them, and no others
 abbrev pub IsBuilt : Stock → List Package → List ℕ → Host → Host → Type 0
 IsBuilt stock packages folder before now =
-    (cs : List Checked) × (all_checked stock (looked packages) ≡ Ok cs)
+    (cs : List CheckedCrate) × (all_checked stock (looked packages) ≡ Ok cs)
     × (now ≡ after (all_made folder cs) before)
 
 -- ---- refusals
@@ -145,7 +145,7 @@ IsOccupied standing fault.NotADirectory = free_fault standing ≡ Some fault.Not
 IsOccupied standing e = Unit {0}
 
 -- what was built doesn't agree with its index, for this reason
-pub record IsReadBack (folder : List ℕ) (cs : List Checked) (before now : Host)
+pub record IsReadBack (folder : List ℕ) (cs : List CheckedCrate) (before now : Host)
     (why : Error) : Type 0 where
   pub free : free_fault (before.stands folder) ≡ None
   pub possible : AreFolders (ways_to (index_of folder)) before.stands
@@ -157,7 +157,7 @@ pub record IsReadBack (folder : List ℕ) (cs : List Checked) (before now : Host
 -- what was built of what the packages were checked for doesn't agree with its index
 abbrev pub IsReadBackFor : Type 0 → Stock → List Package → List ℕ → Host → Host → Error → Type 0
 IsReadBackFor disk_tells stock packages folder before now why =
-    (cs : List Checked) × (disk_tells → all_checked stock (looked packages) ≡ Ok cs)
+    (cs : List CheckedCrate) × (disk_tells → all_checked stock (looked packages) ≡ Ok cs)
     × IsReadBack folder cs before now why
 
 -- a refusal behind the checks, by what is there and not by a call

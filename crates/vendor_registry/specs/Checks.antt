@@ -17,7 +17,7 @@ use Rattle.tame_local.specs.CrateFiles.{crate_file}
 use Rattle.tame_local.specs.Digests.{has_digest}
 use Rattle.tame_sparse.specs.declared.sparse.SparseIndex.{SparseIndex}
 use Rattle.audit_lock.specs.declared.resolving.Package.{Package}
-use Rattle.vendor_registry.specs.declared.checks.Checked.{Checked}
+use Rattle.vendor_registry.specs.declared.checks.CheckedCrate.{CheckedCrate}
 use Rattle.vendor_registry.specs.declared.faults.VendorFault.{VendorFault}
 use Rattle.vendor_registry.specs.declared.faults.VendorFault.TheVariants as fault
 
@@ -106,7 +106,7 @@ crate_bytes place path (File bytes) = unless_large place bytes
 crate_bytes place path standing = Err (fault.File path)
 
 -- bytes that have the digest of their record
-abbrev pub valid_bytes : ℕ → List ℕ → IndexVersion → List ℕ → Result Checked VendorFault
+abbrev pub valid_bytes : ℕ → List ℕ → IndexVersion → List ℕ → Result CheckedCrate VendorFault
 valid_bytes place q v bytes =
     if has_digest bytes v.checksum.0
     then Ok (record { place = place; path = q; version = v; bytes = bytes })
@@ -117,7 +117,7 @@ abbrev pub crate_path : List ℕ → List ℕ → List ℕ → List ℕ
 crate_path folder name version = join folder (crate_file name version)
 
 -- the crate file of a record in the folder of the crate files
-abbrev pub crate_checked : Stock → ℕ → List ℕ → IndexVersion → Result Checked VendorFault
+abbrev pub crate_checked : Stock → ℕ → List ℕ → IndexVersion → Result CheckedCrate VendorFault
 crate_checked s place q v =
     and_then (valid_bytes place q v)
     (crate_bytes place (crate_path s.crates v.name v.version)
@@ -126,17 +126,17 @@ crate_checked s place q v =
 -- ---- a package
 
 -- what is put into a registry of the package at a place, whose crate has this path in an index
-abbrev pub checked_at : Stock → ℕ → Package → List ℕ → Result Checked VendorFault
+abbrev pub checked_at : Stock → ℕ → Package → List ℕ → Result CheckedCrate VendorFault
 checked_at s place p q =
     and_then (crate_checked s place q) (and_then (decided place p)
     (file_records place s.url (s.files (cache_file s.root q))))
 
 -- the same of any package, or the first reason why not; a name without a path has none
-abbrev pub checked : Stock → ℕ → Package → Result Checked VendorFault
+abbrev pub checked : Stock → ℕ → Package → Result CheckedCrate VendorFault
 checked s place p = and_then (checked_at s place p) (or_fault (fault.Name place) (path p.name))
 
 -- the packages with their places, each checked whole before the next
-abbrev pub all_checked : Stock → List (ℕ × Package) → Result (List Checked) VendorFault
+abbrev pub all_checked : Stock → List (ℕ × Package) → Result (List CheckedCrate) VendorFault
 all_checked s [] = Ok []
 all_checked s (p ∷ ps) =
     and_then (λ c. and_then (λ cs. Ok (c ∷ cs)) (all_checked s ps)) (checked s p.0 p.1)
@@ -149,7 +149,7 @@ pub record IsReached (s : Stock) (ps : List (ℕ × Package)) (place : ℕ) (p :
   pub front : List (ℕ × Package)
   pub behind : List (ℕ × Package)
   pub among : ps ≡ front ++ (place, p) ∷ behind
-  pub before : List Checked
+  pub before : List CheckedCrate
   pub are_checked : all_checked s front ≡ Ok before
 
 -- where a call failed: at the package whose entry couldn't be read, or at one whose crate file, the

@@ -6,15 +6,15 @@ use Rattle.tame_names.specs.Names.{path}
 use Rattle.tame_names.specs.Paths.{ends_with_slash, plain_path}
 use Rattle.tame_names.specs.declared.memory_nodes.MemFile.{MemFile}
 use Rattle.audit_lock.specs.declared.resolving.Package.{Package}
-use Rattle.vendor_registry.specs.declared.checks.Checked.{Checked}
+use Rattle.vendor_registry.specs.declared.checks.CheckedCrate.{CheckedCrate}
 
 -- the names of the records are UTF-8, as every text is
-abbrev pub AreTexts : List Checked → Type 0
+abbrev pub AreTexts : List CheckedCrate → Type 0
 AreTexts [] = Unit {0}
 AreTexts (c ∷ cs) = IsUtf8 c.version.name × AreTexts cs
 
 -- each has the path of its record's name
-abbrev pub ArePathed : List Checked → Type 0
+abbrev pub ArePathed : List CheckedCrate → Type 0
 ArePathed [] = Unit {0}
 ArePathed (c ∷ cs) = (path c.version.name ≡ Some c.path) × ArePathed cs
 

@@ -10,7 +10,7 @@ use Rattle.audit_core.specs.Paths.{distinct_after}
 use Rattle.audit_lock.specs.declared.resolving.Package.{Package}
 use Rattle.vendor_registry.specs.Checks.{Stock, all_checked}
 use Rattle.vendor_registry.specs.Looked.{looked}
-use Rattle.vendor_registry.specs.declared.checks.Checked.{Checked}
+use Rattle.vendor_registry.specs.declared.checks.CheckedCrate.{CheckedCrate}
 use Rattle.vendor_registry.specs.declared.vendoring.Vendored.{Vendored}
 
 -- ---- the files of a registry
@@ -19,32 +19,32 @@ use Rattle.vendor_registry.specs.declared.vendoring.Vendored.{Vendored}
 abbrev pub Files : Type 0
 Files = List (List ℕ × List ℕ)
 
-abbrev pub is_on : List ℕ → Checked → Bool
+abbrev pub is_on : List ℕ → CheckedCrate → Bool
 is_on q c = bytes_eq c.path q
 
 -- what is put on a path of the index, in the lockfile's order
-abbrev pub on : List ℕ → List Checked → List Checked
+abbrev pub on : List ℕ → List CheckedCrate → List CheckedCrate
 on q cs = filter (is_on q) cs
 
 -- the paths of the index, each once
-abbrev pub paths_of : List Checked → List (List ℕ)
+abbrev pub paths_of : List CheckedCrate → List (List ℕ)
 paths_of cs = distinct_after [] (map (λ c. c.path) cs)
 
 -- the crate file of a package, named by its record
-abbrev pub crate_entry : Checked → List ℕ × List ℕ
+abbrev pub crate_entry : CheckedCrate → List ℕ × List ℕ
 crate_entry c = (crate_file c.version.name c.version.version, c.bytes)
 
 -- the index file of a path: a line for each record that is put there
-abbrev pub index_entry : List ℕ → List Checked → List ℕ × List ℕ
+abbrev pub index_entry : List ℕ → List CheckedCrate → List ℕ × List ℕ
 index_entry q cs = (join (codes "index") q, json_lines (map (λ c. c.version) cs))
 
 -- the files of what is put on a path: its index file, and a crate file for each
-abbrev pub path_files : List ℕ → List Checked → Files
+abbrev pub path_files : List ℕ → List CheckedCrate → Files
 path_files q [] = []
 path_files q (c ∷ cs) = index_entry q (c ∷ cs) ∷ map crate_entry (c ∷ cs)
 
 -- all files, path by path
-abbrev pub vendored_files : List Checked → Files
+abbrev pub vendored_files : List CheckedCrate → Files
 vendored_files cs = flat_map (λ q. path_files q (on q cs)) (paths_of cs)
 
 -- the number of bytes in files
@@ -90,7 +90,7 @@ IsBare host folder =
 -- index, and these are its index, the number of its crate files and that of its bytes
 pub record IsVendored (stock : Stock) (packages : List Package) (folder : List ℕ)
     (host : Host) (made : Vendored) : Type 0 where
-  pub checked : List Checked
+  pub checked : List CheckedCrate
   pub are_checked : all_checked stock (looked packages) ≡ Ok checked
   pub files : HoldsEach host folder (vendored_files checked)
   pub no_other : IsBare stock.host folder → HoldsNoOther host folder (vendored_files checked)

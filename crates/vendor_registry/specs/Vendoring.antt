@@ -13,7 +13,7 @@ use Rattle.vendor_registry.specs.Failed.{IsWithin}
 use Rattle.vendor_registry.specs.Looked.{looked}
 use Rattle.vendor_registry.specs.Named.{AreVersioned, IsFolderPath}
 use Rattle.vendor_registry.specs.Vendored.{IsBare, IsVendored, paths_of, size_of, vendored_files}
-use Rattle.vendor_registry.specs.declared.checks.Checked.{Checked}
+use Rattle.vendor_registry.specs.declared.checks.CheckedCrate.{CheckedCrate}
 use Rattle.vendor_registry.specs.declared.faults.VendorFault.{VendorFault}
 use Rattle.vendor_registry.specs.declared.faults.VendorFault.TheVariants as fault
 use Rattle.vendor_registry.specs.declared.vendoring.Vendored.{Vendored}
@@ -51,14 +51,14 @@ pub record IsRegistryMade (v : Vendoring) (made : Vendored) : Type 0 where
   pub built : v.files_tell → v.disk_tells
       → IsBuilt v.stock v.packages v.folder v.stock.host v.now
   -- nothing was at an index file when its turn came
-  pub filled : v.files_tell → v.disk_tells → (cs : List Checked)
+  pub filled : v.files_tell → v.disk_tells → (cs : List CheckedCrate)
       → all_checked v.stock (looked v.packages) ≡ Ok cs
       → AreFilled v.folder cs (paths_of cs) (after_change (created v.folder) v.stock.host)
   -- it agrees with its index
   pub opened : v.files_tell
       → registry_at v.now v.folder true ≡ Ok made.registry.index.path
   -- the numbers of its crate files and of their bytes are those of what was checked
-  pub counted : v.files_tell → v.disk_tells → (cs : List Checked)
+  pub counted : v.files_tell → v.disk_tells → (cs : List CheckedCrate)
       → all_checked v.stock (looked v.packages) ≡ Ok cs
       → (made.packages ≡ length cs)
       × (made.bytes ≡ min (size_of (vendored_files cs)) (2 ^ 64 - 1))

@@ -13,9 +13,9 @@ ghost use Rattle.vendor_registry.specs.Failed.{AddsFailed, IsToldIn};
 ghost use Rattle.vendor_registry.specs.Named.{ArePathed};
 ghost use Rattle.vendor_registry.specs.Vendored.{on, paths_of};
 ghost use Rattle.vendor_registry.specs.Grouped.{AreGroups};
-ghost use Rattle.vendor_registry.specs.declared.checks.Checked.{Checked};
+ghost use Rattle.vendor_registry.specs.declared.checks.CheckedCrate.{CheckedCrate};
 
-use crate::checks::Checked;
+use crate::checks::CheckedCrate;
 use crate::faults::VendorFault;
 use crate::grouping::{Groups, distinct_paths, group_on, grouped};
 use std::alloc::Global;
@@ -56,7 +56,7 @@ fn add_copy(
 }
 
 /// The records that are put on a path.
-fn krate_on(alloc: Global, path: &str, checked: &[Checked]) -> Result<IndexKrate, NoMemory>
+fn krate_on(alloc: Global, path: &str, checked: &[CheckedCrate]) -> Result<IndexKrate, NoMemory>
     ensures records { IfOk result (λ krate. krate.versions
         ≡ map (λ c. c.version) (on path.now checked.now)) }
     ensures written { IfOk result (λ krate. AreWritten krate.versions) }
@@ -71,7 +71,7 @@ fn krate_on(alloc: Global, path: &str, checked: &[Checked]) -> Result<IndexKrate
 }
 
 /// The crate file of what was checked, which has the digest of its record.
-fn valid_krate<'c>(alloc: Global, one: &'c Checked) -> Result<ValidKrate<'c>, NoMemory>
+fn valid_krate<'c>(alloc: Global, one: &'c CheckedCrate) -> Result<ValidKrate<'c>, NoMemory>
     ensures { (folder : List ℕ) → IfOk result (λ krate.
         crates_made folder (krate ∷ []) ≡ crate_made folder one.now ∷ []) }
 {
@@ -86,7 +86,7 @@ fn valid_krate<'c>(alloc: Global, one: &'c Checked) -> Result<ValidKrate<'c>, No
 fn krates_on<'c>(
     alloc: Global,
     path: &str,
-    checked: &'c [Checked],
+    checked: &'c [CheckedCrate],
 ) -> Result<Items<ValidKrate<'c>>, NoMemory>
     ensures { (folder : List ℕ) → IfOk result (λ krates.
         crates_made folder krates ≡ map (crate_made folder) (on path.now checked.now)) }
@@ -108,7 +108,7 @@ fn insert_path<F: Files>(
     alloc: Global,
     builder: &LocalRegistryBuilder,
     path: &str,
-    checked: &[Checked],
+    checked: &[CheckedCrate],
     files: &mut F,
 ) -> Result<u64, VendorFault>
     ensures made { F.tells → ArePathed checked.now → OnOk result (F.host files.new
@@ -155,21 +155,21 @@ fn insert_group<F: Files>(
     path: &str,
     files: &mut F,
 ) -> Result<u64, VendorFault>
-    ensures made { F.tells → (cs : List Checked) → AreGroups cs groups.now → ArePathed cs
+    ensures made { F.tells → (cs : List CheckedCrate) → AreGroups cs groups.now → ArePathed cs
         → OnOk result (F.host files.new
         ≡ after (path_made builder.now.path path.now (on path.now cs)) (F.host files.old)) }
-    ensures begun { F.tells → (cs : List Checked) → AreGroups cs groups.now → ArePathed cs
+    ensures begun { F.tells → (cs : List CheckedCrate) → AreGroups cs groups.now → ArePathed cs
         → OnErr result (AreBegun (path_made builder.now.path path.now (on path.now cs))
         (F.host files.old) (F.host files.new)) }
-    ensures filled { F.tells → (cs : List Checked) → AreGroups cs groups.now → ArePathed cs
+    ensures filled { F.tells → (cs : List CheckedCrate) → AreGroups cs groups.now → ArePathed cs
         → OnOk result (IsFilled
         builder.now.path path.now (on path.now cs) (F.host files.old)) }
-    ensures count { (cs : List Checked) → AreGroups cs groups.now → ArePathed cs
+    ensures count { (cs : List CheckedCrate) → AreGroups cs groups.now → ArePathed cs
         → IfOk result (λ n. n ≡ min (size_of
         (path_made builder.now.path path.now (on path.now cs))) (2 ^ 64 - 1)) }
     ensures only { IfErr result IsInsertFault }
     ensures occupied { F.tells → (n : ℕ) → result ≡ Err (VendorFault.NotEmpty n) → n ≡ 1 }
-    ensures taken { F.tells → (cs : List Checked) → AreGroups cs groups.now → ArePathed cs
+    ensures taken { F.tells → (cs : List CheckedCrate) → AreGroups cs groups.now → ArePathed cs
         → (n : ℕ) → result ≡ Err (VendorFault.NotEmpty n)
         → IsTakenAt builder.now.path path.now (on path.now cs) (F.host files.old) }
     ensures unmade { F.tells → (n : ℕ) → result ≡ Err (VendorFault.NotEmpty n)
@@ -192,20 +192,20 @@ fn insert_paths<F: Files>(
     groups: &Groups,
     files: &mut F,
 ) -> Result<u64, VendorFault>
-    ensures made { F.tells → (cs : List Checked) → AreGroups cs groups.now → ArePathed cs
+    ensures made { F.tells → (cs : List CheckedCrate) → AreGroups cs groups.now → ArePathed cs
         → OnOk result (F.host files.new
         ≡ after (paths_made builder.now.path cs paths.now) (F.host files.old)) }
-    ensures begun { F.tells → (cs : List Checked) → AreGroups cs groups.now → ArePathed cs
+    ensures begun { F.tells → (cs : List CheckedCrate) → AreGroups cs groups.now → ArePathed cs
         → OnErr result (AreBegun (paths_made builder.now.path cs paths.now)
         (F.host files.old) (F.host files.new)) }
-    ensures filled { F.tells → (cs : List Checked) → AreGroups cs groups.now → ArePathed cs
+    ensures filled { F.tells → (cs : List CheckedCrate) → AreGroups cs groups.now → ArePathed cs
         → OnOk result (AreFilled builder.now.path cs paths.now (F.host files.old)) }
-    ensures count { (cs : List Checked) → AreGroups cs groups.now → ArePathed cs
+    ensures count { (cs : List CheckedCrate) → AreGroups cs groups.now → ArePathed cs
         → IfOk result (λ n. n ≡ min (size_of
         (paths_made builder.now.path cs paths.now)) (2 ^ 64 - 1)) }
     ensures only { IfErr result IsInsertFault }
     ensures occupied { F.tells → (n : ℕ) → result ≡ Err (VendorFault.NotEmpty n) → n ≡ 1 }
-    ensures taken { F.tells → (cs : List Checked) → AreGroups cs groups.now → ArePathed cs
+    ensures taken { F.tells → (cs : List CheckedCrate) → AreGroups cs groups.now → ArePathed cs
         → (n : ℕ) → result ≡ Err (VendorFault.NotEmpty n)
         → IsTaken builder.now.path cs paths.now (F.host files.old) (F.host files.new) }
     ensures file { (at : List ℕ) → result ≡ Err (VendorFault.File at)
@@ -279,7 +279,7 @@ pub struct Built {
 pub fn build<F: Files>(
     alloc: Global,
     to: Text,
-    checked: Items<Checked>,
+    checked: Items<CheckedCrate>,
     files: &mut F,
 ) -> Result<Built, VendorFault>
     ensures made { F.tells → ArePathed checked → OnOk result (F.host files.new

@@ -30,7 +30,7 @@ const CRATE_LIMIT: u64 = 67108864;
 
 /// What is put into a registry of a package.
 #[derive(Drop)]
-pub struct Checked {
+pub struct CheckedCrate {
     /// The place of the package in the lockfile, from 0.
     pub place: usize,
     /// The path of its crate in an index.
@@ -209,7 +209,7 @@ fn valid_bytes(
     path: Text,
     version: IndexVersion,
     bytes: Vec<u8>,
-) -> Result<Checked, VendorFault>
+) -> Result<CheckedCrate, VendorFault>
     ensures ok { IfOk result (λ c. spec.valid_bytes place path version bytes.items ≡ Ok c) }
     ensures refused { IfErr result (λ e. (e ≡ VendorFault.NoMemory)
         ⊎ (IsTrue (is_of_package e)
@@ -221,7 +221,7 @@ fn valid_bytes(
     let found = Sha256::digest(bytes.as_slice());
     if found == version.checksum.0 {
         match Bytes::from_vec(bytes) {
-            Ok(bytes) => Ok(Checked {
+            Ok(bytes) => Ok(CheckedCrate {
                 place,
                 path,
                 version,
@@ -245,7 +245,7 @@ fn check_crate<F: Files>(
     path: Text,
     version: IndexVersion,
     files: &mut F,
-) -> Result<Checked, VendorFault>
+) -> Result<CheckedCrate, VendorFault>
     ensures ok { F.tells → (stock : spec.Stock) → stock.host ≡ F.host files.old
         → stock.crates ≡ crates.now → IfOk result (λ c.
         crate_checked stock place path version ≡ Ok c) }
@@ -289,7 +289,7 @@ pub fn check_package<F: Files, D: CacheDisk>(
     files: &mut F,
     lock: &FileLock,
     disk: &mut D,
-) -> Result<Checked, VendorFault>
+) -> Result<CheckedCrate, VendorFault>
     ensures ok { F.tells → D.tells → IfOk result (λ c.
         checked (stock_of (D.past disk.old) index.now (F.host files.old) crates.now)
         place locked.now ≡ Ok c) }

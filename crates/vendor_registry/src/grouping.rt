@@ -5,13 +5,13 @@ ghost use Rattle.audit_core.specs.Plans.{with_path};
 ghost use Rattle.vendor_registry.specs.Grouped.{AreGroups, HasPaths, group_at};
 ghost use Rattle.vendor_registry.specs.Vendored.{on, paths_of};
 
-use crate::checks::Checked;
+use crate::checks::CheckedCrate;
 use std::alloc::Global;
 use std::collections::{BTreeMap, BTreeSet};
 use tame_names::{Items, NoMemory, Text};
 
 /// What was checked, by the path of its crate in the index.
-pub type Groups = BTreeMap<String, Items<Checked>>;
+pub type Groups = BTreeMap<String, Items<CheckedCrate>>;
 
 // ---- paths
 
@@ -28,7 +28,7 @@ fn is_new(alloc: Global, seen: &mut BTreeSet<Text>, path: &Text) -> Result<bool,
 }
 
 /// The paths of what was checked, each once, in the order in which each comes first.
-pub fn distinct_paths(alloc: Global, checked: &[Checked]) -> Result<Items<Text>, NoMemory>
+pub fn distinct_paths(alloc: Global, checked: &[CheckedCrate]) -> Result<Items<Text>, NoMemory>
     ensures { IfOk result (λ paths. paths ≡ paths_of checked.now) }
 {
     let mut paths = Items::new(alloc);
@@ -45,7 +45,7 @@ pub fn distinct_paths(alloc: Global, checked: &[Checked]) -> Result<Items<Text>,
 // ---- groups
 
 /// Takes the group of a path away.
-fn take_group(alloc: Global, groups: &mut Groups, path: &str) -> Items<Checked>
+fn take_group(alloc: Global, groups: &mut Groups, path: &str) -> Items<CheckedCrate>
     ensures group { result ≡ group_at groups.old path.now }
     ensures left { (q : List ℕ) → group_at groups.new q
         ≡ (if bytes_eq path.now q then [] else group_at groups.old q) }
@@ -57,7 +57,7 @@ fn take_group(alloc: Global, groups: &mut Groups, path: &str) -> Items<Checked>
 }
 
 /// Keeps a group for a path.
-fn keep_group(groups: &mut Groups, path: String, group: Items<Checked>) -> Result<(), NoMemory>
+fn keep_group(groups: &mut Groups, path: String, group: Items<CheckedCrate>) -> Result<(), NoMemory>
     ensures { (q : List ℕ) → OnOk result (group_at groups.new q
         ≡ (if bytes_eq (string_bytes path) q then group else group_at groups.old q)) }
 {
@@ -66,7 +66,7 @@ fn keep_group(groups: &mut Groups, path: String, group: Items<Checked>) -> Resul
 }
 
 /// Puts what was checked behind what is kept for its path.
-fn put(alloc: Global, groups: &mut Groups, one: Checked) -> Result<(), NoMemory>
+fn put(alloc: Global, groups: &mut Groups, one: CheckedCrate) -> Result<(), NoMemory>
     ensures { (q : List ℕ) → OnOk result (group_at groups.new q
         ≡ group_at groups.old q ++ on q (one ∷ [])) }
 {
@@ -77,7 +77,7 @@ fn put(alloc: Global, groups: &mut Groups, one: Checked) -> Result<(), NoMemory>
 }
 
 /// What was checked, by path, each group in the order in which it was checked.
-pub fn grouped(alloc: Global, checked: Items<Checked>) -> Result<Groups, NoMemory>
+pub fn grouped(alloc: Global, checked: Items<CheckedCrate>) -> Result<Groups, NoMemory>
     ensures { IfOk result (λ groups. AreGroups checked groups) }
 {
     let mut groups = BTreeMap::new(alloc);
@@ -88,7 +88,7 @@ pub fn grouped(alloc: Global, checked: Items<Checked>) -> Result<Groups, NoMemor
 }
 
 /// What was checked on a path.
-pub fn group_on<'g>(groups: &'g Groups, path: &str) -> &'g [Checked]
+pub fn group_on<'g>(groups: &'g Groups, path: &str) -> &'g [CheckedCrate]
     ensures { result.now ≡ group_at groups.now path.now }
 {
     match groups.get(path) {

@@ -10,7 +10,7 @@ ghost use Rattle.vendor_registry.specs.Looked.{HasPairs, looked, stands_for};
 ghost use Rattle.vendor_registry.specs.Looked as spec;
 ghost use Rattle.vendor_registry.specs.Named.{AreTexts};
 
-use crate::checks::{Checked, check_package};
+use crate::checks::{CheckedCrate, check_package};
 use crate::faults::VendorFault;
 use audit_lock::Package;
 use std::alloc::Global;
@@ -65,7 +65,7 @@ pub fn check_packages<F: Files, D: CacheDisk>(
     files: &mut F,
     lock: &FileLock,
     disk: &mut D,
-) -> Result<Items<Checked>, VendorFault>
+) -> Result<Items<CheckedCrate>, VendorFault>
     ensures ok { F.tells → D.tells → IfOk result (λ cs. all_checked
         (stock_of (D.past disk.old) index.now (F.host files.old) crates.now)
         (looked packages.now) ≡ Ok cs) }

@@ -19,8 +19,8 @@ returns-in_err-index-clause-kept g c told_wire told = keeps_nothing (g.W.Wire.ex
 pub returns-in_err-plan-clause-kept : goal.returns-in_err-plan-clause-kept
 returns-in_err-plan-clause-kept g c told_wire told = keeps_nothing (g.W.Wire.exchanges c.args.wire.now) (g.W.Wire.exchanges c.args.wire.now) (g.D.CacheDisk.past c.args.disk.now)
 
-pub ask-requires-clause-named : goal.ask-requires-clause-named
-ask-requires-clause-named g c = rw c.as_slice.ensures (names_valid c.in_ok-plan.plan.names (asked_paths c.args.packages.now) c.in_ok-plan.ensures.named)
+pub ask_all-requires-clause-named : goal.ask_all-requires-clause-named
+ask_all-requires-clause-named g c = rw c.as_slice.ensures (names_valid c.in_ok-plan.plan.names (asked_paths c.args.packages.now) c.in_ok-plan.ensures.named)
 
 pub judge-requires : goal.judge-requires
 judge-requires g c =
@@ -44,14 +44,14 @@ returns-clause-says g c =
       judged = rw c.as_slice-2.ensures at c.in_ok-verdicts.ensures;
     } in
     rw c.in_ok-turns.ensures record {
-      headline = λ online told_wire told. held_done g.D.CacheDisk.tells told (asked_paths packages) (defaults packages) hs verdicts (exchanges c.args.wire.now) (exchanges c.ask.new.wire) (disk_at (past c.args.disk.now) (failed c.args.disk.now)) (disk_at (past c.ask.new.disk) (failed c.ask.new.disk)) done c.in_ok-answered_turns.ensures.caused (c.in_ok-answered_turns.ensures.said told_wire);
-      audited = λ online told. audit_done g.D.CacheDisk.tells (asked_paths packages) (defaults packages) hs verdicts (exchanges c.args.wire.now) (exchanges c.ask.new.wire) (disk_at (past c.args.disk.now) (failed c.args.disk.now)) (disk_at (past c.ask.new.disk) (failed c.ask.new.disk)) done (c.in_ok-answered_turns.ensures.said told);
+      headline = λ online told_wire told. held_done g.D.CacheDisk.tells told (asked_paths packages) (defaults packages) hs verdicts (exchanges c.args.wire.now) (exchanges c.ask_all.new.wire) (disk_at (past c.args.disk.now) (failed c.args.disk.now)) (disk_at (past c.ask_all.new.disk) (failed c.ask_all.new.disk)) done c.in_ok-answered_turns.ensures.caused (c.in_ok-answered_turns.ensures.said told_wire);
+      audited = λ online told. audit_done g.D.CacheDisk.tells (asked_paths packages) (defaults packages) hs verdicts (exchanges c.args.wire.now) (exchanges c.ask_all.new.wire) (disk_at (past c.args.disk.now) (failed c.args.disk.now)) (disk_at (past c.ask_all.new.disk) (failed c.ask_all.new.disk)) done (c.in_ok-answered_turns.ensures.said told);
       recalled = λ offline. absurd (cc);
       counted = turns_done (asked_paths packages) (defaults packages) hs verdicts _ _ _ _ done c.in_ok-answered_turns.ensures.counts;
       caused = caused_done (asked_paths packages) (defaults packages) hs verdicts done c.in_ok-answered_turns.ensures.caused;
       failed = record {
-        exchanged = λ online told_wire told. exchanged_done g.D.CacheDisk.tells told (asked_paths packages) (defaults packages) hs verdicts (exchanges c.args.wire.now) (exchanges c.ask.new.wire)
-            (disk_at (past c.args.disk.now) (failed c.args.disk.now)) (disk_at (past c.ask.new.disk) (failed c.ask.new.disk)) done (c.in_ok-answered_turns.ensures.said told_wire);
+        exchanged = λ online told_wire told. exchanged_done g.D.CacheDisk.tells told (asked_paths packages) (defaults packages) hs verdicts (exchanges c.args.wire.now) (exchanges c.ask_all.new.wire)
+            (disk_at (past c.args.disk.now) (failed c.args.disk.now)) (disk_at (past c.ask_all.new.disk) (failed c.ask_all.new.disk)) done (c.in_ok-answered_turns.ensures.said told_wire);
         asked = λ online told. asked_done (asked_paths packages) (defaults packages) hs verdicts _ _ done (c.in_ok-answered_turns.ensures.fails told);
         read = λ offline. absurd (cc);
         off = λ off. absurd (cc);
@@ -68,41 +68,41 @@ pub returns-in_err-answered_turns-clause-asks : goal.returns-in_err-answered_tur
 returns-in_err-answered_turns-clause-asks g c =
     let plan = c.in_ok-plan in
     record {
-      part = λ told. named_part plan.plan.names (asked_paths c.args.packages.now) (g.W.Wire.exchanges c.args.wire.now) (g.W.Wire.exchanges c.ask.new.wire) plan.ensures.named
+      part = λ told. named_part plan.plan.names (asked_paths c.args.packages.now) (g.W.Wire.exchanges c.args.wire.now) (g.W.Wire.exchanges c.ask_all.new.wire) plan.ensures.named
           (rw c.as_slice.ensures at (c.in_err-answered_turns.ensures.part told));
-      others = λ told q other. c.ask.ensures.others told q (rw c.as_slice.ensures (no_file_of plan.plan.names (asked_paths c.args.packages.now) q plan.ensures.named other));
-      folders = λ told. made_weaker _ _ (λ q is. asked_file plan.plan.names (asked_paths c.args.packages.now) q plan.ensures.named is) _ _ (rw c.as_slice.ensures at (c.ask.ensures.folders told));
+      others = λ told q other. c.ask_all.ensures.others told q (rw c.as_slice.ensures (no_file_of plan.plan.names (asked_paths c.args.packages.now) q plan.ensures.named other));
+      folders = λ told. made_weaker _ _ (λ q is. asked_file plan.plan.names (asked_paths c.args.packages.now) q plan.ensures.named is) _ _ (rw c.as_slice.ensures at (c.ask_all.ensures.folders told));
     }
 
 pub returns-in_err-verdicts-clause-asks : goal.returns-in_err-verdicts-clause-asks
 returns-in_err-verdicts-clause-asks g c =
     let plan = c.in_ok-plan in
     record {
-      part = λ told. AddsTurns-part g.D.CacheDisk.tells (asked_paths c.args.packages.now) c.in_ok-answered_turns.answered_turns (g.W.Wire.exchanges c.args.wire.now) (g.W.Wire.exchanges c.ask.new.wire)
-          (disk_at (g.D.CacheDisk.past c.args.disk.now) (g.D.CacheDisk.failed c.args.disk.now)) (disk_at (g.D.CacheDisk.past c.ask.new.disk) (g.D.CacheDisk.failed c.ask.new.disk)) (c.in_ok-answered_turns.ensures.paths ∙ ap (map path) c.as_slice.ensures ∙ plan.ensures.named)
+      part = λ told. AddsTurns-part g.D.CacheDisk.tells (asked_paths c.args.packages.now) c.in_ok-answered_turns.answered_turns (g.W.Wire.exchanges c.args.wire.now) (g.W.Wire.exchanges c.ask_all.new.wire)
+          (disk_at (g.D.CacheDisk.past c.args.disk.now) (g.D.CacheDisk.failed c.args.disk.now)) (disk_at (g.D.CacheDisk.past c.ask_all.new.disk) (g.D.CacheDisk.failed c.ask_all.new.disk)) (c.in_ok-answered_turns.ensures.paths ∙ ap (map path) c.as_slice.ensures ∙ plan.ensures.named)
           (c.in_ok-answered_turns.ensures.said told);
-      others = λ told q other. c.ask.ensures.others told q (rw c.as_slice.ensures (no_file_of plan.plan.names (asked_paths c.args.packages.now) q plan.ensures.named other));
-      folders = λ told. made_weaker _ _ (λ q is. asked_file plan.plan.names (asked_paths c.args.packages.now) q plan.ensures.named is) _ _ (rw c.as_slice.ensures at (c.ask.ensures.folders told));
+      others = λ told q other. c.ask_all.ensures.others told q (rw c.as_slice.ensures (no_file_of plan.plan.names (asked_paths c.args.packages.now) q plan.ensures.named other));
+      folders = λ told. made_weaker _ _ (λ q is. asked_file plan.plan.names (asked_paths c.args.packages.now) q plan.ensures.named is) _ _ (rw c.as_slice.ensures at (c.ask_all.ensures.folders told));
     }
 
 pub returns-in_err-turns-clause-asks : goal.returns-in_err-turns-clause-asks
 returns-in_err-turns-clause-asks g c =
     let plan = c.in_ok-plan in
     record {
-      part = λ told. AddsTurns-part g.D.CacheDisk.tells (asked_paths c.args.packages.now) c.in_ok-answered_turns.answered_turns (g.W.Wire.exchanges c.args.wire.now) (g.W.Wire.exchanges c.ask.new.wire)
-          (disk_at (g.D.CacheDisk.past c.args.disk.now) (g.D.CacheDisk.failed c.args.disk.now)) (disk_at (g.D.CacheDisk.past c.ask.new.disk) (g.D.CacheDisk.failed c.ask.new.disk)) (c.in_ok-answered_turns.ensures.paths ∙ ap (map path) c.as_slice.ensures ∙ plan.ensures.named)
+      part = λ told. AddsTurns-part g.D.CacheDisk.tells (asked_paths c.args.packages.now) c.in_ok-answered_turns.answered_turns (g.W.Wire.exchanges c.args.wire.now) (g.W.Wire.exchanges c.ask_all.new.wire)
+          (disk_at (g.D.CacheDisk.past c.args.disk.now) (g.D.CacheDisk.failed c.args.disk.now)) (disk_at (g.D.CacheDisk.past c.ask_all.new.disk) (g.D.CacheDisk.failed c.ask_all.new.disk)) (c.in_ok-answered_turns.ensures.paths ∙ ap (map path) c.as_slice.ensures ∙ plan.ensures.named)
           (c.in_ok-answered_turns.ensures.said told);
-      others = λ told q other. c.ask.ensures.others told q (rw c.as_slice.ensures (no_file_of plan.plan.names (asked_paths c.args.packages.now) q plan.ensures.named other));
-      folders = λ told. made_weaker _ _ (λ q is. asked_file plan.plan.names (asked_paths c.args.packages.now) q plan.ensures.named is) _ _ (rw c.as_slice.ensures at (c.ask.ensures.folders told));
+      others = λ told q other. c.ask_all.ensures.others told q (rw c.as_slice.ensures (no_file_of plan.plan.names (asked_paths c.args.packages.now) q plan.ensures.named other));
+      folders = λ told. made_weaker _ _ (λ q is. asked_file plan.plan.names (asked_paths c.args.packages.now) q plan.ensures.named is) _ _ (rw c.as_slice.ensures at (c.ask_all.ensures.folders told));
     }
 
 pub returns-clause-asks : goal.returns-clause-asks
 returns-clause-asks g c =
     let plan = c.in_ok-plan in
     record {
-      part = λ told. AddsTurns-part g.D.CacheDisk.tells (asked_paths c.args.packages.now) c.in_ok-answered_turns.answered_turns (g.W.Wire.exchanges c.args.wire.now) (g.W.Wire.exchanges c.ask.new.wire)
-          (disk_at (g.D.CacheDisk.past c.args.disk.now) (g.D.CacheDisk.failed c.args.disk.now)) (disk_at (g.D.CacheDisk.past c.ask.new.disk) (g.D.CacheDisk.failed c.ask.new.disk)) (c.in_ok-answered_turns.ensures.paths ∙ ap (map path) c.as_slice.ensures ∙ plan.ensures.named)
+      part = λ told. AddsTurns-part g.D.CacheDisk.tells (asked_paths c.args.packages.now) c.in_ok-answered_turns.answered_turns (g.W.Wire.exchanges c.args.wire.now) (g.W.Wire.exchanges c.ask_all.new.wire)
+          (disk_at (g.D.CacheDisk.past c.args.disk.now) (g.D.CacheDisk.failed c.args.disk.now)) (disk_at (g.D.CacheDisk.past c.ask_all.new.disk) (g.D.CacheDisk.failed c.ask_all.new.disk)) (c.in_ok-answered_turns.ensures.paths ∙ ap (map path) c.as_slice.ensures ∙ plan.ensures.named)
           (c.in_ok-answered_turns.ensures.said told);
-      others = λ told q other. c.ask.ensures.others told q (rw c.as_slice.ensures (no_file_of plan.plan.names (asked_paths c.args.packages.now) q plan.ensures.named other));
-      folders = λ told. made_weaker _ _ (λ q is. asked_file plan.plan.names (asked_paths c.args.packages.now) q plan.ensures.named is) _ _ (rw c.as_slice.ensures at (c.ask.ensures.folders told));
+      others = λ told q other. c.ask_all.ensures.others told q (rw c.as_slice.ensures (no_file_of plan.plan.names (asked_paths c.args.packages.now) q plan.ensures.named other));
+      folders = λ told. made_weaker _ _ (λ q is. asked_file plan.plan.names (asked_paths c.args.packages.now) q plan.ensures.named is) _ _ (rw c.as_slice.ensures at (c.ask_all.ensures.folders told));
     }

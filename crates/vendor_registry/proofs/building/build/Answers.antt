@@ -10,7 +10,7 @@ use Rattle.tame_local.proofs.CallsFor.{registry_for}
 use Rattle.vendor_registry.specs.declared.faults.VendorFault.TheVariants as fault
 use Rattle.vendor_registry.specs.Built.{paths_made}
 use Rattle.vendor_registry.specs.Vendored.{paths_of}
-use Rattle.vendor_registry.specs.declared.checks.Checked.{Checked}
+use Rattle.vendor_registry.specs.declared.checks.CheckedCrate.{CheckedCrate}
 use Rattle.vendor_registry.proofs.Begun.{created_begun, on_err, whole_begun}
 use Rattle.vendor_registry.specs.Failed.{IsWithin}
 use Rattle.vendor_registry.proofs.Told.{told_for, told_so}
@@ -36,10 +36,10 @@ returns-in_err-groups-clause-begun g c = λ told pathed.
 pub returns-in-Err-IoPath-Failed-default-clause-begun : goal.returns-in-Err-IoPath-Failed-default-clause-begun
 returns-in-Err-IoPath-Failed-default-clause-begun g c = λ told pathed.
     let to : List ℕ = c.args.to in
-    let cs : List Checked = c.args.checked in
+    let cs : List CheckedCrate = c.args.checked in
     let old : Host = g.F.Files.host c.args.files.now in
     let mid : Host = g.F.Files.host c.begin.new.files in
-    let paths = c.as_slice-2.ensures ∙ c.in_ok-paths.ensures ∙ ap (λ (xs : List Checked). paths_of xs) c.as_slice.ensures in
+    let paths = c.as_slice-2.ensures ∙ c.in_ok-paths.ensures ∙ ap (λ (xs : List CheckedCrate). paths_of xs) c.as_slice.ensures in
     whole_begun to cs old (g.F.Files.host c.finalize.new.files)
     (c.in-Err-IoPath-Failed-default.ensures.same told ∙ c.in_ok-bytes.ensures.made told cs c.in_ok-groups.ensures pathed
     ∙ ap (λ (f : List ℕ). after (paths_made f cs c.as_slice-2.result.now) mid) c.in_ok-builder.ensures.path
@@ -49,10 +49,10 @@ returns-in-Err-IoPath-Failed-default-clause-begun g c = λ told pathed.
 pub returns-in-Err-NoMemory-clause-begun : goal.returns-in-Err-NoMemory-clause-begun
 returns-in-Err-NoMemory-clause-begun g c = λ told pathed.
     let to : List ℕ = c.args.to in
-    let cs : List Checked = c.args.checked in
+    let cs : List CheckedCrate = c.args.checked in
     let old : Host = g.F.Files.host c.args.files.now in
     let mid : Host = g.F.Files.host c.begin.new.files in
-    let paths = c.as_slice-2.ensures ∙ c.in_ok-paths.ensures ∙ ap (λ (xs : List Checked). paths_of xs) c.as_slice.ensures in
+    let paths = c.as_slice-2.ensures ∙ c.in_ok-paths.ensures ∙ ap (λ (xs : List CheckedCrate). paths_of xs) c.as_slice.ensures in
     whole_begun to cs old (g.F.Files.host c.finalize.new.files)
     (c.in-Err-NoMemory.ensures.same told ∙ c.in_ok-bytes.ensures.made told cs c.in_ok-groups.ensures pathed
     ∙ ap (λ (f : List ℕ). after (paths_made f cs c.as_slice-2.result.now) mid) c.in_ok-builder.ensures.path
@@ -62,10 +62,10 @@ returns-in-Err-NoMemory-clause-begun g c = λ told pathed.
 pub returns-clause-begun : goal.returns-clause-begun
 returns-clause-begun g c = λ told pathed.
     let to : List ℕ = c.args.to in
-    let cs : List Checked = c.args.checked in
+    let cs : List CheckedCrate = c.args.checked in
     let old : Host = g.F.Files.host c.args.files.now in
     let mid : Host = g.F.Files.host c.begin.new.files in
-    let paths = c.as_slice-2.ensures ∙ c.in_ok-paths.ensures ∙ ap (λ (xs : List Checked). paths_of xs) c.as_slice.ensures in
+    let paths = c.as_slice-2.ensures ∙ c.in_ok-paths.ensures ∙ ap (λ (xs : List CheckedCrate). paths_of xs) c.as_slice.ensures in
     whole_begun to cs old (g.F.Files.host c.finalize.new.files)
     (c.in-Err.ensures.same told ∙ c.in_ok-bytes.ensures.made told cs c.in_ok-groups.ensures pathed
     ∙ ap (λ (f : List ℕ). after (paths_made f cs c.as_slice-2.result.now) mid) c.in_ok-builder.ensures.path

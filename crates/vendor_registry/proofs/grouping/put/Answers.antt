@@ -1,7 +1,7 @@
 use Rattle.std.proofs.Common.{◌≡◌, ◌∷◌, ◌++◌, [], List, ℕ, cond, bytes_eq, sym, ap, ◌∙◌}
 use Rattle.std.specs.Prelude.{string_bytes}
 use Rattle.vendor_registry.specs.Grouped.{group_at}
-use Rattle.vendor_registry.specs.declared.checks.Checked.{Checked}
+use Rattle.vendor_registry.specs.declared.checks.CheckedCrate.{CheckedCrate}
 use Rattle.vendor_registry.proofs.Groups.{on_ok, one_put}
 use Rattle.vendor_registry.proofs.grouping.put.Goals as goal
 
@@ -14,6 +14,6 @@ returns c = λ q.
     on_ok c.keep_group.result
     (λ kept. one_put old mid c.keep_group.new.groups path c.args.one q (sym (c.in_ok-path.ensures.ok ∙ c.as_str.ensures))
     (c.take_group-group.ensures.left q ∙ ap (λ (p : List ℕ). cond (bytes_eq p q) [] (group_at old q)) key)
-    (kept ∙ ap (λ (g : List Checked). cond (bytes_eq path q) g (group_at mid q))
-    (c.in_ok-add.ensures.ok ∙ ap (λ (g : List Checked). g ++ c.args.one ∷ []) (c.take_group-group.ensures.group ∙ ap (group_at old) key))))
+    (kept ∙ ap (λ (g : List CheckedCrate). cond (bytes_eq path q) g (group_at mid q))
+    (c.in_ok-add.ensures.ok ∙ ap (λ (g : List CheckedCrate). g ++ c.args.one ∷ []) (c.take_group-group.ensures.group ∙ ap (group_at old) key))))
     (c.keep_group.ensures q)

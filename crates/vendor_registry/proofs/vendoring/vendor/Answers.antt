@@ -9,7 +9,7 @@ use Rattle.audit_lock.specs.declared.resolving.Package.{Package}
 use Rattle.vendor_registry.specs.Built.{AreFilled, IsOccupied, IsReadBack, IsTaken, all_made, free_fault}
 use Rattle.vendor_registry.specs.Checks.{IsStopped, Stock, all_checked, stock_of}
 use Rattle.vendor_registry.specs.Looked.{looked}
-use Rattle.vendor_registry.specs.declared.checks.Checked.{Checked}
+use Rattle.vendor_registry.specs.declared.checks.CheckedCrate.{CheckedCrate}
 use Rattle.vendor_registry.specs.Vendored.{paths_of}
 use Rattle.vendor_registry.proofs.Whole.{by_build, checked_pathed, is_vendored, no_read_back, numbers_of, occupied_before, one_checked, outside_unwritten}
 use Rattle.vendor_registry.proofs.vendoring.vendor.Goals as goal
@@ -17,7 +17,7 @@ use Rattle.vendor_registry.proofs.vendoring.vendor.Goals as goal
 pub returns-clause-answered : goal.returns-clause-answered
 returns-clause-answered g c =
     let stock : Stock = stock_of (g.D.CacheDisk.past c.args.disk.now) c.args.index.now (g.F.Files.host c.args.files.now) c.args.crates.now in
-    let cs : List Checked = c.in_ok-checked.checked in
+    let cs : List CheckedCrate = c.in_ok-checked.checked in
     record {
       vendored = λ told_f told_d plain.
           let checks : all_checked stock (looked c.args.audited.now.lockfile) ≡ Ok cs =
@@ -37,7 +37,7 @@ returns-clause-answered g c =
           let checks : all_checked stock (looked c.args.audited.now.lockfile) ≡ Ok cs =
           ap (λ ps. all_checked stock (looked ps)) (sym c.packages-packages.ensures) ∙ c.in_ok-checked.ensures.ok told_f told_d in
           let pathed = checked_pathed stock c.args.audited.now.lockfile cs checks in
-          subst (λ (ds : List Checked). AreFilled c.args.to ds (paths_of ds) (after_change (created c.args.to) (g.F.Files.host c.args.files.now))) (one_checked _ cs others checks are)
+          subst (λ (ds : List CheckedCrate). AreFilled c.args.to ds (paths_of ds) (after_change (created c.args.to) (g.F.Files.host c.args.files.now))) (one_checked _ cs others checks are)
           (subst (λ (h : Host). AreFilled c.args.to cs (paths_of cs) (after_change (created c.args.to) h)) (c.in_ok-checked.ensures.files_same told_f)
           (c.in_ok-built.ensures.filled told_f pathed));
       opened = λ told_f. c.in_ok-built.ensures.opened told_f;
@@ -72,7 +72,7 @@ returns-in_err-checked-clause-answered g c =
 pub returns-in_err-built-clause-answered : goal.returns-in_err-built-clause-answered
 returns-in_err-built-clause-answered g c =
     let stock : Stock = stock_of (g.D.CacheDisk.past c.args.disk.now) c.args.index.now (g.F.Files.host c.args.files.now) c.args.crates.now in
-    let cs : List Checked = c.in_ok-checked.checked in
+    let cs : List CheckedCrate = c.in_ok-checked.checked in
     let e : VendorFault = c.in_err-built.field-0.0 in
     let failed : c.from_residual-in_err-built.result ≡ Err e = first_of (search rules, grind (arith, common_steps)) in
     let before : Host = g.F.Files.host c.args.files.now in
