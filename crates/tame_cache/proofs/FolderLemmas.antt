@@ -1,4 +1,4 @@
--- Folders that one call after another makes.
+-- Folders that one call after another creates.
 use Rattle.std.proofs.Common.{◌≡◌, ℕ, List, [], ◌∷◌, ◌++◌, refl, sym, ap, ◌∙◌, append_assoc, append-nil}
 use Rattle.std.specs.List.{AllByRecursion}
 use Rattle.tame_cache.specs.Folders.{MakesOnly}
@@ -22,6 +22,6 @@ weaker_each P Q f (x ∷ xs) h = (f x h.0, weaker_each P Q f xs h.1)
 pub made_weaker : (P Q : List ℕ → Type 0) → ((x : List ℕ) → P x → Q x) → (before now : List (List ℕ)) → MakesOnly P before now → MakesOnly Q before now
 made_weaker P Q f before now made = (made.0, made.1, weaker_each P Q f made.0 made.2)
 
--- those above one path more
+-- those above one more path
 pub one_made : (a b c : List (List ℕ)) (p : List ℕ) → c ≡ b ++ p ∷ [] → b ≡ a → MakesOnly (λ q. q ≡ p) a c
 one_made a b c p more same = (p ∷ [], more ∙ ap (λ l. l ++ p ∷ []) same, (refl, tt))

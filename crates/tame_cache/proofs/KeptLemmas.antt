@@ -85,7 +85,7 @@ kept_after m index root old new keeps p is = file_kept_after m index p (old (cac
 pub keeps_none : (m : ServerMap) (index : List ℕ) (root : List ℕ) (disk : Disk) → IsKept m index root disk → Keeps m index root disk disk
 keeps_none m index root disk kept p is = keeps_file_none m index p (disk (cache_file root p)) (kept p is)
 
--- where no file changes
+-- if no file changes
 pub keeps_same : (m : ServerMap) (index : List ℕ) (root : List ℕ) (old new : Disk) → ((q : List ℕ) → new q ≡ old q) → IsKept m index root old → Keeps m index root old new
 keeps_same m index root old new same kept p is =
     subst (λ (past : List Step). KeepsFile m index p (old (cache_file root p)) past) (sym (same (cache_file root p))) (keeps_file_none m index p (old (cache_file root p)) (kept p is))
@@ -219,11 +219,11 @@ second_true : (a b : Bool) → (a && b) ≡ true → b ≡ true
 second_true true b h = h
 second_true false b h = cc (h)
 
--- the same of another name of the entry
+-- the same for another name of the entry
 pub moments_of : (old new : List Step) (bytes made : List ℕ) → bytes ≡ made → (IsOrderly old → EachMoment old new (MayStore old bytes)) → IsOrderly old → EachMoment old new (MayStore old made)
 moments_of old new bytes made is each = subst (λ (b : List ℕ). IsOrderly old → EachMoment old new (MayStore old b)) is each
 
--- the same of another name of the file and the entry
+-- the same for another name of the file and the entry
 pub moments_at : (old new : Disk) (q place bytes made : List ℕ) → place ≡ q → bytes ≡ made → (IsOrderly (old q) → EachMoment (old q) (new q) (MayStore (old q) bytes)) → IsOrderly (old place) → EachMoment (old place) (new place) (MayStore (old place) made)
 moments_at old new q place bytes made there is each =
     subst (λ (x : List ℕ). IsOrderly (old x) → EachMoment (old x) (new x) (MayStore (old x) made)) (sym there)

@@ -47,7 +47,7 @@ weaker old new P Q more each = record { grows = each.grows; each = λ file left.
 pub ends : (old new : List Step) (P : File → Type 0) → EachMoment old new P → (file : File) → may_leave new file → P file
 ends old new P each file now = each.each file (counts_now (length old) new file now)
 
--- a change more
+-- one more change
 stepped : (mid new : List Step) (P : File → Type 0) (step : Step) → new ≡ step ∷ mid → ((file : File) → may_leave mid file → P file) → ((file : File) → may_leave new file → P file) → EachMoment mid new P
 stepped mid new P step is before here = record {
   grows = (step ∷ [], is);
@@ -58,14 +58,14 @@ stepped mid new P step is before here = record {
     one file (inl now) = here file (subst (λ (l : List Step). may_leave l file) (sym is) now)
     one file (inr earlier) = before file (only_now mid file earlier.1)
 
--- where nothing changes
+-- if nothing changes
 stays : (mid new : List Step) (P : File → Type 0) → new ≡ mid → ((file : File) → may_leave mid file → P file) → EachMoment mid new P
 stays mid new P same before = subst (λ (l : List Step). EachMoment mid l P) (sym same) (started mid P before)
 
 pub same_past : (old mid new : List Step) (P : File → Type 0) → EachMoment old mid P → new ≡ mid → EachMoment old new P
 same_past old mid new P so_far same = subst (λ (l : List Step). EachMoment old l P) (sym same) so_far
 
--- a write more
+-- one more write
 pub written : (old mid new : List Step) (P : File → Type 0) (at n : ℕ) → EachMoment old mid P → MayWrite at n mid new → ((from file : File) → may_leave mid from → TornFile at n from file → P file) → EachMoment old new P
 written old mid new P at n so_far may torn = elim may [
   | inl same ↦ same_past old mid new P so_far same
@@ -76,7 +76,7 @@ written old mid new P at n so_far may torn = elim may [
     here shows file (inl is) = torn (reads mid) file (reads_left mid) (subst (λ (f : File). TornFile at n (reads mid) f) (sym is) shows)
     here shows file (inr from) = torn from.0 file from.1 from.2
 
--- a cut more
+-- one more cut
 pub shortened : (old mid new : List Step) (P : File → Type 0) (len : ℕ) → EachMoment old mid P → MayCut len mid new → ((from file : File) → may_leave mid from → CutFile len from file → P file) → EachMoment old new P
 shortened old mid new P len so_far may short = elim may [
   | inl same ↦ same_past old mid new P so_far same
@@ -87,7 +87,7 @@ shortened old mid new P len so_far may short = elim may [
     here shows file (inl is) = short (reads mid) file (reads_left mid) (subst (λ (f : File). CutFile len (reads mid) f) (sym is) shows)
     here shows file (inr from) = short from.0 file from.1 from.2
 
--- a sync more
+-- one more sync
 pub synced : (old mid new : List Step) (P : File → Type 0) → EachMoment old mid P → MaySync mid new → EachMoment old new P
 synced old mid new P so_far may = elim may [
   | inl same ↦ same_past old mid new P so_far same

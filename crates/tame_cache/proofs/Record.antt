@@ -1,4 +1,4 @@
--- One call more in the record of a disk in memory.
+-- One more call in the record of a disk in memory.
 use Rattle.std.proofs.Common.{◌≡◌, inl, inr, ℕ, ◌+◌, ◌-◌, ◌≤◌, min, List, [], ◌∷◌, ◌++◌, length, take, drop, Some, None, Bool, true, false, cond, refl, sym, ◌∙◌, ap, subst, arith, append_assoc, length-append, length-drop, drop-drop}
 use Rattle.std.specs.Prelude.{option_map, Result, Ok, Err, OnOk, OnErr}
 use Rattle.std.specs.String.{string_bytes}
@@ -81,7 +81,7 @@ noted_write (Ok u) old new at n now done failed torn =
     inr (done ∙ ap (λ (f : File). Wrote at n f ∷ old) (sym shown), subst (λ (f : File). TornFile at n (reads old) f) (sym shown) torn)
 noted_write (Err e) old new at n now done failed torn = inl failed
 
--- anything that is told of a file's changes after a call, by what a test of its path answered
+-- anything that is said about a file's changes after a call, by what a test of its path answered
 pub told_same : {X : Type 0} (f : List Step → X) (path changed : List ℕ) (past : List Step) (change : Change) (now : File) → bytes_eq changed path ≡ true → f (with_change path past changed change now) ≡ f (step_of change now ∷ past)
 told_same f path changed past change now same = rw same refl
 

@@ -1,4 +1,4 @@
--- What the record of a disk in memory says of each file.
+-- What the record of a disk in memory says about each file.
 use Rattle.std.specs.Prelude.{ℕ, List, [], ◌∷◌, Option, option_map, Vec, if◌then◌else◌}
 use Rattle.std.specs.String.{string_bytes}
 use Rattle.std.specs.Str.{bytes_eq}
@@ -17,12 +17,12 @@ step_of Sync now = Synced now
 abbrev pub file_of : Option (Vec ℕ Global) → File
 file_of now = option_map (λ (bytes : Vec ℕ Global). bytes.items) now
 
--- one change more, where it is one of this path
+-- one more change, if it is one of this path
 abbrev pub with_change : List ℕ → List Step → List ℕ → Change → File → List Step
 with_change path past changed change now =
     if bytes_eq changed path then step_of change now ∷ past else past
 
--- the changes of one file by these calls, the oldest first, behind those of before
+-- the changes of one file by these calls, the oldest first, after those of before
 abbrev pub past_of : List ℕ → List Step → List Call → List Step
 past_of path past [] = past
 past_of path past (call ∷ calls) =

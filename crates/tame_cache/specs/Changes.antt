@@ -1,4 +1,4 @@
--- The current file of each path of a disk in memory, beside its changes.
+-- The current file of each path of a disk in memory, next to its changes.
 use Rattle.std.specs.Prelude.{◌≡◌, List, ℕ, [], Option, None, String, Vec}
 use Rattle.std.specs.Option.{option_map_or}
 use Rattle.std.specs.BTreeMap.{BTreeMap, get_by_text}
@@ -7,7 +7,7 @@ use Rattle.tame_cache.specs.declared.calls.Call.{Call}
 use Rattle.tame_cache.specs.Disk.{File, reads}
 use Rattle.tame_cache.specs.Calls.{file_of, past_of}
 
--- the file that a map has at a path; none where it has none
+-- the file that a map has at a path; none if it has none
 abbrev pub file_in : BTreeMap (String Global) (Option (Vec ℕ Global)) → List ℕ → File
 file_in files path = option_map_or file_of (get_by_text files path) None
 

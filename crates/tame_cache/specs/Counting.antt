@@ -1,4 +1,4 @@
--- Calls that are made to fail by their numbers.
+-- Calls that fail by their numbers.
 use Rattle.std.specs.Prelude.{◌≡◌, ◌⊎◌, ◌≤◌, Result, IsOk, IsErr}
 use Rattle.tame_names.specs.Counts.{IsListed, CountRose, next_call}
 use Rattle.tame_cache.specs.declared.counting.Counts.{Counts}
@@ -8,12 +8,12 @@ abbrev pub IsToFail : Counts → Type 0
 IsToFail counts =
     (counts.stop ≤ next_call counts.made) ⊎ IsListed (next_call counts.made) counts.failing.items
 
--- the object itself ran out of memory, which it counts apart
+-- the object itself ran out of memory, which it counts separately
 abbrev pub RanOutOfMemory : Counts → Counts → Type 0
 RanOutOfMemory old new = CountRose old.starved new.starved
 
--- one call was made, and failed where it was to; which calls are to fail stays, and so do both
--- counts where the call succeeds
+-- one call happened, and failed if it was to; which calls are to fail stays, and so do both counts
+-- if the call succeeds
 pub record IsCalled {T E : Type 0} (old new : Counts) (result : Result T E) : Type 0 where
   pub made : new.made ≡ next_call old.made
   pub failing : new.failing ≡ old.failing

@@ -37,7 +37,7 @@ pub record CutShort (len : ℕ) (old new : List ℕ) : Type 0 where
   pub no_shorter : min len (length old) ≤ length new
   pub front : take (length new) old ≡ new
 
--- the same of files: a new one may be absent
+-- the same for files: a new one may be absent
 abbrev pub TornFile : ℕ → ℕ → File → File → Type 0
 TornFile at n None new = (new ≡ None) ⊎ ((bytes : List ℕ) × (new ≡ Some bytes) × Torn at n [] bytes)
 TornFile at n (Some old) new = (bytes : List ℕ) × (new ≡ Some bytes) × Torn at n old bytes
@@ -53,7 +53,7 @@ pub data Step : Type 0 where
   WasCut : (len : ℕ) (now : File) → Step
   Synced : (now : File) → Step
 
--- what a read gives, the newest change in front
+-- what a read gives, the newest change first
 abbrev pub reads : List Step → File
 reads [] = None
 reads (Wrote at n now ∷ older) = now
@@ -75,7 +75,7 @@ left_since t [] file = may_leave [] file
 left_since t (step ∷ older) file =
     may_leave (step ∷ older) file ⊎ ((t ≤ length older) × left_since t older file)
 
--- a write of n bytes, failed or not: nothing was done, or it is one change more, which a read may
+-- a write of n bytes, failed or not: nothing was done, or it is one more change, which a read may
 -- find torn
 abbrev pub MayWrite : ℕ → ℕ → List Step → List Step → Type 0
 MayWrite at n old new =
@@ -85,7 +85,7 @@ abbrev pub MayCut : ℕ → List Step → List Step → Type 0
 MayCut len old new =
     (new ≡ old) ⊎ ((new ≡ WasCut len (reads new) ∷ old) × CutFile len (reads old) (reads new))
 
--- a sync, failed or not: nothing was done, or it is one change more
+-- a sync, failed or not: nothing was done, or it is one more change
 abbrev pub MaySync : List Step → List Step → Type 0
 MaySync old new = (new ≡ old) ⊎ (new ≡ Synced (reads old) ∷ old)
 

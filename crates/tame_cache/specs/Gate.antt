@@ -14,11 +14,11 @@ IsUnreadable (Some bytes) = (index : List ℕ) → IsErr (read_entry index bytes
 abbrev pub MayStore : List Step → List ℕ → File → Type 0
 MayStore past bytes file = may_leave past file ⊎ (IsUnreadable file ⊎ (file ≡ Some bytes))
 
--- where a read finds no file, a crash leaves none, or one of at most one byte
+-- if a read finds no file, a crash leaves none, or one of at most one byte
 abbrev pub IsOrderly : List Step → Type 0
 IsOrderly past = reads past ≡ None → (file : File) → may_leave past file → length (content file) ≤ 1
 
--- a file was settled: this is its first byte, and where there is a file a crash leaves no other
+-- a file was settled: this is its first byte, and if there is a file a crash leaves no other
 pub record IsSettled (seen : Peek) (past : List Step) : Type 0 where
   pub answer : seen ≡ first_of (reads past)
   pub only : reads past ≢ None → IsAlone past
@@ -26,16 +26,16 @@ pub record IsSettled (seen : Peek) (past : List Step) : Type 0 where
 abbrev pub BeginsWithZero : File → Type 0
 BeginsWithZero file = (rest : List ℕ) × (file ≡ Some (0 ∷ rest))
 
--- byte 0 stands first in each file that a crash may leave
+-- byte 0 comes first in each file that a crash may leave
 abbrev pub IsShut : List Step → Type 0
 IsShut past = (file : File) → may_leave past file → BeginsWithZero file
 
--- the gate is closed: byte 0 stands first, and a crash leaves no other file
+-- the gate is closed: byte 0 comes first, and a crash leaves no other file
 pub record IsClosed (past : List Step) : Type 0 where
   pub first : BeginsWithZero (reads past)
   pub only : IsAlone past
 
--- two files that are equal behind their first bytes
+-- two files that are equal after their first bytes
 abbrev pub DiffersInFirst : File → File → Type 0
 DiffersInFirst one other =
     (x : ℕ) × (y : ℕ) × (rest : List ℕ) × (one ≡ Some (x ∷ rest)) × (other ≡ Some (y ∷ rest))

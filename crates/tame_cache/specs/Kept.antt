@@ -19,7 +19,7 @@ Disk = List ℕ → List Step
 abbrev pub cache_file : List ℕ → List ℕ → List ℕ
 cache_file root p = join (join root (codes ".cache")) p
 
--- that of a name, where it has a path
+-- that of a name, if it has a path
 abbrev pub cache_file_of : List ℕ → List ℕ → Option (List ℕ)
 cache_file_of root name = option_map (cache_file root) (path name)
 
@@ -52,7 +52,7 @@ pub record IsFileKept (m : ServerMap) (index p : List ℕ) (past : List Step) : 
   pub orderly : IsOrderly past
   pub all_good : (file : File) → may_leave past file → IsGood m index p file
 
--- from one moment to another it was kept all the time
+-- it was kept all the time from one moment to another
 pub record KeepsFile (m : ServerMap) (index p : List ℕ) (old new : List Step) : Type 0 where
   pub orderly : IsOrderly new
   pub any_moment : EachMoment old new (IsGood m index p)
@@ -64,7 +64,7 @@ abbrev pub IsKept : ServerMap → List ℕ → List ℕ → Disk → Type 0
 IsKept m index root disk =
     (p : List ℕ) → IsIndexPath p → IsFileKept m index p (disk (cache_file root p))
 
--- from one moment to another a disk was kept all the time
+-- a disk was kept all the time from one moment to another
 abbrev pub Keeps : ServerMap → List ℕ → List ℕ → Disk → Disk → Type 0
 Keeps m index root old new =
     (p : List ℕ) → IsIndexPath p
@@ -107,14 +107,14 @@ IsWrittenFor m p Unknown ps = Unit {0}
 
 -- ---- histories
 
--- each file becomes one that a crash since the last call began might have left, and nothing is
--- pending
+-- each file becomes one that a crash since the start of the last call might have left, and nothing
+-- is pending
 abbrev pub IsCrash : Disk → Disk → Disk → Type 0
 IsCrash began now next =
     (q : List ℕ) → (file : File) × left_since (length (began q)) (now q) file
     × (next q ≡ Synced file ∷ [])
 
--- calls and crashes on one disk on which nothing is believed at first: the disk where the last call
+-- calls and crashes on one disk on which nothing is believed at first: the disk when the last call
 -- began, and the disk now
 pub data History (m : ServerMap) (index root : List ℕ) : Disk → Disk → Type 0 where
   begins : (disk : Disk) → IsUnbelieved index root disk → History m index root disk disk

@@ -8,7 +8,7 @@ use Rattle.tame_cache.specs.Calls.{past_of}
 abbrev pub past_in : MemCacheDisk → List ℕ → List Step
 past_in disk path = past_of path [] disk.changes
 
--- the paths above which folders were made
+-- the paths above which folders were created
 abbrev pub folders_in : MemCacheDisk → List (List ℕ)
 folders_in disk = map (λ path. string_bytes path) disk.folders.items
 
@@ -21,7 +21,7 @@ lost (Wrote at n now ∷ older) = lost older
 lost (WasCut len now ∷ older) = lost older
 lost (Synced now ∷ older) = now
 
--- a range of fours at a place; behind the end there is none
+-- a range of fours at a place; past the end there is none
 abbrev pub with_fours : ℕ → ℕ → File → File
 with_fours at n None = if at == 0 then Some (replicate n 4) else None
 with_fours at n (Some bytes) =
@@ -60,7 +60,7 @@ pub record IsCrashed (pick : ℕ) (path : List ℕ) (old new : MemCacheDisk) : T
   pub possible : may_leave (past_in old path) (reads (past_in new path))
   pub only : IsAlone (past_in new path)
 
--- no call was made, and none is to fail
+-- there was no call, and none is to fail
 pub record IsFresh (disk : MemCacheDisk) : Type 0 where
   pub folders : folders_in disk ≡ []
   pub tears : disk.tears ≡ false

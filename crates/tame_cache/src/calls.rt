@@ -12,7 +12,7 @@ pub enum Change {
     Write(u64, u64),
     /// The length in bytes that is left.
     Cut(u64),
-    /// What was written is made to last.
+    /// What was written will last.
     Sync,
 }
 
@@ -23,7 +23,7 @@ pub struct Call {
     pub path: String,
     /// What was done to it.
     pub change: Change,
-    /// The bytes that a read gives afterwards; none where there is no file.
+    /// The bytes that a read gives afterwards; none if there is no file.
     pub file: Option<Vec<u8>>,
 }
 
@@ -40,7 +40,7 @@ pub fn current<'a>(calls: &'a [Call], path: &str) -> Option<&'a Vec<u8>>
     found
 }
 
-/// The bytes of a file; none where there is no file.
+/// The bytes of a file; none if there is no file.
 pub fn content_of<'a>(file: Option<&'a Vec<u8>>) -> &'a [u8]
     ensures { result.now ≡ content (file_of (option_copied file.entry)) }
 {
@@ -50,7 +50,7 @@ pub fn content_of<'a>(file: Option<&'a Vec<u8>>) -> &'a [u8]
     }
 }
 
-/// Bytes with a piece written over them at a place, which isn't behind their end.
+/// Bytes with a piece written over them at a place, which isn't past their end.
 pub fn with_bytes(alloc: Global, old: &[u8], at: usize, piece: &[u8]) -> Result<Vec<u8>, AllocError>
     requires { at ≤ length old.now }
     ensures { IfOk result (λ bytes. bytes.items ≡ with_piece old.now at piece.now) }
@@ -63,7 +63,7 @@ pub fn with_bytes(alloc: Global, old: &[u8], at: usize, piece: &[u8]) -> Result<
     Ok(bytes)
 }
 
-/// A copy of a file, where there is one.
+/// A copy of a file, if there is one.
 pub fn copy_of(alloc: Global, file: Option<&Vec<u8>>) -> Result<Option<Vec<u8>>, AllocError>
     ensures { IfOk result (λ now. file_of now ≡ file_of (option_copied file.entry)) }
 {

@@ -1,4 +1,4 @@
-//! Calls counted, and made to fail by their numbers.
+//! Calls that are counted and fail by their numbers.
 ghost use Rattle.std.specs.Prelude.{◌≡◌, ◌≤◌, ◌+◌, IsErr, OnErr};
 ghost use Rattle.tame_names.specs.Counts.{CountRose, next_call};
 ghost use Rattle.tame_cache.specs.Counting.{IsCalled, IsToFail, RanOutOfMemory};
@@ -6,11 +6,11 @@ ghost use Rattle.tame_cache.specs.Faults.{HasDiskCause};
 
 use crate::disk::DiskFault;
 
-/// How many calls were made, which fail by their numbers, the number from which on all fail, how
-/// many have failed, and how often the object's own memory ran out. The first call has number 1.
+/// How many calls there were, the numbers of those that fail, the number from which on all fail,
+/// how many have failed, and how often the object itself ran out of memory. Numbers start at 1.
 #[derive(Drop)]
 pub struct Counts {
-    /// How many calls were made, at most 2^64 - 1.
+    /// How many calls there were, at most 2^64 - 1.
     pub made: u64,
     /// The numbers of the calls that fail.
     pub failing: Vec<u64>,
@@ -18,7 +18,7 @@ pub struct Counts {
     pub stop: u64,
     /// How many calls have failed, at most 2^64 - 1.
     pub faults: u64,
-    /// How often the object's own memory ran out, at most 2^64 - 1.
+    /// How often the object itself ran out of memory, at most 2^64 - 1.
     pub starved: u64,
 }
 
@@ -64,7 +64,7 @@ impl Counts {
         self.fail()
     }
 
-    /// Begins a call, which fails where its number is listed or isn't below the stop.
+    /// Begins a call, which fails if its number is listed or isn't below the stop.
     pub fn begin(&mut self) -> Result<(), DiskFault>
         ensures cause { HasDiskCause self.old.faults self.new.faults result }
         ensures made { self.new.made ≤ self.old.made + 1 }

@@ -54,7 +54,7 @@ fn with_fours(
     }
 }
 
-/// A file after one change more, where what is written is fours.
+/// A file after one more change, with fours in place of what is written.
 fn after_spoiled(
     alloc: Global,
     file: Option<Vec<u8>>,
@@ -83,7 +83,7 @@ fn spoiled(alloc: Global, calls: &[Call], path: &str) -> Result<Option<Vec<u8>>,
     Ok(file)
 }
 
-/// The number of changes that aren't synced, after one change more.
+/// The number of changes that aren't synced, after one more change.
 fn next_pending(count: usize, change: Change) -> usize
     requires { count < 2 ^ 64 - 1 }
     ensures next { (past : List Step) (now : File) → count ≡ spec.pending past
@@ -148,8 +148,8 @@ impl MemCacheDisk {
     ghost use Rattle.tame_cache.specs.MemoryDisk.{IsCrashed, IsFresh};
     ghost use Rattle.tame_cache.specs.MemoryDisk as spec;
 
-    /// The disk after a crash, with nothing pending and no call that is to fail. Each file is, by
-    /// the pick, 0 as after its last sync, 1 as a read gives, 2 with fours in place of what was
+    /// The disk after a crash, with nothing pending and no call that is to fail. The pick decides
+    /// each file: 0 as after its last sync, 1 as a read gives, 2 with fours in place of what was
     /// written since its last sync, else with the first half of the changes since then.
     pub fn after_crash(self, alloc: Global, pick: u8) -> Result<MemCacheDisk, NoMemory>
         ensures crashed { IfOk result (λ disk. (q : List ℕ) → IsCrashed pick q self disk) }

@@ -1,4 +1,4 @@
-//! A disk of cache files. Contracts see a file as the list of its changes, the newest in front.
+//! A disk of cache files. Contracts see a file as the list of its changes, the newest first.
 ghost use Rattle.std.specs.Prelude.{◌≡◌, ◌≢◌, ◌≤◌, ◌+◌, List, ℕ, [], ◌∷◌, ◌++◌, length, take, Some, IfOk, OnOk, option_map};
 ghost use Rattle.tame_names.specs.Counts.{HasCause};
 ghost use Rattle.tame_cache.specs.Faults.{HasDiskCause};
@@ -13,7 +13,7 @@ use tame_names::Text;
 pub enum Peek {
     /// There is no file.
     Absent,
-    /// The file has no byte.
+    /// The file has no bytes.
     Empty,
     /// The first byte of the file.
     Byte(u8),
@@ -28,7 +28,7 @@ pub struct DiskFault;
 pub enum DiskReadFault {
     /// The call failed, and the disk counted it.
     Failed,
-    /// Memory ran out.
+    /// Out of memory.
     NoMemory,
 }
 
@@ -65,16 +65,16 @@ pub trait CacheDisk {
     /// The changes of the file at a path, the newest first.
     ghost past: { Self → List ℕ → List Step };
 
-    /// The paths above which folders were made, the first in front, where they are told.
+    /// The paths above which folders were created, the oldest first, if the disk tells.
     ghost folders: { Self → List (List ℕ) };
 
-    /// The calls that have failed, the first in front; none where they aren't all told.
+    /// The calls that have failed, the oldest first; none if they aren't all told.
     ghost failed: { Self → FailedDiskCalls };
 
     /// How often a call has failed.
     ghost faults: { Self → ℕ };
 
-    /// How many calls were made, or fewer.
+    /// How many calls there were, or fewer.
     ghost made: { Self → ℕ };
 
     /// How often a call has failed; the count stays at 2^64 - 1 once it is there.
@@ -92,7 +92,7 @@ pub trait CacheDisk {
             (failed self.new) result }
         ensures cause { HasDiskCause (faults self.old) (faults self.new) result };
 
-    /// Reads a whole file; nothing where there is no file.
+    /// Reads a whole file; nothing if there is no file.
     fn read(&mut self, alloc: Global, path: &str) -> Result<Option<Vec<u8>>, DiskReadFault>
         ensures file { tells → IfOk result
             (λ file. option_map (λ bytes. bytes.items) file ≡ reads (past self.old path.now)) }
@@ -104,7 +104,7 @@ pub trait CacheDisk {
         ensures cause { HasCause DiskReadFault.NoMemory (faults self.old)
             (faults self.new) result };
 
-    /// Makes the folders above a path, and no others.
+    /// Creates the folders above a path, and no others.
     fn make_dirs(&mut self, path: &str) -> Result<(), DiskFault>
         ensures same { tells → (q : List ℕ) → past self.new q ≡ past self.old q }
         ensures folders { tells → MakesOnly (λ q. q ≡ path.now) (folders self.old)
@@ -131,7 +131,7 @@ pub trait CacheDisk {
             (failed self.new) result }
         ensures cause { HasDiskCause (faults self.old) (faults self.new) result };
 
-    /// Cuts a file to a length in bytes, where it is longer.
+    /// Cuts a file to a length in bytes, if it is longer.
     fn cut(&mut self, path: &str, len: u64) -> Result<(), DiskFault>
         ensures cut { tells → OnOk result
             (reads (past self.new path.now)

@@ -14,23 +14,23 @@ pub fn empty_is_kept()
         → IsWithoutFiles root disk → IsKept m index root disk }
 {}
 
-/// A disk that is kept stays so where more is known of what the server held.
+/// A disk that is kept stays so if more is known of what the server held.
 pub fn kept_for_more()
     ensures { (m : ServerMap) (more : ServerMap) (index : List ℕ) (root : List ℕ) (disk : Disk)
         → IsAddedTo m more → IsKept m index root disk → IsKept more index root disk }
 {}
 
 /// A disk with nothing pending whose files are all refused for the url of the index is kept,
-/// whatever a server held. So is one that another index, or the version of entries before this one,
-/// has filled.
+/// whatever a server held. So is one that another index, or the previous version of entries, has
+/// filled.
 pub fn refused_is_kept()
     ensures { (m : ServerMap) (index : List ℕ) (root : List ℕ) (disk : Disk)
         → AreRefused index root disk → IsKept m index root disk }
 {}
 
-/// Two indices that share a folder never believe each other: a file that is kept for the one stays
-/// so at each moment of a write of the other, of which each file is one that a crash could have
-/// left before, refused, or the whole entry of the other, which the one refuses.
+/// Two indices that share a folder never believe each other. A file that is kept for the one stays
+/// so at each moment of a write of the other: each file is then one that a crash could have left
+/// before, refused, or the whole entry of the other, which the one refuses.
 pub fn shared_folders_stay_kept()
     ensures kept { (m : ServerMap) (one other p : List ℕ) (r : EntryRevision) (ps : List Pair)
         (old new : List Step) → IsTrue (has_no_zero other) → other ≢ one → IsFileKept m one p old
@@ -41,9 +41,9 @@ pub fn shared_folders_stay_kept()
         → read_entry one (entry other r ps) ≡ Err OtherIndex }
 {}
 
-/// A disk that begins without files, or with nothing pending and files that are all refused for the
-/// url of the index, and is used by calls that keep it at each of their moments, is kept whenever
-/// it crashes.
+/// If a disk begins without files, or with nothing pending and files that are all refused for the
+/// url of the index, and is used by calls that keep it at each of their moments, it is kept
+/// whenever it crashes.
 pub fn histories_keep()
     ensures { (m : ServerMap) (index : List ℕ) (root : List ℕ) (began : Disk) (now : Disk)
         → History m index root began now → IsKept m index root now }

@@ -1,9 +1,9 @@
 //! The cache: entries on a disk, stored so that no failed write and no crash leaves a readable lie.
 //!
-//! Promises: where only bodies that the server held are written under HTTP revisions, a file that
-//! is readable under one is the entry of such a body, after each call and each crash.
-//! Stands on the paths and locks of `tame_names`, the entries of `tame_entry`, and a disk that its
-//! caller brings, of which `MemCacheDisk` is one in memory that fails and crashes as it is told.
+//! Promises: if only bodies that the server held are written under HTTP revisions, a file that is
+//! readable under one is the entry of such a body, after each call and each crash.
+//! Depends on the paths and locks of `tame_names`, the entries of `tame_entry`, and a disk that its
+//! caller supplies. `MemCacheDisk` is one in memory, which fails and crashes on demand.
 //!
 //! ```ignore
 //! // crates/uses/src/indexes.rt: newest_kept

@@ -1,4 +1,4 @@
-//! A disk in memory, which keeps a record of all its changes.
+//! A disk in memory, which records all its changes.
 ghost use Rattle.std.specs.Prelude.{◌≡◌, ◌≢◌, ◌⊎◌, ◌<◌, ◌≤◌, ◌+◌, ◌-◌, ◌/◌, ◌^◌, ◌++◌, min, map, ⊤, Some, Err, [], ◌∷◌, List, ℕ, length, take, false, true, IfOk, IsErr, OnOk, OnErr, option_map, option_copied};
 ghost use Rattle.std.specs.String.{string_bytes};
 ghost use Rattle.tame_names.specs.Counts.{CountRose, HasCause, next_call};
@@ -16,7 +16,7 @@ use crate::disk::{CacheDisk, DiskCall, DiskFault, DiskReadFault, FailedDiskCall,
 use std::alloc::{AllocError, Global};
 use tame_names::{Items, NoMemory, Text};
 
-/// A disk whose files are kept in memory, with each call that changed one. The calls whose numbers
+/// A disk that keeps its files in memory, with each call that changed one. The calls whose numbers
 /// are listed, counted from 1, fail.
 #[derive(Drop)]
 pub struct MemCacheDisk {
@@ -25,14 +25,14 @@ pub struct MemCacheDisk {
     folders: Vec<String>,
     tears: bool,
     pub(crate) counts: Counts,
-    /// The calls that have failed; none once memory ran out for one of them.
+    /// The calls that have failed; none once one of them ran out of memory.
     pub(crate) failed: Option<Items<FailedDiskCall>>,
 }
 
 impl MemCacheDisk {
     ghost use Rattle.tame_cache.specs.MemoryDisk.{folders_in, past_in};
 
-    /// A disk without files, of which the calls with these numbers fail.
+    /// A disk without files whose calls with these numbers fail.
     pub fn new(alloc: Global, failing: Vec<u64>) -> Self
         ensures files { (q : List ℕ) → past_in result q ≡ [] }
         ensures folders { folders_in result ≡ [] }
@@ -70,7 +70,7 @@ fn add_folder(alloc: Global, folders: &mut Vec<String>, path: &str) -> Result<()
     Ok(())
 }
 
-/// The failed calls with one more, or none where memory runs out.
+/// The failed calls with one more, or none if out of memory.
 pub(crate) fn with_failed(
     alloc: Global,
     failed: Option<Items<FailedDiskCall>>,
@@ -94,7 +94,7 @@ pub(crate) fn with_failed(
 impl MemCacheDisk {
     ghost use Rattle.tame_cache.specs.MemoryDisk.{folders_in, past_in};
 
-    /// Begins a call, which fails where its number is listed or isn't below the stop.
+    /// Begins a call, which fails if its number is listed or isn't below the stop.
     fn begin(&mut self, call: DiskCall, path: &str) -> Result<(), DiskFault>
         ensures changes { self.new.changes ≡ self.old.changes }
         ensures folders { self.new.folders ≡ self.old.folders }
@@ -118,7 +118,7 @@ impl MemCacheDisk {
         }
     }
 
-    /// Counts a fault because memory ran out.
+    /// Counts a fault for lack of memory.
     pub(crate) fn starve(&mut self, call: DiskCall, path: &str) -> DiskFault
         ensures changes { self.new.changes ≡ self.old.changes }
         ensures folders { self.new.folders ≡ self.old.folders }
@@ -151,7 +151,7 @@ impl MemCacheDisk {
         Ok(self.changes.add(alloc, path, Change::Sync, Some(now))?)
     }
 
-    /// The n-th call from now and all later ones fail; 0 is as 1.
+    /// The n-th call from now and all later ones fail; 0 means 1.
     pub fn stop_at(&mut self, n: u64)
         ensures tears { self.new.tears ≡ self.old.tears }
         ensures same { (q : List ℕ) → past_in self.new q ≡ past_in self.old q }
@@ -166,7 +166,7 @@ impl MemCacheDisk {
         self.counts.stop = self.counts.made.saturating_add(n);
     }
 
-    /// From now a write that fails writes the first half of its piece.
+    /// From now on a failed write writes the first half of its piece.
     pub fn tear(&mut self)
         ensures tears { self.new.tears ≡ true }
         ensures same { (q : List ℕ) → past_in self.new q ≡ past_in self.old q }
@@ -177,7 +177,7 @@ impl MemCacheDisk {
         self.tears = true;
     }
 
-    /// How often the disk's own memory ran out.
+    /// How often the disk itself ran out of memory.
     pub fn starved(&self) -> u64
         ensures { result ≡ self.now.counts.starved }
     {

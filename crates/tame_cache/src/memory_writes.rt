@@ -1,4 +1,4 @@
-//! Changes of a disk in memory that are noted, and writes: whole ones, and those that a fault tears.
+//! Noted changes of a disk in memory, and writes: whole ones, and those that a fault tears.
 ghost use Rattle.std.specs.Prelude.{◌≡◌, ◌≢◌, ◌⊎◌, ◌<◌, ◌≤◌, ◌/◌, ◌++◌, ◌∷◌, [], Some, List, ℕ, length, take, OnOk, OnErr};
 ghost use Rattle.tame_names.specs.Counts.{next_call};
 ghost use Rattle.tame_cache.specs.Counting.{RanOutOfMemory};
@@ -80,7 +80,7 @@ impl MemCacheDisk {
         }
     }
 
-    /// Does half of a write, unless memory runs out, which is counted.
+    /// Does half of a write, unless it runs out of memory, which is counted.
     pub(crate) fn write_half(&mut self, path: &str, at: u64, piece: &[u8])
         ensures step { MayWrite at (length piece.now) (past_in self.old path.now)
             (past_in self.new path.now) }

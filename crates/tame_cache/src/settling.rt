@@ -8,8 +8,8 @@ ghost use Rattle.tame_cache.specs.Gate.{IsSettled};
 
 use crate::disk::{CacheDisk, DiskFault, Peek};
 
-/// Brings the file of a path onto the disk and answers its first byte. Where there is no file it
-/// makes the folders above it. At most four calls on the disk.
+/// Brings the file of a path onto the disk and returns its first byte. If there is no file it
+/// creates the folders above it. At most four calls on the disk.
 pub fn settle<D: CacheDisk>(disk: &mut D, path: &str) -> Result<Peek, DiskFault>
     ensures settled { D.tells → IfOk result (λ seen. IsSettled seen (D.past disk.new path.now)) }
     // it changes no file
@@ -17,7 +17,7 @@ pub fn settle<D: CacheDisk>(disk: &mut D, path: &str) -> Result<Peek, DiskFault>
     ensures any_moment { D.tells → EachMoment (D.past disk.old path.now) (D.past disk.new path.now)
         (may_leave (D.past disk.old path.now)) }
     ensures others { D.tells → (q : List ℕ) → q ≢ path.now → D.past disk.new q ≡ D.past disk.old q }
-    // where no file is there, the folders above it are made, and no others
+    // if no file is there, the folders above it are created, and no others
     ensures made { D.tells → OnOk result (reads (D.past disk.old path.now) ≡ None
         → D.folders disk.new ≡ D.folders disk.old ++ path.now ∷ []) }
     ensures folders { D.tells → MakesOnly (λ q. q ≡ path.now) (D.folders disk.old)
