@@ -5,4 +5,4 @@ mod laid_texts;
 mod readings;
 
 pub use laid_texts::LaidTexts;
-pub use readings::{add_read, packages_named, read_advisory, read_lockfile};
+pub use readings::{add_read, listed, packages_named, read_advisory, read_lockfile};

@@ -6,7 +6,7 @@ ghost use Rattle.advice_fixtures.specs.Readings.{IsUnread};
 
 use audit_advisory::{Advisory, AdvisoryFault};
 use audit_lock::{Lockfile, LockfileFault, Package};
-use row_fixtures::RowFault;
+use row_fixtures::{Row, RowFault};
 use std::alloc::Global;
 use tame_names::{Items, Text};
 
@@ -62,4 +62,16 @@ pub fn packages_named(
         }
     }
     Ok(places)
+}
+
+/// The texts of a word that has commas between them; none for `-`.
+pub fn listed(alloc: Global, row: &mut Row<'_>) -> Result<Items<Text>, RowFault> {
+    let mut texts = Items::new(alloc);
+    let word = row.word();
+    if word != "-" {
+        for text in word.split(',') {
+            texts.add(Text::of(alloc, text)?)?;
+        }
+    }
+    Ok(texts)
 }

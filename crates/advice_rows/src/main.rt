@@ -5,24 +5,19 @@
 //! - `advisories`: requirements, advisories, what they hit, and reports of small databases;
 //! - `reports`: printed reports and status lines;
 //! - `trees`: the inverse dependency trees of lockfiles.
-//!
-//! `advice_rows reports ADVISORIES LOCKFILE N` and `advice_rows trees LOCKFILE [NAME]` count
-//! instead what is found and rendered, to be timed.
 #![tactic(auto)]
 
 mod advisories;
 mod reports;
 mod row_words;
 mod stage;
-mod timing;
 mod trees;
 mod words;
 
 use row_fixtures::{Row, RowFault, Table, answer_lines};
 use stage::Stage;
 use std::alloc::Global;
-use std::io::ErrorKind;
-use std::{env, io};
+use std::io;
 
 /// The table that rows are read by.
 #[derive(Drop)]
@@ -55,13 +50,5 @@ impl Table for Section {
 }
 
 fn main(rt: HostRuntime) -> io::Result<()> {
-    let mut words = env::args(&rt)?.skip(1);
-    let Some(way) = words.next() else {
-        return answer_lines::<Section>(&rt);
-    };
-    match way.as_str() {
-        "reports" => timing::count_reports(&rt, words.next(), words.next(), words.next()),
-        "trees" => timing::count_trees(&rt, words.next(), words.next()),
-        _ => Err(io::Error::from(ErrorKind::InvalidInput)),
-    }
+    answer_lines::<Section>(&rt)
 }

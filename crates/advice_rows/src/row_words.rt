@@ -1,21 +1,10 @@
 //! What the words of a row mean.
+use advice_fixtures::listed;
 use audit_advisory::{DenyOption, Informational, OutputFormat, Severity, WarningKind};
 use audit_report::Found;
 use row_fixtures::{Row, RowFault};
 use std::alloc::Global;
 use tame_names::{Items, Text};
-
-/// The words between commas; none for `-`.
-pub fn listed(alloc: Global, row: &mut Row<'_>) -> Result<Items<Text>, RowFault> {
-    let mut texts = Items::new(alloc);
-    let word = row.word();
-    if word != "-" {
-        for text in word.split(',') {
-            texts.add(Text::of(alloc, text)?)?;
-        }
-    }
-    Ok(texts)
-}
 
 /// What advisories inform of; nothing for `-`.
 pub fn informational(alloc: Global, row: &mut Row<'_>) -> Result<Items<Informational>, RowFault> {

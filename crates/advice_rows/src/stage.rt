@@ -5,8 +5,8 @@
 //! - `advisory`: an advisory begins, `lock`: the lockfile begins, `| LINE`: the next line of it;
 //! - `report YANKED IGNORE SEVERITY ARCH OS KINDS`: the report of the advisories on the lockfile,
 //!   of which the packages YANKED, each `NAME@VERSION`, are yanked.
-use crate::row_words::{informational, listed, severity};
-use advice_fixtures::{LaidTexts, packages_named};
+use crate::row_words::{informational, severity};
+use advice_fixtures::{LaidTexts, listed, packages_named};
 use audit_advisory::{Comparisons, Database, Report, Settings};
 use audit_lock::Lockfile;
 use audit_report::Presenter;

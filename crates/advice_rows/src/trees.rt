@@ -9,7 +9,7 @@ use std::alloc::{AllocError, Global};
 use tame_names::{Items, MemSink, Sink, utf8_text};
 
 /// Whether a tree is rendered whole; if not, a write failed.
-pub fn is_rendered<S: Sink>(
+fn is_rendered<S: Sink>(
     alloc: Global,
     lockfile: &Lockfile,
     node: usize,

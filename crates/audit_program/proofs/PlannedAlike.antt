@@ -12,7 +12,6 @@ use Rattle.audit_advisory.specs.Hits.{is_from_default}
 use Rattle.audit_advisory.specs.Places.{places_from}
 use Rattle.audit_advisory.specs.declared.advisories.Advisory.{Advisory}
 use Rattle.audit_advisory.specs.declared.settings.Settings.{Settings}
-use Rattle.audit_core.specs.Paths.{is_default_source}
 use Rattle.audit_core.specs.declared.auditing.Audited.{Audited}
 use Rattle.upgrade_plan.specs.Least.{IsFirstLowest, is_lower}
 use Rattle.upgrade_plan.specs.Plans.{IsOutcome, IsPathOutcome, IsPlanBy, IsPlanOf, IsPlannedAt, IsSourceOutcome, crates_io_cache, has_vulnerability, is_store, stores}
@@ -166,11 +165,6 @@ items_same P Q packages (x ∷ xs) (y ∷ ys) f same some so su h k =
 
 -- ---- the plans
 
--- a package's source is that of the default registry by both definitions of it
-default_same : (s : Option (List ℕ)) → is_default_source s ≡ is_from_default s
-default_same None = refl
-default_same (Some source) = refl
-
 -- the file of a name that has a path
 named_file : (name f : List ℕ) (o : Option (List ℕ)) (P : List ℕ → Type 0) → path name ≡ o → option_map (cache_file []) o ≡ Some f → ((q : List ℕ) → path name ≡ Some q → P (cache_file [] q)) → P f
 named_file name f None P at is g = cc (is)
@@ -185,7 +179,7 @@ plans_same told too advisories a a2 files files_too f f_now g g_now items items_
     items_same (IsPlanOf told a.report.settings advisories crates_io_cache (λ q. reads (files q))) (IsPlanOf too a.report.settings advisories crates_io_cache (λ q. reads (files_too q))) a.lockfile items items_too
     (λ place p o u at so su one two. source_same told too a.report.settings advisories (λ q. reads (files q)) (λ q. reads (files_too q)) p (is_from_default p.source) o u t s
     (λ default r named. named_file p.name r (path p.name) (λ x. file_records crates_io_index (reads (files x)) ≡ file_records crates_io_index (reads (files_too x))) refl named
-    (same place p at (default_same p.source ∙ default))) so su one two)
+    (same place p at default)) so su one two)
     (h.packages ∙ sym k.packages)
     (subst (λ (ns : List ℕ). AllByRecursion (λ n. IsSome (slice_get a.lockfile n)) ns) (sym h.packages) here)
     (no_stores items (none_rose (stores items) f f_now quiet h.stores)) (no_stores items_too (none_rose (stores items_too) g g_now quiet_too k.stores))

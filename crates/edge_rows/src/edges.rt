@@ -7,7 +7,7 @@ use std::fs::{self, OpenOptions};
 use std::io::{self, ErrorKind};
 use tame_cache::{CacheDisk, CacheFault, DiskReadFault, IndexCache, Kept, Peek};
 use tame_entry::{CacheWrite, HttpRevision, IndexEntry, JsonLines, OwnedRevision, Revision};
-use tame_names::{FileLock, KrateName, NoMemory, Sink, Text};
+use tame_names::{FileLock, KrateName, NoMemory, Sink, Text, put_piece};
 use tame_sparse::{Request, Wire, WireAnswer, WireFault, crates_io_request};
 
 /// The edges of one run.

@@ -187,7 +187,8 @@ fn play_sinks(
     let mut sinks = Sinks {
         host,
         outlet,
-        memory: MemSink::new(alloc, sink_failing(alloc, outlet, steps)?),
+        answers: MemSink::new(alloc, sink_failing(alloc, outlet, steps)?),
+        memory: MemSink::new(alloc, Items::new(alloc)),
         real: StdSink::new(opened_outlet(host, outlet)?),
     };
     play(&mut sinks, steps, count)

@@ -9,7 +9,7 @@ use audit_edges::StdSink;
 use std::alloc::{AllocError, Global};
 use std::fs::{self, OpenOptions};
 use std::io;
-use tame_names::{Items, MemSink, Sink};
+use tame_names::{Items, MemSink, Sink, put_piece};
 
 /// Where an output goes.
 #[derive(Clone, Copy, PartialEq, Eq)]
@@ -33,22 +33,20 @@ impl Outlet {
     }
 }
 
-/// Both outputs.
+/// Both outputs. Two in memory act as one: the puts of the first fail as the steps do, and the
+/// second holds what was appended of each piece.
 #[derive(Drop)]
 pub struct Sinks<'a> {
     pub host: &'a Host<'a>,
     pub outlet: Outlet,
+    pub answers: MemSink,
     pub memory: MemSink,
     pub real: StdSink<HostFile<'a>>,
 }
 
-/// Whether a step fails. Where all calls but the first do, nothing but a put of bytes makes more.
+/// Whether a put of bytes fails in a step.
 fn is_failing(outlet: Outlet, step: &Step) -> bool {
-    match failing_of(step) {
-        Failing::All => true,
-        Failing::Later => step.size > 0,
-        _ => step.size > 0 && outlet != Outlet::File,
-    }
+    step.fails || outlet != Outlet::File
 }
 
 fn failing_of(step: &Step) -> Failing {
@@ -61,8 +59,7 @@ fn failing_of(step: &Step) -> Failing {
     }
 }
 
-/// The numbers of the puts in memory that are to fail: each step makes one, and behind it one of
-/// what came of its piece all the same.
+/// The numbers of the puts in memory that must fail: each step whose piece has bytes makes one.
 pub fn sink_failing(
     alloc: Global,
     outlet: Outlet,
@@ -71,10 +68,13 @@ pub fn sink_failing(
     let mut numbers = Vec::new(alloc);
     let mut next: u64 = 1;
     for step in steps {
+        if step.size == 0 {
+            continue;
+        }
         if is_failing(outlet, step) {
             numbers.push(next)?;
         }
-        next = next.saturating_add(2);
+        next = next.saturating_add(1);
     }
     Ok(Items::of(numbers))
 }
@@ -99,7 +99,7 @@ pub fn opened_outlet<'a>(host: &'a Host<'a>, outlet: Outlet) -> io::Result<HostF
 /// What an output answers to a piece, and by how much that raises its count of faults.
 fn put_text<S: Sink>(sink: &mut S, alloc: Global, piece: &[u8]) -> io::Result<String> {
     let before = sink.sink_faults();
-    let word = match sink.put(piece) {
+    let word = match put_piece(sink, piece) {
         Ok(()) => "done",
         Err(_) => "fault",
     };
@@ -119,13 +119,11 @@ impl<'a> Sinks<'a> {
         }
     }
 
-    /// Puts into the output in memory what came of a piece though it failed: a part of its front.
-    fn come_along(&mut self, piece: &[u8]) -> io::Result<()> {
+    /// The part from the front of a piece that was appended though the put failed.
+    fn appended<'p>(&self, piece: &'p [u8]) -> io::Result<&'p [u8]> {
         let found = self.found()?.len();
         let came = found.saturating_sub(self.memory.bytes().len());
-        let front = piece.get(..came).unwrap_or(&[]);
-        let _ = self.memory.put(front);
-        Ok(())
+        Ok(piece.get(..came).unwrap_or(&[]))
     }
 }
 
@@ -133,15 +131,16 @@ impl<'a> World for Sinks<'a> {
     fn step(&mut self, step: &Step) -> io::Result<Pair> {
         let alloc = self.host.rt.alloc();
         let piece = contents(alloc, step.size, step.fill)?;
-        let memory = put_text(&mut self.memory, alloc, piece.as_slice())?;
+        let memory = put_text(&mut self.answers, alloc, piece.as_slice())?;
         self.host.begin(failing_of(step));
         let real = put_text(&mut self.real, alloc, piece.as_slice());
         self.host.begin(Failing::None);
-        if memory.as_str().starts_with("fault") {
-            self.come_along(piece.as_slice())?;
+        let appended = if memory.as_str().starts_with("fault") {
+            self.appended(piece.as_slice())?
         } else {
-            let _ = self.memory.put(&[]);
-        }
+            piece.as_slice()
+        };
+        let _ = put_piece(&mut self.memory, appended);
         Ok(Pair {
             memory,
             real: real?,

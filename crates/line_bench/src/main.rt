@@ -1,10 +1,12 @@
 //! Reads the lines of an index file over and over in one of four ways, to be timed:
 //! `line_bench read FILE`, `deserialize FILE`, `heads FILE` or `scan FILE`. Prints the number of
 //! lines, and how many of them are yanked. `line_bench list FILE` prints a line for each: its
-//! version and flag, and which reader says so.
+//! version and flag, and which reader says so. `reports ADVISORIES LOCKFILE N` and `trees LOCKFILE
+//! [NAME]` are those of the module `audits`.
 #![tactic(auto)]
 
 mod answers;
+mod audits;
 
 use std::io::ErrorKind;
 use std::process::ExitCode;
@@ -109,18 +111,27 @@ fn list(rt: &HostRuntime, bytes: &[u8]) -> io::Result<()> {
     Ok(())
 }
 
+/// Reads the lines of a file.
+fn bench_lines(rt: &HostRuntime, way: &str, path: &str) -> io::Result<()> {
+    let bytes = fs::read(rt, path)?;
+    if way == "list" {
+        return list(rt, bytes.as_slice());
+    }
+    let count = counted(rt, way, bytes.as_slice())?;
+    let (lines, yanked) = (count.lines, count.yanked);
+    println!(rt; "{lines} lines, {yanked} yanked")
+}
+
 fn bench(rt: &HostRuntime) -> io::Result<()> {
     let mut words = env::args(rt)?.skip(1);
     let (Some(way), Some(path)) = (words.next(), words.next()) else {
         return Err(io::Error::from(ErrorKind::InvalidInput));
     };
-    let bytes = fs::read(rt, path.as_str())?;
-    if way.as_str() == "list" {
-        return list(rt, bytes.as_slice());
+    match way.as_str() {
+        "reports" => audits::count_reports(rt, path, words.next(), words.next()),
+        "trees" => audits::count_trees(rt, path, words.next()),
+        _ => bench_lines(rt, way.as_str(), path.as_str()),
     }
-    let count = counted(rt, way.as_str(), bytes.as_slice())?;
-    let (lines, yanked) = (count.lines, count.yanked);
-    println!(rt; "{lines} lines, {yanked} yanked")
 }
 
 fn main(rt: HostRuntime) -> ExitCode {

@@ -1,5 +1,5 @@
 //! What the rows work on.
-use advice_fixtures::{LaidTexts, packages_named};
+use advice_fixtures::{LaidTexts, listed, packages_named};
 use audit_advisory::{Comparisons, Database, Informational, Report, Settings, report_fails};
 use audit_core::Audited;
 use audit_lock::Lockfile;
@@ -19,18 +19,6 @@ pub struct Laid {
 pub struct Stage {
     texts: LaidTexts,
     laid: Option<Laid>,
-}
-
-/// The words that commas part; none for `-`.
-fn listed(alloc: Global, row: &mut Row<'_>) -> Result<Items<Text>, RowFault> {
-    let mut texts = Items::new(alloc);
-    let word = row.word();
-    if word != "-" {
-        for text in word.split(',') {
-            texts.add(Text::of(alloc, text)?)?;
-        }
-    }
-    Ok(texts)
 }
 
 /// Settings that ask for all warnings, but of the ignored ones.

@@ -1,14 +1,11 @@
 //! Counts what a report finds among many advisories and how many names it compares, and the lines
 //! and bytes of trees, to be timed.
-
 ghost use Rattle.std.specs.Prelude.{◌≡◌, []};
 
-use crate::stage::settings_of;
-use crate::trees::is_rendered;
 use advice_fixtures::{add_read, read_lockfile};
-use audit_advisory::{Advisory, Comparisons, Database, Report, Settings};
+use audit_advisory::{Advisory, Comparisons, Database, Informational, Report, Settings};
 use audit_lock::{Lockfile, Tree};
-use row_fixtures::{Row, RowFault};
+use row_fixtures::RowFault;
 use std::alloc::Global;
 use std::io::ErrorKind;
 use std::{fs, io};
@@ -76,6 +73,21 @@ fn found_line(
     )?)
 }
 
+/// Settings that ask for all warnings.
+fn all_warnings(alloc: Global) -> Result<Settings, RowFault> {
+    let mut warnings = Items::new(alloc);
+    warnings.add(Informational::Notice)?;
+    warnings.add(Informational::Unmaintained)?;
+    warnings.add(Informational::Unsound)?;
+    Ok(Settings {
+        ignore: Items::new(alloc),
+        severity: None,
+        target_arch: Items::new(alloc),
+        target_os: Items::new(alloc),
+        informational_warnings: warnings,
+    })
+}
+
 /// As many reports as are wanted.
 fn print_reports(
     rt: &HostRuntime,
@@ -83,8 +95,7 @@ fn print_reports(
     lockfile: &Lockfile,
     times: u64,
 ) -> io::Result<()> {
-    let words = Row::of("- - - - notice,unmaintained,unsound");
-    let settings = settings_of(rt.alloc(), words).map_err(of_fault)?;
+    let settings = all_warnings(rt.alloc()).map_err(of_fault)?;
     for _ in 0..times {
         let line = found_line(rt.alloc(), database, lockfile, &settings).map_err(of_fault)?;
         rt.println(line)?;
@@ -110,11 +121,11 @@ fn print_found(rt: &HostRuntime, database: &Database, path: &str, times: u64) ->
 /// after a line `==`, on a lockfile, and what each finds.
 pub fn count_reports(
     rt: &HostRuntime,
-    database: Option<String>,
+    database: String,
     lockfile: Option<String>,
     times: Option<String>,
 ) -> io::Result<()> {
-    let (Some(database), Some(lockfile), Some(times)) = (database, lockfile, times) else {
+    let (Some(lockfile), Some(times)) = (lockfile, times) else {
         return Err(io::Error::from(ErrorKind::InvalidInput));
     };
     let text = fs::read_to_string(rt, database.as_str())?;
@@ -125,14 +136,26 @@ pub fn count_reports(
     }
 }
 
+/// The lines and bytes of the tree of the package at a place.
+fn counted_tree(alloc: Global, lockfile: &Lockfile, node: usize) -> Result<String, RowFault> {
+    let tree = Tree::of(alloc, lockfile)?;
+    if node >= lockfile.packages().len() {
+        return Err(RowFault::Unread);
+    }
+    let mut sink = CountSink { lines: 0, bytes: 0 };
+    let rendered = tree.render(alloc, lockfile, node, &mut sink);
+    let CountSink { lines, bytes } = sink;
+    match rendered {
+        Ok(()) => Ok(format!(in alloc; "{lines} lines, {bytes} bytes")?),
+        Err(_) => Err(RowFault::NoMemory),
+    }
+}
+
 /// The lines and bytes of the tree of the first package of a name.
 fn tree_line(alloc: Global, lockfile: &Lockfile, name: &str) -> Result<String, RowFault> {
     for (node, package) in lockfile.packages().iter().enumerate() {
         if package.name.as_str() == name {
-            let mut sink = CountSink { lines: 0, bytes: 0 };
-            is_rendered(alloc, lockfile, node, &mut sink)?;
-            let CountSink { lines, bytes } = sink;
-            return Ok(format!(in alloc; "{lines} lines, {bytes} bytes")?);
+            return counted_tree(alloc, lockfile, node);
         }
     }
     Err(RowFault::Unread)
@@ -156,10 +179,7 @@ fn print_tree(rt: &HostRuntime, lockfile: &Lockfile, name: Option<String>) -> io
 
 /// `trees LOCKFILE [NAME]`: counts the packages of a lockfile, of which it finds the parents, or
 /// the lines and bytes of the tree of the first package of a name.
-pub fn count_trees(rt: &HostRuntime, path: Option<String>, name: Option<String>) -> io::Result<()> {
-    let Some(path) = path else {
-        return Err(io::Error::from(ErrorKind::InvalidInput));
-    };
+pub fn count_trees(rt: &HostRuntime, path: String, name: Option<String>) -> io::Result<()> {
     match lockfile_at(rt, path.as_str()) {
         Ok(lockfile) => print_tree(rt, &lockfile, name),
         Err(error) => Err(error),
