@@ -71,7 +71,7 @@ confirmed_held m p file n (Some h) good names mapped is =
     let right : valid h.body ≡ true = valid_held m p file n h h.revision good names mapped is in
     rw right refl
 
--- what was held says the same whether it is sent or confirmed, where it was confirmed
+-- what was held says the same whether it is sent or confirmed, if it was confirmed
 abbrev IsConfirmed : Option Representation → Option WireAnswer → Type 0
 IsConfirmed held None = Unit {0}
 IsConfirmed held (Some a) = a.status ≡ 304 → kept_held held ≡ sent_held held

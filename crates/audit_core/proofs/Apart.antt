@@ -1,4 +1,4 @@
--- Distinct paths have distinct files, so what a turn leaves of its file stands at the end.
+-- Distinct paths have distinct files, so what a turn leaves of its file is there at the end.
 use Rattle.std.proofs.Common.{◌≡◌, ◌≢◌, ℕ, List, [], ◌∷◌, ◌++◌, map, Bool, true, false, cond, IsTrue, refl, sym, ap, ◌∙◌, subst}
 use Rattle.std.specs.Prelude.{bytes_eq}
 use Rattle.tame_names.specs.Names.{IsIndexPath}

@@ -117,14 +117,14 @@ exact qs q = (
   (λ c. Contains-from_any same q (distinct_after [] qs) (known_all q [] qs ∙ list_any-from_Contains equal q qs c)),
 )
 
--- ---- where they stand
+-- ---- their places
 
--- each is in front of those behind it
+-- each comes before those after it
 abbrev Rise : (List ℕ → ℕ) → List (List ℕ) → Type 0
 Rise f [] = ⊤
 Rise f (y ∷ ys) = AllByRecursion (λ z. f y < f z) ys × Rise f ys
 
--- one place further behind another path
+-- one place further, after another path
 behind : (q : List ℕ) (qs : List (List ℕ)) (p : List ℕ) → bytes_eq p q ≡ false → first_place (q ∷ qs) p ≡ 1 + first_place qs p
 behind q qs p h = rw h refl
 
@@ -167,7 +167,7 @@ rise seen (q ∷ qs) =
           (all_above q qs _ others, rise_behind q qs _ others (rise (seen ++ q ∷ []) qs))
     ] refl
 
--- ---- in the words of lists
+-- ---- in terms of lists
 
 less_cmp : (a b : ℕ) → a < b → nat_cmp a b ≡ Less
 less_cmp a b h = grind (arith, h)

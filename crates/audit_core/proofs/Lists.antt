@@ -15,7 +15,7 @@ same_bytes xs ys h = search (rules, bytes_eq-Decides)
 pub bytes_same : (xs : List ℕ) → bytes_eq xs xs ≡ true
 bytes_same xs = search (rules, bytes_eq-Decides)
 
--- the item at a place stands in front of what is left behind it
+-- the item at a place comes before what is left after it
 pub drop_at : {A : Type 0} (xs : List A) (i : ℕ) (x : A) → i < length xs → x ≡ get_or xs i x → drop i xs ≡ x ∷ drop (suc i) xs
 drop_at xs i x low is = drop-cons xs i x low ∙ ap (λ y. y ∷ drop (suc i) xs) (sym is)
 
@@ -36,7 +36,7 @@ first_or : {A : Type 0} (b : Bool) (x : A) (a o : Option A) → cond b (Some x) 
 first_or true x a o = refl
 first_or false x a o = refl
 
--- one item more at the end
+-- one more item at the end
 pub position-append : {A : Type 0} (test : A → Bool) (n : ℕ) (xs : List A) (x : A) → position_from test n (xs ++ x ∷ []) ≡ option_or (position_from test n xs) (cond (test x) (Some (n + length xs)) None)
 position-append test n [] x = let same : n + 0 ≡ n = omega arith in rw same refl
 position-append test n (y ∷ ys) x =

@@ -59,7 +59,7 @@ no_file_of (n ∷ names) (p ∷ paths) q h other =
 
 -- ---- files of names that are asked for
 
--- a name at a place stands among them
+-- a name at a place is among them
 pub among_at : (names : List (List ℕ)) (i : ℕ) (name : List ℕ) → i < length names → name ≡ get_or names i name → is_among name names ≡ true
 among_at [] i name low is = absurd (not_less i low)
   where

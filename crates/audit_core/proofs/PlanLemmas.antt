@@ -17,7 +17,7 @@ use Rattle.audit_core.specs.declared.verdicts.Judged.{Judged}
 use Rattle.audit_core.specs.declared.verdicts.Verdict.{Verdict}
 use Rattle.audit_core.proofs.Lists.{get_place, position-append}
 
--- ---- one path more
+-- ---- one more path
 
 place_kept : (qs : List (List ℕ)) (x q : List ℕ) (i : ℕ) → place_in qs q ≡ Some i → place_in (qs ++ x ∷ []) q ≡ Some i
 place_kept qs x q i is = position-append (λ p. bytes_eq p q) 0 qs x ∙ ap (λ o. option_or o (cond (bytes_eq x q) (Some (0 + length qs)) None)) is
@@ -33,7 +33,7 @@ all_kept qs x [] (t ∷ ts) h = absurd h
 all_kept qs x (p ∷ ps) [] h = absurd h
 all_kept qs x (p ∷ ps) (t ∷ ts) h = (planned_kept qs x p t h.0, all_kept qs x ps ts h.1)
 
--- what was planned stays so with a path more
+-- what was planned stays so with one more path
 pub planned_with : (qs : List (List ℕ)) (o : Option (List ℕ)) (ps : List Package) (ts : List Planned) → ArePlanned qs ps ts → ArePlanned (with_each qs o) ps ts
 planned_with qs None ps ts h = h
 planned_with qs (Some q) ps ts h = go (is_among q qs)
@@ -52,7 +52,7 @@ next_case : (b : Bool) (seen : List (List ℕ)) (q : List ℕ) (qs : List (List 
 next_case true seen q qs = refl
 next_case false seen q qs = sym (append_assoc seen (q ∷ []) (distinct_after (seen ++ q ∷ []) qs))
 
--- the paths so far with the next one, in front of those that what is left adds
+-- the paths so far with the next one, before those that what is left adds
 pub distinct_next : (seen : List (List ℕ)) (o : Option (List ℕ)) (qs : List (List ℕ)) → seen ++ distinct_after seen (cons_option o qs) ≡ with_each seen o ++ distinct_after (with_each seen o) qs
 distinct_next seen None qs = refl
 distinct_next seen (Some q) qs = next_case (is_among q seen) seen q qs
@@ -147,7 +147,7 @@ answered_below hs q i at =
     let same = map_length (λ (h : AnsweredTurn). h.turn.path) hs in
     omega (arith, low, same)
 
--- what stands at the place of a path is its turn with its answer
+-- what is at the place of a path is its turn with its answer
 pub answered_turn_at : (hs : List AnsweredTurn) (q : List ℕ) (i : ℕ) → place_in (map (λ h. h.turn.path) hs) q ≡ Some i → slice_get hs i ≡ answered_turn_of q hs
 answered_turn_at hs q i at =
     ap (λ (o : Option ℕ). option_and_then (λ i. slice_get hs i) o) (sym at) ∙ get_place (λ p. bytes_eq p q) (λ (h : AnsweredTurn). h.turn.path) hs

@@ -17,7 +17,7 @@ use Rattle.audit_core.proofs.Lists.{same_bytes}
 use Rattle.audit_core.proofs.Table.{all_verdicts}
 use Rattle.audit_core.proofs.Whole.{IsDone, turn_found}
 
--- ---- one turn more
+-- ---- one more turn
 
 -- from a disk that is the same
 pub recalled_from : (told : Type 0) (old mid : Disk) (hs : List AnsweredTurn) → (told → (q : List ℕ) → mid q ≡ old q) → AreRecalled told mid hs → AreRecalled told old hs

@@ -1,4 +1,4 @@
--- An offline audit behind an online one says the same.
+-- An offline audit after an online one says the same.
 use Rattle.std.proofs.Common.{◌≡◌, inl, inr, ◌≤◌, ◌<◌, ℕ, List, [], ◌∷◌, ◌++◌, Bool, true, false, cond, Option, Some, None, Ok, refl, sym, ap, ◌∙◌, subst, arith}
 use Rattle.std.specs.Prelude.{IsSomeAnd, bytes_eq, flat_map, ◌-◌, ◌^◌}
 use Rattle.tame_names.specs.Counts.{CountRose, CountStayed}
@@ -77,7 +77,7 @@ never_rose : (q : List ℕ) (ts : List Turn) (o : Option Turn) → AreStayed ts 
 never_rose q ts None stayed at is = absurd is
 never_rose q ts (Some t) stayed at is = stayed_quiet t.disk_asked t.disk_after (stayed_turn q ts t stayed at) is
 
--- ---- what the file says behind an exchange
+-- ---- what the file says after an exchange
 
 entry_says : (a : WireAnswer) → IsToStore crates_io_index a → IsRevision (stored_under a.revision) → file_answer (Some (entry_of crates_io_index a)) ≡ body_answer a.body
 entry_says a store revision =

@@ -118,7 +118,7 @@ read_same : (r : Result ReadEntry CacheError) → items_answer (items_of_file r)
 read_same (Ok e) = ap (λ ls. Lines (version_flags ls)) (second_items _)
 read_same (Err f) = refl
 
--- what a read of the cache handed out says what the file says
+-- what a read of the cache returned says what the file says
 handed_answer : (o : Option IndexEntry) (file : File) (a : PathAnswer) → HandsOut crates_io_index o file → ((e : IndexEntry) → o ≡ Some e → a ≡ entry_answer e) → (o ≡ None → a ≡ Settled cause.Absent) → a ≡ file_answer file
 handed_answer None file a is some none = none refl ∙ ap file_answer (sym is)
 handed_answer (Some (Cache bytes url)) file a is some none =
@@ -185,7 +185,7 @@ taken_answer file response taken came a status body is handed h = go (kind_of ca
         inl (by_choice (other_status came.status refl (equal_or came.status 401) (λ absent. present (subst P status absent)) (λ known. sent (sym status ∙ known)) (λ known. modified (sym status ∙ known)))
         (choose_other came.status _ _ _ _ present sent modified))
 
--- the file counts at not-modified alone
+-- the file counts only at not-modified
 pub answer_moved : (f g : File) (came : Option WireAnswer) (a : PathAnswer) → (IsNotModified came → f ≡ g) → IsAnswer f came a → IsAnswer g came a
 answer_moved f g None a same (inl is) = inl is
 answer_moved f g (Some w) a same (inl is) = inl (is ∙ go (kind_of w.status))
@@ -207,7 +207,7 @@ none_of : (o : Option InvalidJsonLines) → is_none o ≡ true → o ≡ None
 none_of None h = refl
 none_of (Some x) h = cc
 
--- a valid body that was sent is taken, where memory didn't run out
+-- a valid body that was sent is taken, unless out of memory
 sent_ok : (body : List ℕ) (taken : ResponseResult) (a : PathAnswer) {P : Type 0} → IsBodyResult body taken → invalid body ≡ None → IsAnswerOfResult taken a → OnOk taken P → P
 sent_ok body (Ok o) a is right h p = p
 sent_ok body (Err e) a is right h p = elim is.refused [

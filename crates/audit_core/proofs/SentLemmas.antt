@@ -1,4 +1,4 @@
--- Files of what exchanges were answered with.
+-- Files of the answers to exchanges.
 use Rattle.std.proofs.Common.{◌≡◌, ◌≢◌, ◌⊎◌, inl, inr, ℕ, List, [], ◌∷◌, ◌++◌, Bool, true, false, Option, Some, None, option_map, IsTrue, refl, sym, ap, subst}
 use Rattle.std.specs.Prelude.{IsSomeAnd, bytes_eq}
 use Rattle.std.proofs.lemmas.Slice.Eq.{bytes_eq-Decides}
@@ -123,7 +123,7 @@ stored_file name old new write a e es answered named stores holds = go (stored_o
     go (inr other) =
         subst (λ (past : List Step). KeepsSentFile (es ++ e ∷ []) e.path (old (cache_file [] e.path)) past) (sym (stores.unstored other (cache_file [] e.path))) (file_none es (e ∷ []) e.path (old (cache_file [] e.path)) holds)
 
--- what becomes of the files where the answer of an exchange is stored, or isn't
+-- what the files are if the answer of an exchange is stored, or isn't
 pub stored_sent : (name : List ℕ) (old new : Disk) (write : Bool) (a : WireAnswer) (e : Exchange) (es : List Exchange) → e.answer ≡ Some a → path name ≡ Some e.path → IsIndexPath e.path → Stores crates_io_index [] name a write old new
     → HoldsSent es old → KeepsSent (es ++ e ∷ []) old new
 stored_sent name old new write a e es answered named there stores holds p is = go (bytes_eq (cache_file [] p) (cache_file [] e.path)) refl

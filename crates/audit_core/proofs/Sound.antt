@@ -42,7 +42,7 @@ pub formed : (r : OwnedRevision) → is_honest_text (revision_text r) ≡ true �
 formed (Etag text) h = honest_utf8 text h
 formed (LastModified text) h = honest_utf8 text h
 
--- no zero byte stands in the url of the index
+-- the url of the index has no zero byte
 pub index_whole : NoZero crates_io_index
 index_whole = refl
 

@@ -29,7 +29,7 @@ one_verdict Is hs version None v nameless named is =
     subst P (sym is) nameless
 one_verdict Is hs version (Some q) v nameless named is = answered_case Is hs q version (answered_turn_of q hs) v refl (named q) is
 
--- what the verdict of every version by the answer for a path has, the verdicts have
+-- what holds for the verdict of every version by the answer for a path, holds for the verdicts
 pub all_verdicts : (Is : List ℕ → Option (List ℕ) → Verdict → Type 0) (hs : List AnsweredTurn) → ((version : List ℕ) → Is version None (Unchecked cause.Name))
     → ((q version : List ℕ) (h : AnsweredTurn) → answered_turn_of q hs ≡ Some h → Is version (Some q) (verdict_by h.answer version))
     → (ps : List (ℕ × Package)) (js : List Judged) → AreVerdicts (IsAnsweredAt hs) ps js → AreVerdicts Is ps js

@@ -11,7 +11,7 @@ use Rattle.audit_core.specs.Audits.{IsAuditOf, Moment}
 use Rattle.audit_core.specs.declared.auditing.Audited.{Audited}
 use Rattle.audit_core.specs.declared.auditors.Auditor.{Auditor}
 
--- one is 200 or not-modified where the other is 200, else both have the same status, or both failed
+-- one is 200 or not-modified and the other is 200, else both have the same status, or both failed
 abbrev pub AreAlikeAnswers : Option WireAnswer → Option WireAnswer → Type 0
 AreAlikeAnswers None None = Unit {0}
 AreAlikeAnswers (Some a) (Some b) =

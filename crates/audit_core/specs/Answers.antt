@@ -1,5 +1,5 @@
--- What came for a path says of every version of its crate: the table of verdicts, read once for a
--- path (Cargo Book, "Registry Index", sparse protocol).
+-- What came for a path says about every version of its crate: the table of verdicts, read once
+-- for a path (Cargo Book, "Registry Index", sparse protocol).
 use Rattle.std.specs.Prelude.{◌≡◌, ◌⊎◌, ℕ, List, map, Bool, ◌==◌, ◌||◌, Option, Some, None, Result, Ok, Err, if◌then◌else◌}
 use Rattle.tame_names.specs.Counts.{CountRose}
 use Rattle.tame_names.specs.declared.errors.CacheError.{CacheError}
@@ -42,7 +42,7 @@ abbrev pub body_answer : List ℕ → PathAnswer
 body_answer body =
     if valid body then Lines (version_flags (lines body)) else Settled cause.JsonLines
 
--- by the lines of a readable entry; a refused file is as good as none
+-- by the lines of a readable entry; a refused file counts as none
 abbrev pub read_answer : Result ReadEntry CacheError → PathAnswer
 read_answer (Ok e) = Lines (version_flags (lines_in e.versions))
 read_answer (Err f) = Settled cause.Absent
@@ -66,12 +66,12 @@ IsAnswer file came a =
 
 -- ---- the table over what the server held
 
--- a held body where it is sent; where nothing is held an honest server doesn't send 200
+-- a held body if it is sent; if nothing is held an honest server doesn't send 200
 abbrev pub sent_held : Option Representation → PathAnswer
 sent_held None = Settled cause.Absent
 sent_held (Some h) = body_answer h.body
 
--- a held body where it is confirmed; where nothing is held an honest server doesn't send 304
+-- a held body if it is confirmed; if nothing is held an honest server doesn't send 304
 abbrev pub kept_held : Option Representation → PathAnswer
 kept_held None = Settled cause.Absent
 kept_held (Some h) = Lines (version_flags (lines h.body))
@@ -80,7 +80,7 @@ abbrev pub held_answer : Option Representation → Option WireAnswer → PathAns
 held_answer held None = Settled cause.Wire
 held_answer held (Some a) = by_status a.status (sent_held held) (kept_held held)
 
--- at not-modified it may be that the kept entry couldn't be read, where the disk's count of faults
+-- at not-modified it may be that the kept entry couldn't be read, if the disk's count of faults
 -- rose
 abbrev pub IsHeldAnswer : Option Representation → Option WireAnswer → ℕ → ℕ → PathAnswer → Type 0
 IsHeldAnswer held came asked after a =

@@ -38,7 +38,7 @@ abbrev pub at_text : ℕ → Result Advisory AdvisoryFault → Result Advisory A
 at_text n (Ok advisory) = Ok advisory
 at_text n (Err fault) = Err (audit_error.Advisory n fault)
 
--- the advisories that texts are, counted from a number, or the first that is none
+-- the advisories that texts are, counted from a number, or the first text that isn't one
 abbrev pub advisories_from : ℕ → List (List ℕ) → Result (List Advisory) AuditError
 advisories_from n [] = Ok []
 advisories_from n (text ∷ texts) =
@@ -49,14 +49,14 @@ abbrev pub text_auditor : AuditConfig → List (List ℕ) → Result Auditor Aud
 text_auditor config texts =
     and_then (λ advisories. Ok (auditor_of config advisories)) (advisories_from 0 texts)
 
--- this tells of an advisory that is none, for a reason that isn't want of memory
+-- this says that a text is no advisory, for a reason that isn't out of memory
 abbrev pub refuses_advisory : AuditError → Type 0
 refuses_advisory (audit_error.Advisory n fault) = fault ≢ advisory_fault.NoMemory
 refuses_advisory _ = ⊥
 
 -- ---- the auditor itself
 
--- a version without pre-release
+-- a version without a pre-release
 abbrev pub release : ℕ → ℕ → ℕ → Point
 release major minor patch = record { major = major; minor = minor; patch = patch; pre = [] }
 
@@ -78,7 +78,7 @@ abbrev pub yanked_in : List Judged → List ℕ
 yanked_in [] = []
 yanked_in (j ∷ js) = with_if_yanked j.verdict j.«package» (yanked_in js)
 
--- by the auditor's advisories and settings, with the packages that are judged yanked behind the
+-- by the auditor's advisories and settings, with the packages that are judged yanked after the
 -- other warnings
 abbrev pub audit_report : Auditor → List Package → List Judged → Report
 audit_report auditor packages verdicts =
@@ -95,6 +95,6 @@ abbrev pub exit_of : Bool → ℕ
 exit_of true = 1
 exit_of false = 0
 
--- 1 where the audit fails: by its report, or by the advisories on the auditor itself; else 0
+-- 1 if the audit fails: by its report, or by the advisories on the auditor itself; else 0
 abbrev pub audit_exit : Auditor → Report → ℕ
 audit_exit auditor report = exit_of (fails report auditor.deny (self_advisories auditor.database))

@@ -1,4 +1,4 @@
--- What an audit asked, what it kept, and what it says of the packages (this project).
+-- What an audit asked, what it kept, and what it says about the packages (this project).
 use Rattle.std.specs.Prelude.{◌≡◌, ◌≢◌, ℕ, List, [], ◌∷◌, ◌++◌, map, IsTrue, Option, Some, None, IsSomeAnd, Ok}
 use Rattle.tame_names.specs.Counts.{CountRose}
 use Rattle.tame_names.specs.Names.{IsIndexPath}
@@ -33,8 +33,8 @@ use Rattle.audit_core.specs.declared.verdicts.Verdict.TheVariants.{Unchecked}
 
 -- ---- the turns, over the files at the audit's entry and at its exit
 
--- the request names what the file's revision allows, or nothing; and what its turn leaves of the
--- file stands at the end
+-- the request names what the file's revision allows, or nothing; and the file at the end is what
+-- its turn leaves
 pub record TurnNamesAndLeaves (old new : Disk) (e : Exchange) (t : Turn) : Type 0 where
   pub place : IsIndexPath e.path
   pub path : e.path ≡ t.path
@@ -52,12 +52,12 @@ TurnsNameAndLeave old new _ _ = ⊥
 -- ---- the audit, by the paths that it asks for and the packages that it judges, each with its
 -- place in the lockfile
 
--- a file that is that of no path that is asked for stays as it was
+-- a file that belongs to no path that is asked for stays as it was
 abbrev pub KeepsOthers : List (List ℕ) → Disk → Disk → Type 0
 KeepsOthers paths old new =
     (q : List ℕ) → ((p : List ℕ) → IsTrue (is_among p paths) → q ≢ index_file p) → new q ≡ old q
 
--- no folders are made but those above the files of paths that are asked for
+-- no folders are created except those above the files of paths that are asked for
 abbrev pub MakesAskedFolders : List (List ℕ) → List (List ℕ) → List (List ℕ) → Type 0
 MakesAskedFolders paths before now =
     MakesOnly (λ q. (p : List ℕ) × IsTrue (is_among p paths) × (q ≡ index_file p)) before now
@@ -111,10 +111,10 @@ IsCausedAt turns version (Some q) verdict = CountRoseFor turns q verdict
 abbrev pub Caused : List (ℕ × Package) → List Turn → List Judged → Type 0
 Caused packages turns verdicts = AreVerdicts (IsCausedAt turns) packages verdicts
 
--- ---- what an audit says, whole
+-- ---- what an audit says, as a whole
 
--- the wire and the disk at a moment: the exchanges so far, the files, how often each has failed, and
--- which calls on the disk have
+-- the wire and the disk at a moment: the exchanges so far, the files, how often each has failed,
+-- and which calls on the disk have
 pub record Moment : Type 0 where
   pub exchanges : List Exchange
   pub files : Disk
@@ -137,7 +137,7 @@ pub record FailsByTurns (checks : Checks) (wire_tells disk_tells : Type 0) (entr
   pub exchanged : checks ≡ Online → wire_tells → disk_tells → (added : List Exchange)
       → exit.exchanges ≡ entry.exchanges ++ added
       → InSteps (IsTurnByCalls entry.files exit.files v) entry.disk_failed added exit.disk_failed
-  -- the same of the turns alone, for every wire
+  -- the same for the turns alone, for every wire
   pub asked : checks ≡ Online → disk_tells
       → InSteps (IsAskedTurn v) entry.disk_failed turns exit.disk_failed
   -- offline exactly the reads that are blamed
@@ -145,7 +145,7 @@ pub record FailsByTurns (checks : Checks) (wire_tells disk_tells : Type 0) (entr
   pub off : checks ≡ Off → exit.disk_failed ≡ entry.disk_failed
 
 -- what an audit with these checks that asks for these paths and judges these packages says from its
--- entry to its exit, where the wire and the disk tell it
+-- entry to its exit, if the wire and the disk tell it
 pub record AuditSays (checks : Checks) (wire_tells disk_tells : Type 0) (entry exit : Moment)
     (paths : List (List ℕ)) (packages : List (ℕ × Package)) (turns : List Turn)
     (verdicts : List Judged) : Type 0 where
@@ -171,7 +171,7 @@ pub record AuditSays (checks : Checks) (wire_tells disk_tells : Type 0) (entry e
 
 -- ---- an audit of a text
 
--- the audit that an auditor makes of a text from one moment to another: the text's packages, the
+-- the audit of a text by an auditor from one moment to another: the text's packages, the
 -- report and the exit by the auditor's advisories and settings, and what the audit says
 pub record IsAuditOf (auditor : Auditor) (wire_tells disk_tells : Type 0) (began ended : Moment)
     (text : List ℕ) (audited : Audited) : Type 0 where
@@ -182,5 +182,5 @@ pub record IsAuditOf (auditor : Auditor) (wire_tells disk_tells : Type 0) (began
   pub says : AuditSays auditor.checks wire_tells disk_tells began ended
       (asked_of auditor.checks audited.lockfile)
       (judged_of auditor.checks audited.lockfile) audited.turns audited.verdicts
-  -- where checks are off there is nothing of them
+  -- if checks are off there is nothing of them
   pub off : auditor.checks ≡ Off → (audited.verdicts ≡ []) × (audited.turns ≡ [])

@@ -6,8 +6,8 @@ use Rattle.audit_core.specs.Turns.{index_file}
 use Rattle.audit_core.specs.declared.answers.PathAnswer.{PathAnswer}
 use Rattle.audit_core.specs.declared.asking.AnsweredTurn.{AnsweredTurn}
 
--- by the cache alone: each turn blames the read of its own file, and goes on where the one before
--- ended
+-- by the cache alone: each turn blames the read of its own file, and goes on from the end of the
+-- one before
 abbrev pub BlameReads : FailedDiskCalls → List AnsweredTurn → FailedDiskCalls → Type 0
 BlameReads before [] now = now ≡ before
 BlameReads before (h ∷ hs) now =

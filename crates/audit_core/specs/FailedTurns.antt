@@ -36,7 +36,7 @@ IsAnswerFor v p a =
     v.verdicts
 
 -- one step for each of these, in their order: the first begins with the calls that had failed
--- before, each goes on where the one before ended, and the last ends with those that have failed now
+-- before, each goes on from the end of the one before, and the last ends with those failed by now
 abbrev pub InSteps : {A : Type 0} → (A → FailedDiskCalls → FailedDiskCalls → Type 0)
     → FailedDiskCalls → List A → FailedDiskCalls → Type 0
 InSteps Step before [] now = now ≡ before
@@ -55,18 +55,18 @@ pub record IsTurnByCalls (old new : Disk) (v : Verdicts) (e : Exchange)
   -- the answer by which the packages of the path are judged
   pub answer : PathAnswer
   pub judged : IsAnswerFor v e.path answer
-  -- after the exchange: the store is blamed where the read of the file failed; else at most one call
+  -- after the exchange: the store is blamed if the read of the file failed; else at most one call
   -- failed, which writes it
   pub blames : BlamesStore (index_file e.path) asked now answer
   -- a body that is stored is the file's entry, unless a call failed that writes the file
   pub stored : IfSome e.answer (λ c. IsToStore crates_io_index c
       → StoresUnlessFailed (entry_of crates_io_index c) (index_file e.path)
       (new (index_file e.path)) asked now)
-  -- where nothing is stored no call failed but the one that is blamed
+  -- if nothing is stored no call failed except the one that is blamed
   pub unfailed : ¬ (IsSomeAnd e.answer (IsToStore crates_io_index))
       → answer ≢ Settled cause.Store → now ≡ asked
 
--- the same of a turn alone, where the wire doesn't tell its exchange
+-- the same for a turn alone, if the wire doesn't tell its exchange
 pub record IsAskedTurn (v : Verdicts) (t : Turn) (before now : FailedDiskCalls) : Type 0 where
   pub asked : FailedDiskCalls
   pub read : (asked ≡ before) ⊎ FailedReading (index_file t.path) before asked
@@ -80,12 +80,12 @@ pub record IsReadTurn (v : Verdicts) (t : Turn) (before now : FailedDiskCalls) :
   pub judged : IsAnswerFor v t.path answer
   pub blames : BlamesRead (index_file t.path) before now answer
 
--- ---- what that says of a package
+-- ---- what that says about a package
 
 abbrev pub read_of : List ℕ → FailedDiskCall
 read_of q = record { call = disk_call.Read; path = q }
 
--- the read of this file is among the calls that failed meanwhile; or they aren't told any more
+-- the read of this file is among the calls that failed meanwhile; or they are no longer told
 abbrev pub IsReadFailed : List ℕ → FailedDiskCalls → FailedDiskCalls → Type 0
 IsReadFailed q before now =
     (now ≡ None)

@@ -8,7 +8,7 @@ use Rattle.tame_sparse.specs.Honest.{AreHonest}
 use Rattle.tame_sparse.specs.declared.network.Exchange.{Exchange}
 use Rattle.audit_core.specs.Turns.{StaysKept}
 
--- audits whose exchanges are honest for a map, and crashes: the disk where the last audit began,
+-- audits whose exchanges are honest for a map, and crashes: the disk when the last audit began,
 -- and the disk now
 pub data AuditHistory (m : ServerMap) : Disk → Disk → Type 0 where
   begins : (disk : Disk) → IsUnbelieved crates_io_index [] disk → AuditHistory m disk disk

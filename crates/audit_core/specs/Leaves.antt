@@ -1,4 +1,4 @@
--- What a call leaves behind, whatever its answer (this project).
+-- What a call leaves, whatever its result (this project).
 use Rattle.std.specs.Prelude.{◌≡◌, ◌≢◌, ℕ, List}
 use Rattle.tame_cache.specs.Kept.{Disk}
 use Rattle.tame_sparse.specs.declared.network.Exchange.{Exchange}
@@ -17,16 +17,16 @@ abbrev pub holding : List Exchange → Disk → List (List ℕ) → Holding
 holding exchanges files folders =
     record { exchanges = exchanges; files = files; folders = folders }
 
--- a part of the paths was asked for, from the front; no file changed that is that of no path, and no
--- folders were made but those above such files
+-- the first of the paths were asked for; no file changed that belongs to no path, and no folders
+-- were created except those above such files
 pub record AsksOnly (wire_tells disk_tells : Type 0) (paths : List (List ℕ))
     (before now : Holding) : Type 0 where
   pub part : wire_tells → AddsPart paths before.exchanges now.exchanges
   pub others : disk_tells → KeepsOthers paths before.files now.files
   pub folders : disk_tells → MakesAskedFolders paths before.folders now.folders
 
--- the wire isn't called but online, and then alone a file may have changed or a folder been made;
--- where checks are off the disk isn't called
+-- only online is the wire called, and only then may a file have changed or a folder been created;
+-- if checks are off the disk isn't called
 pub record CallsBy (checks : Checks) (disk_tells wire_same disk_same : Type 0)
     (before now : Holding) : Type 0 where
   pub unasked : checks ≢ Online → wire_same

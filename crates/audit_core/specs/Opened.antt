@@ -12,7 +12,7 @@ use Rattle.audit_lock.specs.declared.lockfiles.LockfileFault.TheVariants as lock
 abbrev pub lockfile_limit : ℕ
 lockfile_limit = 67108864
 
--- what stands at a path, where `-` is standard input
+-- what is at a path; `-` is standard input
 abbrev pub standing_at : Host → List ℕ → Standing
 standing_at host path = if bytes_eq path (codes "-") then File host.input else host.stands path
 
@@ -23,22 +23,22 @@ text_in bytes =
     else if is_utf8 bytes then Ok bytes
     else Err fault.NotUtf8
 
--- the text of what stands there, or why there is none
+-- the text of what is there, or why there is none
 abbrev pub opened_text : Standing → Result (List ℕ) FileAuditError
 opened_text Nothing = Err fault.Missing
 opened_text (File bytes) = text_in bytes
 opened_text (Folder entries) = Err fault.File
 opened_text Other = Err fault.File
 
--- these tell why a text wasn't read: nothing is there, it is too long, or it isn't UTF-8
+-- these say why a text wasn't read: nothing is there, it is too long, or it isn't UTF-8
 abbrev pub IsTextFault : FileAuditError → Type 0
 IsTextFault fault.Missing = Unit {0}
 IsTextFault fault.NotUtf8 = Unit {0}
 IsTextFault (fault.TooLarge n) = Unit {0}
 IsTextFault _ = ⊥
 
--- a reason that what stands there gives: why its text wasn't read, or why the text is no lockfile,
--- which is never want of memory; that a count rose is said beside it
+-- a reason in what is there: why its text wasn't read, or why the text is no lockfile, which is
+-- never out of memory; that a count rose is said separately
 abbrev pub IsUnopenedFor : Type 0 → Standing → FileAuditError → Type 0
 IsUnopenedFor told standing fault.Missing = told → opened_text standing ≡ Err fault.Missing
 IsUnopenedFor told standing fault.NotUtf8 = told → opened_text standing ≡ Err fault.NotUtf8
@@ -51,7 +51,7 @@ IsUnopenedFor told standing (fault.Audit (audit_error.Lockfile f)) =
 IsUnopenedFor told standing (fault.Audit (audit_error.Advisory n f)) = ⊥
 IsUnopenedFor told standing (fault.Audit audit_error.NoMemory) = Unit {0}
 
--- nothing is asked where the text isn't one of a lockfile
+-- nothing is asked if the text isn't one of a lockfile
 abbrev pub IsEarly : FileAuditError → Type 0
 IsEarly (fault.Audit audit_error.NoMemory) = ⊥
 IsEarly _ = Unit {0}

@@ -9,7 +9,7 @@ use Rattle.audit_lock.specs.declared.resolving.Package.{Package}
 abbrev pub defaults : List Package → List (ℕ × Package)
 defaults packages = filter (λ p. is_default p.1) (enumerate_from 0 packages)
 
--- the path of a package of the default registry, where its name has one
+-- the path of a package of the default registry, if its name has one
 abbrev pub default_path : Package → Option (List ℕ)
 default_path p = if is_default p then path p.name else None
 
@@ -19,7 +19,7 @@ default_paths packages = filter_map default_path packages
 abbrev pub is_among : List ℕ → List (List ℕ) → Bool
 is_among q qs = list_any (λ p. bytes_eq p q) qs
 
--- each path once, at its first place; a law above it says what the list is
+-- each path once, at its first place; a law says what the list is
 abbrev pub distinct_after : List (List ℕ) → List (List ℕ) → List (List ℕ)
 distinct_after seen [] = []
 distinct_after seen (q ∷ qs) =

@@ -33,11 +33,11 @@ pub record AreAt (places : Places) : Type 0 where
 abbrev pub IsPathOf : List ℕ → List ℕ → Type 0
 IsPathOf name q = path name ≡ Some q
 
--- one path more, unless it is there
+-- one more path, unless it is there
 abbrev pub with_path : List (List ℕ) → List ℕ → List (List ℕ)
 with_path qs q = if is_among q qs then qs else qs ++ q ∷ []
 
--- a path, where there is one
+-- a path, if there is one
 abbrev pub with_each : List (List ℕ) → Option (List ℕ) → List (List ℕ)
 with_each qs None = qs
 with_each qs (Some q) = with_path qs q

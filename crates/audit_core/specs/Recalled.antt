@@ -17,7 +17,7 @@ use Rattle.audit_core.specs.declared.verdicts.Verdict.TheVariants.{Unchecked}
 
 -- ---- of a path
 
--- what the file says; or that it couldn't be read, where the disk's count of faults rose
+-- what the file says; or that it couldn't be read, if the disk's count of faults rose
 abbrev pub IsFileAnswer : File → Turn → PathAnswer → Type 0
 IsFileAnswer file t a =
     (a ≡ file_answer file) ⊎ (CountRose t.disk_asked t.disk_after × (a ≡ Settled cause.Store))
@@ -47,7 +47,7 @@ abbrev pub IsFileVerdict : File → Turn → List ℕ → Verdict → Type 0
 IsFileVerdict file t version verdict =
     (a : PathAnswer) × IsFileAnswer file t a × (verdict ≡ verdict_by a version)
 
--- no path: nothing is read; else, where the disk tells it, by the file of the path
+-- no path: nothing is read; else, if the disk tells it, by the file of the path
 abbrev pub IsVerdictByCacheAt : Type 0 → (List ℕ → File) → List Turn → List ℕ → Option (List ℕ)
     → Verdict → Type 0
 IsVerdictByCacheAt told files turns version None verdict = verdict ≡ Unchecked cause.Name

@@ -14,7 +14,7 @@ use Rattle.audit_core.specs.declared.verdicts.Cause.TheVariants as cause
 use Rattle.audit_core.specs.declared.verdicts.Verdict.{Verdict}
 use Rattle.audit_core.specs.declared.verdicts.Verdict.TheVariants.{Unchecked}
 
--- the exchanges of a history, the first in front
+-- the exchanges of a history, the oldest first
 abbrev pub exchanges_in : (m : ServerMap) (began now : Disk) → AuditHistory m began now
     → List Exchange
 exchanges_in m began now (begins disk unbelieved) = []
@@ -32,7 +32,7 @@ WasHeld P [] q = ⊥
 WasHeld P (e ∷ es) q = ((e.path ≡ q) × SentHeld P e) ⊎ WasHeld P es q
 
 -- what is remembered of a path: nothing, or what a body says that the server held and sent in one
--- of these exchanges; or it couldn't be read, where the disk's count of faults rose
+-- of these exchanges; or it couldn't be read, if the disk's count of faults rose
 abbrev pub IsRemembered : List Exchange → List ℕ → Turn → PathAnswer → Type 0
 IsRemembered es q t a =
     (a ≡ Settled cause.Absent) ⊎ (WasHeld (λ body. a ≡ body_answer body) es q

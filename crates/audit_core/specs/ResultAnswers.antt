@@ -1,4 +1,4 @@
--- What is read of what an index made of a response (this project).
+-- What is read from what an index made of a response (this project).
 use Rattle.std.specs.Prelude.{◌≡◌, ◌≢◌, ℕ, List, Some, None, Ok, Err}
 use Rattle.tame_names.specs.declared.errors.Error.{Error}
 use Rattle.tame_names.specs.declared.errors.Error.TheVariants as error

@@ -1,4 +1,4 @@
--- What a cache holds of what its exchanges were answered with (this project).
+-- What a cache holds of the answers to its exchanges (this project).
 use Rattle.std.specs.Prelude.{◌≡◌, ◌⊎◌, ℕ, List, [], ◌∷◌, Some, IsSomeAnd}
 use Rattle.tame_names.specs.Names.{IsIndexPath}
 use Rattle.tame_cache.specs.Disk.{EachMoment, File, Step, may_leave}
@@ -14,7 +14,7 @@ abbrev pub IsEntryOf : File → WireAnswer → Type 0
 IsEntryOf file answer =
     IsToStore crates_io_index answer × (file ≡ Some (entry_of crates_io_index answer))
 
--- one of these exchanges with the path was answered with what this file is the entry of
+-- this file is the entry of the answer to one of these exchanges with the path
 abbrev pub WasSent : List Exchange → List ℕ → File → Type 0
 WasSent [] p file = ⊥
 WasSent (e ∷ es) p file =
@@ -29,12 +29,12 @@ pub record HoldsSentFile (es : List Exchange) (p : List ℕ) (past : List Step) 
   pub orderly : IsOrderly past
   pub all : (file : File) → may_leave past file → IsSentFile es p file
 
--- from one moment to another it was so all the time
+-- it was so all the time from one moment to another
 pub record KeepsSentFile (es : List Exchange) (p : List ℕ) (old new : List Step) : Type 0 where
   pub orderly : IsOrderly new
   pub any_moment : EachMoment old new (IsSentFile es p)
 
--- the same of the file of each index path
+-- the same for the file of each index path
 abbrev pub HoldsSent : List Exchange → Disk → Type 0
 HoldsSent es disk = (p : List ℕ) → IsIndexPath p → HoldsSentFile es p (disk (cache_file [] p))
 

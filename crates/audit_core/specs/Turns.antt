@@ -39,7 +39,7 @@ IsFileOf names q = (name : List ℕ) × IsTrue (is_among name names) × (cache_f
 -- ---- counts
 
 -- the counts of the wire and of the disk at the first turn are the first numbers, each turn goes on
--- where the one before ended, and the last ends at the last; within a turn they never fall
+-- from the end of the one before, and the last ends at the last; within a turn they never fall
 abbrev pub Chains : ℕ → ℕ → List Turn → ℕ → ℕ → Type 0
 Chains wire disk [] last_wire last_disk = (last_wire ≡ wire) × (last_disk ≡ disk)
 Chains wire disk (t ∷ ts) last_wire last_disk =
@@ -59,7 +59,7 @@ AreCaused (h ∷ hs) = IsCaused h × AreCaused hs
 
 -- ---- what a turn keeps of an answer
 
--- where the disk's count stayed the file is the entry of an answer that is stored, and a crash
+-- if the disk's count stayed the file is the entry of an answer that is stored, and a crash
 -- leaves no other; after any other answer it is as it was
 pub record LeavesFile (came : Option WireAnswer) (asked after : ℕ)
     (old new : List Step) : Type 0 where
@@ -98,8 +98,8 @@ pub record IsExchanged (told : Type 0) (asked after : ℕ) (old new : DiskAt) (e
   pub stored : told → IfSome e.answer (λ c. IsToStore crates_io_index c
       → StoresUnlessFailed (entry_of crates_io_index c) (index_file e.path)
       (new.files (index_file e.path)) old.failed new.failed)
-  -- the store is blamed where the read of the file failed; else at most one call failed, which
-  -- writes it, and none where the answer isn't stored
+  -- the store is blamed if the read of the file failed; else at most one call failed, which
+  -- writes it, and none if the answer isn't stored
   pub blames : BlamesStore (index_file e.path) old.failed new.failed a
   pub unfailed : ¬ (IsSomeAnd e.answer (IsToStore crates_io_index)) → a ≢ Settled cause.Store
       → new.failed ≡ old.failed
@@ -133,7 +133,7 @@ abbrev pub AddsTurns : Type 0 → List Exchange → List Exchange → DiskAt →
 AddsTurns told before now old hs new =
     (es : List Exchange) × (now ≡ before ++ es) × TurnsInOrder told old es hs new
 
--- exchanges for a part of these paths, from the front, follow the list
+-- exchanges for the first of these paths follow the list
 abbrev pub AddsPart : List (List ℕ) → List Exchange → List Exchange → Type 0
 AddsPart paths before now =
     (es : List Exchange) × (k : ℕ) × (now ≡ before ++ es) × (map (λ e. e.path) es ≡ take k paths)
@@ -149,10 +149,10 @@ AddsNamed names before now =
 
 -- by the exchanges that follow the list
 pub record StaysKept (before now : List Exchange) (old new : Disk) : Type 0 where
-  -- where they are honest for a map for which the disk was kept, it was kept all the time
+  -- if they are honest for a map for which the disk was kept, it was kept all the time
   pub kept : (m : ServerMap) (added : List Exchange) → now ≡ before ++ added → AreHonest m added
       → IsKept m crates_io_index [] old → Keeps m crates_io_index [] old new
-  -- where each file was of what some exchanges were answered with, it was all the time of what
+  -- if each file was of what some exchanges were answered with, it was all the time of what
   -- these were, and those that follow the list
   pub sent : (es added : List Exchange) → now ≡ before ++ added → HoldsSent es old
       → KeepsSent (es ++ added) old new

@@ -1,4 +1,4 @@
--- What an audit says of a package (this project).
+-- What an audit says about a package (this project).
 use Rattle.std.specs.Prelude.{◌≡◌, ℕ, List, [], ◌∷◌, true, false, Option, Some, None, bytes_eq, find, IsSomeAnd}
 use Rattle.tame_names.specs.Names.{path}
 use Rattle.tame_entry.specs.VersionStatuses.{status_among}
@@ -18,7 +18,7 @@ use Rattle.audit_core.specs.declared.verdicts.Verdict.TheVariants.{Yanked, NotYa
 
 -- ---- of a version
 
--- by what the lines of its crate say of it
+-- by what the lines of its crate say about it
 abbrev pub verdict_of_status : VersionStatus → Verdict
 verdict_of_status version_status.Unread = Unchecked cause.Record
 verdict_of_status version_status.NoVersion = Unchecked cause.NoVersion
@@ -35,8 +35,8 @@ abbrev pub IsVerdictByAnswer : Exchange → File → List ℕ → Verdict → Ty
 IsVerdictByAnswer e file version verdict =
     (a : PathAnswer) × IsAnswer file e.answer a × (verdict ≡ verdict_by a version)
 
--- by the table over what the server held: that decides, and the disk's count of faults where the
--- store is blamed; no word of a file, of an earlier audit or of a write
+-- by the table over what the server held: that decides, and the disk's count of faults if the
+-- store is blamed; nothing about a file, an earlier audit or a write
 abbrev pub IsVerdictByHeld : Exchange → Turn → List ℕ → Verdict → Type 0
 IsVerdictByHeld e t version verdict =
     (a : PathAnswer) × IsHeldAnswer e.held e.answer t.disk_asked t.disk_after a
@@ -52,7 +52,7 @@ abbrev pub turn_of : List ℕ → List Turn → Option Turn
 turn_of q turns = find (λ t. bytes_eq t.path q) turns
 
 -- no path: nothing is asked; else by the exchange of the path, over what came and, at not-modified,
--- where the disk tells it, over what a read of its file gives
+-- if the disk tells it, over what a read of its file gives
 abbrev pub IsVerdictByAnswerAt : Type 0 → (List ℕ → File) → List Exchange → List ℕ → Option (List ℕ)
     → Verdict → Type 0
 IsVerdictByAnswerAt told files exchanges version None verdict = verdict ≡ Unchecked cause.Name

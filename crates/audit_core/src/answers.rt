@@ -14,16 +14,16 @@ use tame_entry::{IndexEntry, VersionStatus, read_item_version_flags, status_amon
 use tame_names::{Error, HttpError, IoKind, Items, NoMemory};
 use tame_records::VersionFlag;
 
-/// What an answer says of every version of its crate.
+/// What an answer says about every version of its crate.
 #[derive(Debug, Drop)]
 pub enum PathAnswer {
     /// The same cause for each version.
     Settled(Cause),
-    /// Version and flag of each line; nothing where some line has no record.
+    /// Version and flag of each line; nothing if some line has no record.
     Lines(Option<Items<VersionFlag>>),
 }
 
-/// By the lines of an index entry; a file that is refused is as good as none.
+/// By the lines of an index entry; a refused file counts as none.
 fn entry_answer(alloc: Global, entry: &IndexEntry<'_, '_>) -> Result<PathAnswer, NoMemory>
     ensures { IfOk result (λ a. a ≡ spec.entry_answer entry.now) }
 {

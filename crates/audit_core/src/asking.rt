@@ -35,7 +35,7 @@ pub struct Turn {
     pub wire_before: u64,
     /// The wire's count of faults after the exchange.
     pub wire_after: u64,
-    /// The disk's count of faults before the request was made.
+    /// The disk's count of faults before the request was created.
     pub disk_before: u64,
     /// The disk's count of faults after that, before the exchange.
     pub disk_asked: u64,
@@ -236,7 +236,7 @@ fn take_turn<W: Wire, D: CacheDisk>(
     })
 }
 
-/// One turn for each name, in their order; for a part of them from the front where memory runs out.
+/// One turn for each name, in their order; if out of memory, for those that were asked until then.
 pub fn ask_all<W: Wire, D: CacheDisk>(
     alloc: Global,
     index: &SparseIndex,

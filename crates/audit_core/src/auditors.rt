@@ -1,4 +1,4 @@
-//! The auditor: advisories and settings once, for many audits.
+//! The auditor: advisories and settings read once, for many audits.
 ghost use Rattle.std.specs.Prelude.{◌≡◌, ◌≢◌, IfOk, IfErr, Ok, Err};
 ghost use Rattle.audit_advisory.specs.Exits.{fails};
 ghost use Rattle.audit_advisory.specs.Points.{point_of};
@@ -23,7 +23,7 @@ pub struct Auditor {
     pub(crate) deny: Items<DenyOption>,
 }
 
-/// The advisories that texts are, or the first of them that is none.
+/// The advisories that texts are, or the first text that isn't one.
 fn read_advisories(alloc: Global, texts: &[Text]) -> Result<Items<Advisory>, AuditError>
     ensures ok { IfOk result (λ advisories. advisories_from 0 texts.now ≡ Ok advisories) }
     ensures refused { IfErr result (λ e. e ≢ AuditError.NoMemory
@@ -41,7 +41,7 @@ fn read_advisories(alloc: Global, texts: &[Text]) -> Result<Items<Advisory>, Aud
     Ok(advisories)
 }
 
-/// A version without pre-release.
+/// A version without a pre-release.
 fn release(major: u64, minor: u64, patch: u64) -> Version
     ensures { point_of result ≡ spec.release major minor patch }
 {
@@ -57,8 +57,8 @@ fn deny_copied(alloc: Global, options: &[DenyOption]) -> Result<Items<DenyOption
 }
 
 impl Auditor {
-    /// An auditor of the advisories that these texts are; `Advisory` tells the first that is none,
-    /// counted from 0, and why.
+    /// An auditor of the advisories that these texts are. `Advisory` names the first text that
+    /// isn't one, counted from 0, and says why.
     pub fn new(
         alloc: Global,
         config: &AuditConfig,
@@ -103,7 +103,7 @@ impl Auditor {
         self.checks
     }
 
-    /// What is denied besides vulnerabilities.
+    /// What is denied as well as vulnerabilities.
     pub fn deny(&self) -> &[DenyOption]
         ensures { result.now ≡ self.now.deny }
     {
@@ -124,7 +124,7 @@ impl Auditor {
     }
 
     /// Whether an audit with this report fails: by the report, or by advisories on the auditor
-    /// itself where `warnings` are denied.
+    /// itself if `warnings` are denied.
     pub fn should_exit_with_failure(&self, alloc: Global, report: &Report) -> Result<bool, NoMemory>
         ensures { IfOk result (λ failed. failed
             ≡ fails report.now self.now.deny (spec.self_advisories self.now.database)) }

@@ -30,7 +30,7 @@ fn package_at(packages: &[Package], place: usize) -> &Package
     &packages[place]
 }
 
-/// The verdict of a package by its turn; nothing where it isn't of the default registry.
+/// The verdict of a package by its turn; nothing if it isn't of the default registry.
 fn verdict_of(
     answered_turns: &[AnsweredTurn],
     planned: Planned,

@@ -47,7 +47,7 @@ pub fn audits_in_histories_match_the_server()
 
 /// What offline audits remember. In such a history each verdict of an offline audit is the table's
 /// over a body that the server held and sent in an exchange of the history with the package's path;
-/// or the package is unchecked, since the cache has nothing of it or couldn't be read.
+/// or the package is unchecked, since the cache has nothing for it or couldn't be read.
 pub fn offline_audits_in_histories_remember()
     ensures { (m : ServerMap) (began : Disk) (auditor : Auditor) (entry exit : Moment)
         (text : List ℕ) (audited : Audited) (history : AuditHistory m began entry.files)
@@ -56,9 +56,9 @@ pub fn offline_audits_in_histories_remember()
         (judged_of auditor.checks audited.lockfile) audited.verdicts }
 {}
 
-/// Whether a body is sent or only confirmed changes nothing: two online audits of one text by one
-/// auditor over servers that held the same, one of which answers 200 or 304 where the other answers
-/// 200, and as the other elsewhere, have equal verdicts, reports and exits.
+/// Whether a body is sent or only confirmed changes nothing. Two online audits of one text by one
+/// auditor have equal verdicts, reports and exits if their servers held the same, and one of them
+/// answers 200 or 304 when the other answers 200, and the same as the other elsewhere.
 pub fn cached_audits_agree()
     ensures { (auditor : Auditor) (text : List ℕ) (began ended began_too ended_too : Moment)
         (added added_too : List Exchange) (audited audited_too : Audited)
@@ -70,9 +70,9 @@ pub fn cached_audits_agree()
         × (audited.exit ≡ audited_too.exit) }
 {}
 
-/// An offline audit repeats an online one. Where each answer of the online audit was not-modified
-/// or is stored, and no call on the disk failed in either, an audit of the same text by the same
-/// auditor, but offline, from where the other ended, has equal verdicts, report and exit; for every
+/// An offline audit repeats an online one. If each answer of the online audit was not-modified or
+/// is stored, and no call on the disk failed in either, an audit of the same text by the same
+/// auditor, but offline, from the end of the other, has equal verdicts, report and exit; for every
 /// server and every disk.
 pub fn offline_audits_repeat()
     ensures { (auditor : Auditor) (text : List ℕ) (began mid ended : Moment)
@@ -86,7 +86,7 @@ pub fn offline_audits_repeat()
         × (again.exit ≡ audited.exit) }
 {}
 
-/// A package is unchecked by the store only if the read of its own path's file failed. Where the disk
+/// A package is unchecked by the store only if the read of its own path's file failed. If the disk
 /// says which calls failed, each such read is among those that failed from the audit's entry to its
 /// exit; for every server and every disk.
 pub fn store_is_said_of_failed_reads<W: Wire, D: CacheDisk>()
@@ -96,8 +96,8 @@ pub fn store_is_said_of_failed_reads<W: Wire, D: CacheDisk>()
         (judged_of auditor.checks audited.lockfile) audited.verdicts }
 {}
 
-/// What is asked for packages is each of their paths once: distinct paths, in the order in which
-/// each comes first, and exactly those of the packages of the default registry.
+/// Each path of the packages is asked for once: distinct paths, in the order in which each comes
+/// first, and exactly those of the packages of the default registry.
 pub fn asked_paths_are_the_distinct_paths()
     ensures once { (packages : List Package)
         → AreEachOnce (asked_paths packages) (default_paths packages) }

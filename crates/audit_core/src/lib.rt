@@ -3,8 +3,8 @@
 //! Promises: report and exit are those of advisories, settings and verdicts; online the verdicts
 //! are the table's over what the server held, with one exchange for each distinct path; a cache
 //! that was kept stays kept.
-//! Stands on the registry's index (`tame_names` to `tame_sparse`), and on the lockfiles, advisories
-//! and settings of `audit_lock`, `audit_advisory` and `audit_settings`.
+//! Depends on the registry's index (`tame_names` to `tame_sparse`), and on the lockfiles,
+//! advisories and settings of `audit_lock`, `audit_advisory` and `audit_settings`.
 //!
 //! ```ignore
 //! // crates/uses/src/audits.rt: vulnerability_count

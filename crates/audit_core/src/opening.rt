@@ -43,7 +43,7 @@ impl From<NoMemory> for FileAuditError {
     }
 }
 
-/// Reads what stands at a path; `-` is standard input.
+/// Reads what is at a path; `-` is standard input.
 fn read_at<F: Files>(alloc: Global, files: &mut F, path: &str) -> Result<ReadAnswer, FileFault>
     ensures cause { HasCause FileFault.NoMemory (F.faults files.old) (F.faults files.new) result }
     ensures above { IsAboveLimit lockfile_limit result }
@@ -74,7 +74,7 @@ fn whole_text(alloc: Global, bytes: &[u8]) -> Result<Text, FileAuditError>
     }
 }
 
-/// The text of what stands at a path, or why there is none.
+/// The text of what is at a path, or why there is none.
 fn read_text<F: Files>(alloc: Global, files: &mut F, path: &str) -> Result<Text, FileAuditError>
     ensures text { F.tells → IfOk result (λ text.
         opened_text (standing_at (F.host files.old) path.now) ≡ Ok text) }
@@ -107,9 +107,9 @@ impl Auditor {
     ghost use Rattle.audit_core.specs.Opened.{IsEarly, IsUnopenedFor};
     ghost use Rattle.audit_core.specs.Turns.{StaysKept};
 
-    /// Audits the lockfile at a path of the host, where `-` is standard input, as `audit_text`.
-    /// `Missing` where nothing is there, `TooLarge` where it has more than 64 MiB, `NotUtf8` where
-    /// it isn't UTF-8, `File` where it can't be read, else as the audit of its text.
+    /// Audits the lockfile at a path of the host (`-` is standard input), as `audit_text`.
+    /// `Missing` if nothing is there, `TooLarge` if it has more than 64 MiB, `NotUtf8` if
+    /// it isn't UTF-8, `File` if it can't be read, else as the audit of its text.
     pub fn audit_lockfile<F: Files, W: Wire, D: CacheDisk>(
         &self,
         alloc: Global,
@@ -119,7 +119,7 @@ impl Auditor {
         wire: &mut W,
         disk: &mut D,
     ) -> Result<Audited, FileAuditError>
-        // the audit of the text that stands there
+        // the audit of the text there
         ensures audited { IfOk result (λ a. (text : List ℕ)
             × (F.tells → opened_text (standing_at (F.host files.old) path.now) ≡ Ok text)
             × IsAuditOf self.now W.tells D.tells
@@ -151,17 +151,17 @@ impl Auditor {
         ensures early { IfErr result (λ e. IsEarly e
             → (wire.new ≡ wire.old) × (disk.new ≡ disk.old)) }
 
-        // whatever the answer, nothing is called if what is there gives no lockfile, and the wire is
-        // what calls may make of it
+        // whatever the result, nothing is called if what is there gives no lockfile, and the wire
+        // is what calls may make of it
         ensures uncalled { F.tells → ((text : List ℕ) (packages : List Package)
             → opened_text (standing_at (F.host files.old) path.now) ≡ Ok text
             → locked text ≡ Ok packages → ⊥)
             → (wire.new ≡ wire.old) × (disk.new ≡ disk.old) }
         ensures becomes { W.becomes wire.old wire.new }
 
-        // of a text that is a lockfile, whatever the answer: a part of the paths was asked, from
-        // the front, no file changes but those of asked paths, and no folders are made but those
-        // above these
+        // for a text that is a lockfile, whatever the result: the first of the paths were asked
+        // for, no file changes except those of asked paths, and no folders are created except
+        // those above these
         ensures asks { F.tells → (text : List ℕ) (packages : List Package)
             → opened_text (standing_at (F.host files.old) path.now) ≡ Ok text
             → locked text ≡ Ok packages
@@ -169,7 +169,7 @@ impl Auditor {
             (holding (W.exchanges wire.old) (D.past disk.old) (D.folders disk.old))
             (holding (W.exchanges wire.new) (D.past disk.new) (D.folders disk.new)) }
 
-        // whatever the answer: what stays, and what is kept
+        // whatever the result: what stays, and what is kept
         ensures same { F.tells → StaysButInput (IsInput path.now)
             (F.host files.old) (F.host files.new) }
         ensures kept { W.tells → D.tells

@@ -41,7 +41,7 @@ pub struct Places {
     pub map: BTreeMap<String, usize>,
 }
 
-/// The path of a name; nothing where the text is no name.
+/// The path of a name; nothing if the text isn't a name.
 fn path_of(alloc: Global, name: &str) -> Result<Option<Text>, NoMemory>
     ensures path { IfOk result (λ q. q ≡ path name.now) }
     ensures named { IfOk result (λ q. IfSome q (IsPathOf name.now)) }
@@ -66,7 +66,7 @@ impl Places {
         }
     }
 
-    /// The place of the path of a name, which is added at the end unless it is there.
+    /// The place of the path of a name, which is added at the end if it isn't there.
     fn place(&mut self, alloc: Global, name: &str, path: Text) -> Result<usize, NoMemory>
         requires places { AreAt self.old }
         requires path { IsPathOf name.now path }
@@ -86,7 +86,7 @@ impl Places {
         Ok(place)
     }
 
-    /// The turn of a package, whose path is added where it is the first.
+    /// The turn of a package, whose path is added if it is the first.
     fn plan(&mut self, alloc: Global, locked: &Package) -> Result<Planned, NoMemory>
         requires places { AreAt self.old }
         ensures places { OnOk result (AreAt self.new) }

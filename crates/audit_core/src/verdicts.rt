@@ -1,4 +1,4 @@
-//! What an audit says of a package.
+//! What an audit says about a package.
 
 /// Why it isn't known whether a version is yanked.
 #[derive(Clone, Copy, Debug, PartialEq, Eq)]
@@ -7,7 +7,7 @@ pub enum Cause {
     Name,
     /// The server answered with this status.
     Status(u16),
-    /// The body that came isn't lines of JSON objects.
+    /// The body that came doesn't have JSON objects as lines.
     JsonLines,
     /// Some line has no record.
     Record,
@@ -37,6 +37,6 @@ pub enum Verdict {
 pub struct Judged {
     /// The place of the package in the lockfile, from 0.
     pub package: usize,
-    /// What was judged of it.
+    /// The verdict on it.
     pub verdict: Verdict,
 }

@@ -3,7 +3,7 @@ use Rattle.audit_core.specs.Paths.{asked_paths, default_paths, distinct_after}
 use Rattle.audit_core.specs.Plans.{AreAt, ArePlanned}
 use Rattle.audit_core.proofs.planning.plan_turns.Given as goal
 
--- the paths so far, in front of those that what is left adds; and the turns so far
+-- the paths so far, before those that what is left adds; and the turns so far
 abbrev pub invariant-loop-locked : goal.invariant-loop-locked
 invariant-loop-locked l = record {
   places : AreAt l.places;

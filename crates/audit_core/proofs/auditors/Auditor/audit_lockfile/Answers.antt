@@ -26,7 +26,7 @@ returns-in-Ok-clause-asks g c told_files text packages stands is =
     let same : c.in_ok-text.text ≡ text = one_text _ _ _ (c.in_ok-text.ensures.text told_files) stands in
     c.audit_text.ensures.asks packages (rw (c.as_str.ensures, same) is)
 
--- where no packages are listed the text is refused
+-- if no packages are listed the text is refused
 refused : (r : Result (List Package) LockfileFault) → ((packages : List Package) → r ≡ Ok packages → ⊥) → (f : LockfileFault) × (r ≡ Err f)
 refused (Ok packages) none = absurd (none packages refl)
 refused (Err f) none = (f, refl)
