@@ -62,7 +62,7 @@ served_back : (held : List Held) (xs ys : List Exchange) → AreServed held (xs 
 served_back held [] ys h = h
 served_back held (x ∷ xs) ys h = served_back held xs ys h.1
 
--- no file stands
+-- there is no file
 abbrev pub IsBare : Disk → Type 0
 IsBare files = (q : List ℕ) → files q ≡ []
 

@@ -1,4 +1,4 @@
--- What stands between the fences of a generated advisory.
+-- What is between the fences of a generated advisory.
 use lib.Utf8.{encode}
 use Rattle.std.proofs.Common.{◌≡◌, ℕ, ◌<◌, ◌^◌, Bool, true, false, ◌==◌, cond, List, [], ◌∷◌, ◌++◌, codes, Some, refl, sym, ap, ◌∙◌, arith, append_assoc, nat_lt}
 use Rattle.std.specs.List.{list_all, slice_split}

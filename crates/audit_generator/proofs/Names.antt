@@ -1,4 +1,4 @@
--- Generated names are names, and each has a path of its own.
+-- Generated names are valid, and each has its own path.
 use Rattle.std.proofs.Common.{◌≡◌, ℕ, ◌+◌, ◌<◌, ◌≤◌, ◌^◌, Bool, true, false, not, cond, ◌||◌, ◌==◌, List, [], ◌∷◌, ◌++◌, length, map, codes, Some, None, refl, sym, ap, ◌∙◌, arith, nat_lt, append_assoc}
 use Rattle.std.specs.Prelude.{find}
 use Rattle.std.specs.Char.{to_ascii_lowercase}
@@ -55,7 +55,7 @@ is_slash c = c == 47
 abbrev has_slash : List ℕ → Bool
 has_slash cs = list_any is_slash cs
 
--- what stands behind the last slash
+-- what follows the last slash
 abbrev last_part : List ℕ → List ℕ
 last_part [] = []
 last_part (c ∷ cs) = cond (has_slash cs) (last_part cs) (cond (is_slash c) cs (c ∷ cs))

@@ -14,7 +14,7 @@ use Rattle.audit_generator.proofs.Lines.{numbers_small}
 use Rattle.audit_generator.proofs.Runs.{lockfile_parses}
 use Rattle.audit_generator.proofs.Listing.{names_at, listed_at, lockfile_lists}
 
--- ---- texts with a blank are no names
+-- ---- texts with a blank aren't names
 
 unsimple-append : (xs ys : List ℕ) → list_all is_simple xs ≡ false → list_all is_simple (xs ++ ys) ≡ false
 unsimple-append xs ys h = rw (list_all-append is_simple xs ys, h) refl

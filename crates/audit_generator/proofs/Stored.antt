@@ -1,4 +1,4 @@
--- What the cache keeps of generated bodies, and what is named of that.
+-- What the cache keeps of generated bodies, and what requests name of that.
 use Rattle.std.proofs.Common.{◌≡◌, ℕ, ◌<◌, ◌≤◌, ◌^◌, true, false, not, ◌==◌, List, [], ◌∷◌, codes, Some, refl, arith}
 use Rattle.std.specs.List.{list_all}
 use Rattle.std.proofs.lemmas.Bool.{and_parts}
@@ -45,7 +45,7 @@ revision k = Http (Etag (etag_at k))
 text_nonzero : (k : ℕ) → k < 2 ^ 64 → list_all (λ b. not (b == 0)) (entry_text (revision k)) ≡ true
 text_nonzero k h = zero_free (codes "etag: ") (etag_at k) refl (honest_zero (etag_at k) (etag_honest k h))
 
--- no zero byte stands in the url of the index
+-- the url of the index has no zero byte
 index_whole : list_all (λ b. not (b == 0)) crates_io_index ≡ true
 index_whole = refl
 

@@ -68,7 +68,7 @@ summed n auditor g same if_equal exchanges first second =
     ∙ ap (λ (b : Bool). lines_of n r.advisory_count (length r.vulnerabilities) (yanked_count (verdicts_of n)) n n b g.second.exit) alike
     ∙ ap (λ (x : ℕ). lines_of n r.advisory_count (length r.vulnerabilities) (yanked_count (verdicts_of n)) n n true x) second.exit
 
--- a text that was put together from these numbers is the lines over the audits
+-- a text built from these numbers is the lines over the audits
 pub lines_over : (t text : List ℕ) (n vulnerabilities yanked cold warm : ℕ) (same : Bool) (g : Generated)
     → t ≡ text ++ number_line (codes "yanked") yanked ++ number_line (codes "cold") cold ++ number_line (codes "warm") warm ++ same_line same ++ number_line (codes "exit") g.second.exit
     → text ≡ number_line (codes "packages") n ++ number_line (codes "advisories") g.second.report.advisory_count ++ number_line (codes "vulnerabilities") vulnerabilities

@@ -1,4 +1,4 @@
--- Texts that TOML writes as they stand.
+-- Texts that TOML writes as they are.
 use Rattle.std.proofs.Common.{◌≡◌, ℕ, ◌<◌, ◌^◌, ◌≤◌, Bool, true, false, not, ◌&&◌, ◌==◌, List, [], ◌∷◌, ◌++◌, codes, refl, arith, nat_le}
 use Rattle.std.specs.List.{list_all, list_any}
 use Rattle.std.specs.Fmt.{decimal}
@@ -11,7 +11,7 @@ use Rattle.std.proofs.lemmas.Str.Parse.{digit_from_value}
 use Rattle.audit_generator.specs.Packages.{name_at, version_text, default_source}
 use Rattle.toml_writer.specs.Text.{needs_escape, quotes_after, escaped, encoding_of, basic, is_control, string_text}
 
--- a byte that no form of string has to escape, of those that stand in names, versions and sources
+-- a byte that needs no escape in any form of string, of those in names, versions and sources
 abbrev pub is_simple : ℕ → Bool
 is_simple c = (nat_le 43 c && nat_le c 122) && not (c == 92)
 

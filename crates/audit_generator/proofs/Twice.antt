@@ -1,4 +1,4 @@
--- Two audits one after the other.
+-- Two audits, one after the other.
 use Rattle.std.proofs.Common.{◌≡◌, ℕ, ◌≤◌, List, [], refl, sym, ap, ◌∙◌, subst, arith}
 use Rattle.tame_cache.specs.MemoryDisk.{past_in}
 use Rattle.tame_cache.specs.declared.memory_disk.MemCacheDisk.{MemCacheDisk}

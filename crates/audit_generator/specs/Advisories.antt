@@ -8,7 +8,7 @@ use Rattle.audit_generator.specs.Packages.{name_at, text_line}
 abbrev pub has_advisory : ℕ → Bool
 has_advisory k = k % 10 == 0
 
--- zeros in front of a number below 10000, so that it has four digits
+-- zeros before a number below 10000, so that it has four digits
 abbrev pub zeros_before : ℕ → List ℕ
 zeros_before k =
     if nat_lt k 10 then codes "000"

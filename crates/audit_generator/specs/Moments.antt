@@ -26,7 +26,7 @@ moment_of wire disk = record {
 abbrev pub auditor_for : ℕ → Auditor
 auditor_for n = auditor_of default_settings (advisories n)
 
--- nothing was asked, no file stands, and nothing has failed
+-- nothing was asked, there is no file, and nothing has failed
 pub record IsStart (moment : Moment) : Type 0 where
   pub exchanges : moment.exchanges ≡ []
   pub files : (q : List ℕ) → moment.files q ≡ []
@@ -41,8 +41,8 @@ pub record IsAuditedTwice (n : ℕ) (generated : Generated) (began between : Mom
   pub second : IsAuditOf (auditor_for n) ⊤ ⊤ between (moment_of generated.wire generated.disk)
       (lockfile_text n) generated.second
 
--- two audits, one after the other: each file was sent once and confirmed once, its entry stands in
--- the cache, and both audits say what that auditor says of the packages
+-- two audits, one after the other: each file was sent once and confirmed once, its entry is in
+-- the cache, and both audits say what that auditor says about the packages
 pub record IsGenerated (n : ℕ) (generated : Generated) : Type 0 where
   pub audits : (began : Moment) × (between : Moment) × IsAuditedTwice n generated began between
   pub exchanges : generated.wire.exchanges ≡ exchanges_of n

@@ -52,7 +52,7 @@ entry_at k = entry crates_io_index (Http (Etag (etag_at k))) (pairs (body_at k))
 abbrev pub AreStored : ℕ → Disk → Type 0
 AreStored n files = (k : ℕ) → k < n → reads (files (index_file (path_at k))) ≡ Some (entry_at k)
 
--- by what the lines of its body say of its version
+-- by what the lines of its body say about its version
 abbrev pub judged_at : ℕ → Judged
 judged_at k = record {
   «package» = k;

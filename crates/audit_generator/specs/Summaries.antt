@@ -41,7 +41,7 @@ lines_of n advisories vulnerabilities yanked cold warm same exit =
     ++ number_line (codes "exit") exit
 
 -- the lines over what two audits left: those of the second, the answers of the server, and whether
--- both say the same of each package
+-- both say the same about each package
 pub record AreLinesOver (n : ℕ) (generated : Generated) (text : List ℕ) : Type 0 where
   pub same : Bool
   pub compared : IsTrue same ↔ (generated.first.verdicts ≡ generated.second.verdicts)
@@ -61,6 +61,6 @@ summary_by n auditor =
     lines_of n (report_by n auditor).advisory_count (length (report_by n auditor).vulnerabilities)
     (yanked_count (verdicts_of n)) n n true (audit_exit auditor (report_by n auditor))
 
--- the lines for n packages, a function of their number alone
+-- the lines for n packages, a function of only their number
 abbrev pub summary_for : ℕ → List ℕ
 summary_for n = summary_by n (auditor_for n)

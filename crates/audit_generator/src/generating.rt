@@ -33,7 +33,7 @@ pub struct Generated {
     pub disk: MemCacheDisk,
 }
 
-/// An audit of a lockfile in which the disk found room.
+/// An audit of a lockfile for which the disk had room.
 fn quiet_audit(
     alloc: Global,
     auditor: &Auditor,
@@ -101,11 +101,11 @@ fn default_auditor(alloc: Global, n: u64) -> Result<Auditor, AuditError>
     read_auditor(alloc, &texts)
 }
 
-/// Audits n generated packages twice, n at most 5,000.
+/// Audits n generated packages twice, with n at most 5,000.
 ///
 /// # Errors
 ///
-/// Want of memory alone, also of the cache's: the lockfile and the advisories are read.
+/// Only `NoMemory`, also if the cache is out of memory: the lockfile and the advisories are read.
 pub fn generate(alloc: Global, n: u64) -> Result<Generated, AuditError>
     requires { n ≤ 5000 }
     ensures made { IfOk result (IsGenerated n) }

@@ -1,4 +1,4 @@
-//! What holds of every generated text.
+//! What holds for every generated text.
 ghost use Rattle.std.specs.Prelude.{◌≡◌, ◌<◌, ◌^◌, ℕ, Ok};
 ghost use Rattle.audit_lock.specs.Locked.{locked};
 ghost use Rattle.audit_advisory.specs.Advisories.{advisory_of};

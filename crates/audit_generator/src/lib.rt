@@ -1,7 +1,7 @@
 //! Two audits of a generated world: a lockfile, what a server holds for it, and advisories.
 //!
 //! Promises: each text is a function of the number of its package, and reads to that package or
-//! advisory; two audits of n packages are exactly what their definition says, and so are the eight
+//! advisory. Two audits of n packages are exactly what their definition says, and so are the eight
 //! lines that sum them up, which are a function of n.
 #![tactic(auto)]
 

@@ -23,14 +23,14 @@ pub fn version_text(alloc: Global, minor: u64) -> Result<Text, NoMemory>
     Ok(Text::from_string(format!(in alloc; "1.{minor}.0")?))
 }
 
-/// A line of a table: a key and a text.
+/// A line of a table: a key and a string.
 pub fn text_line(alloc: Global, key: &str, value: &str) -> Result<Text, NoMemory>
     ensures { IfOk result (λ t. t ≡ spec.text_line key.now value.now) }
 {
     Ok(Text::from_string(format!(in alloc; "{key} = \"{value}\"\n")?))
 }
 
-/// The line of a package's dependencies, where it has one.
+/// The line of a package's dependencies, if it has one.
 fn dependencies_text(alloc: Global, k: u64) -> Result<Text, NoMemory>
     ensures { IfOk result (λ t. t ≡ spec.dependencies_text (spec.places_at k)) }
 {

@@ -36,7 +36,7 @@ fn same_judged(one: &Judged, other: &Judged) -> bool
     *one == *other
 }
 
-/// Whether two audits say the same of each package.
+/// Whether two audits say the same about each package.
 fn same_verdicts(one: &[Judged], other: &[Judged]) -> bool
     ensures { IsTrue result ↔ (one.now ≡ other.now) }
 {
@@ -93,7 +93,7 @@ struct LastNumbers {
     exit: u64,
 }
 
-/// The last five lines, behind others.
+/// The last five lines, after others.
 fn last_lines(alloc: Global, text: String, numbers: &LastNumbers) -> Result<Text, NoMemory>
     ensures { IfOk result (λ t. t ≡ string_bytes text
         ++ spec.number_line (codes "yanked") numbers.now.yanked
@@ -117,9 +117,9 @@ fn last_lines(alloc: Global, text: String, numbers: &LastNumbers) -> Result<Text
 
 /// The lines that sum up two audits of n packages.
 pub fn summary_text(alloc: Global, n: u64, generated: &Generated) -> Result<Text, NoMemory>
-    // whatever they are: the lines over them
+    // whatever they are, the lines over them
     ensures over { IfOk result (spec.AreLinesOver n generated.now) }
-    // of two audits of n packages: the lines for n
+    // for two audits of n packages, the lines for n
     ensures summary { IsGenerated n generated.now → IfOk result (λ t. t ≡ spec.summary_for n) }
 {
     let report = &generated.second.report;
