@@ -1,4 +1,4 @@
--- One binary more.
+-- One more binary.
 use Rattle.std.proofs.Common.{◌≡◌, ◌≢◌, ◌<◌, ◌+◌, inl, inr, ℕ, suc, Result, Ok, Err, List, [], ◌∷◌, ◌++◌, length, take, drop, get_or, refl, sym, ap, ◌∙◌, subst, append_assoc, arith}
 use Rattle.std.specs.Prelude.{IfErr}
 use Rattle.std.proofs.lemmas.List.{append-nil}
@@ -35,13 +35,13 @@ pub binaries_next : (tells : Tells) (scan : Scan) (began mid ended : Outside) (p
 binaries_next tells scan began mid ended paths i answers path a low is h k =
     subst (λ (ps : List (List ℕ)). AreBinaries tells scan began ended ps (answers ++ a ∷ [])) (next_paths paths i path low is) (binaries_more tells scan began mid ended (take i paths) answers path a h k)
 
--- memory ran out in the next one
+-- the next one ran out of memory
 pub partly_cut : (tells : Tells) (scan : Scan) (began mid ended : Outside) (paths : List (List ℕ)) (i : ℕ) (answers : List BinaryAnswer) (path : List ℕ) → i < length paths → path ≡ get_or paths i path
     → AreBinaries tells scan began mid (take i paths) answers → IsCutOff tells scan mid ended path → ArePartly tells scan began ended paths
 partly_cut tells scan began mid ended paths i answers path low is h k =
     (i, answers, mid, h, subst (λ (ps : List (List ℕ)). IsNextBegun tells scan mid ended ps) (sym (drop_at paths i path low is)) (inr k))
 
--- memory ran out between two
+-- out of memory between two
 next_none : (tells : Tells) (scan : Scan) (mid : Outside) (paths : List (List ℕ)) → IsNextBegun tells scan mid mid paths
 next_none tells scan mid [] = refl
 next_none tells scan mid (p ∷ paths) = inl refl
@@ -89,7 +89,7 @@ grown_cut tells scan began ended path told h = grown_begun tells scan began ende
 pub grown_then : (a b c : List Exchange) → Grown a b → Grown b c → Grown a c
 grown_then a b c h k = (h.0 ++ k.0, k.1 ∙ ap (λ (xs : List Exchange). xs ++ k.0) h.1 ∙ append_assoc a h.0 k.0)
 
--- ---- want of memory
+-- ---- out of memory
 
 pub if_err : {A E : Type 0} {P : Type 0} (r : Result A E) → P → IfErr r (λ _. P)
 if_err (Ok a) p = tt

@@ -6,11 +6,11 @@ use Rattle.std.proofs.Math.Seq.{take-append_seam}
 use Rattle.tame_names.specs.Pieces.{pieces}
 use Rattle.audit_binaries.specs.Payloads.{before_end, end_line, with_newlines}
 
--- the text of the lines in front of the end line
+-- the text of the lines before the end line
 abbrev Front : List ℕ → Option (List ℕ)
 Front bytes = option_map with_newlines (before_end (pieces 10 bytes))
 
--- what is left is the end of the bytes, and no end line stands before it
+-- what is left is the end of the bytes, and there is no end line before it
 abbrev pub IsReached : List ℕ → List ℕ → Type 0
 IsReached bytes left = (done : List ℕ) × (bytes ≡ done ++ left) × (option_map with_newlines (before_end (pieces 10 bytes)) ≡ option_map (λ more. done ++ more) (option_map with_newlines (before_end (pieces 10 left))))
 
@@ -21,7 +21,7 @@ unmoved (Some x) = refl
 pub reached_first : (bytes : List ℕ) → IsReached bytes bytes
 reached_first bytes = ([], refl, unmoved (Front bytes))
 
--- a line that isn't the end line goes in front
+-- a line that isn't the end line comes first
 line_more : (line : List ℕ) (lines : List (List ℕ)) → bytes_eq line end_line ≡ false → before_end (line ∷ lines) ≡ option_map (λ more. line ∷ more) (before_end lines)
 line_more line lines other = rw other refl
 

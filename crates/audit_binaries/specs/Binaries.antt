@@ -1,4 +1,4 @@
--- What is answered of binaries, one after the other (this project, after cargo-audit).
+-- Answers for binaries, one after the other (this project, after cargo-audit).
 use Rattle.std.specs.Prelude.{◌≡◌, ◌≢◌, ◌≤◌, ◌⊎◌, ℕ, List, [], ◌∷◌, ◌++◌, drop, take, Result, Ok, Err}
 use Rattle.tame_names.specs.Counts.{CountRose}
 use Rattle.tame_names.specs.Standing.{Host}
@@ -28,14 +28,14 @@ use Rattle.audit_binaries.specs.declared.opening.FoundText.{FoundText}
 
 -- ---- the outside
 
--- who tells what he has
+-- which objects tell what they have
 pub record Tells : Type 1 where
   pub files : Type 0
   pub decoder : Type 0
   pub wire : Type 0
   pub disk : Type 0
 
--- at a moment: the wire and the disk, the folders that were made, the calls on files that have
+-- at a moment: the wire and the disk, the folders that were created, the calls on files that have
 -- failed, and how often these and decodings have
 pub record Outside : Type 0 where
   pub moment : Moment
@@ -62,7 +62,7 @@ outside exchanges files wire_faults disk_faults disk_failed folders failed file_
       decode_faults = decode_faults;
     }
 
--- what binaries are audited by: the auditor, the limits, what stands at paths, and what the decoder
+-- what binaries are audited by: the auditor, the limits, what is at paths, and what the decoder
 -- answers
 pub record Scan : Type 0 where
   pub auditor : Auditor
@@ -81,9 +81,9 @@ Says tells scan path said =
 
 -- ---- one binary
 
--- its audit is that of the text that it says; no file changes but those of the paths that are asked
--- for, and none at all where the server isn't asked, so that the next binary is audited by the same
--- cache; no folders are made but those above them; a kept disk is kept all the time where the
+-- its audit is that of the text that it says. No file changes except those of the paths that are
+-- asked for, and none at all if the server isn't asked, so the next binary is audited by the same
+-- cache. No folders are created except those above them. A kept disk is kept all the time if the
 -- exchanges are honest
 pub record IsAudited (tells : Tells) (scan : Scan) (began ended : Outside) (path : List ℕ)
     (found : PackagesFound) (audited : Audited) : Type 0 where
@@ -119,7 +119,7 @@ pub record IsUncalled (began ended : Outside) : Type 0 where
   pub moment : ended.moment ≡ began.moment
   pub folders : ended.folders ≡ began.folders
 
--- an audit, or the reason why there is none, and then nothing was called
+-- an audit, or the reason why there is none; if there is none, nothing was called
 abbrev pub IsAnswered : Tells → Scan → Outside → Outside → List ℕ → BinaryAnswer → Type 0
 IsAnswered tells scan began ended path (answer.Audited found audited) =
     IsAudited tells scan began ended path found audited
@@ -130,8 +130,8 @@ abbrev pub failed_by : List ℕ → BinaryAnswer → List FailedCall
 failed_by path (answer.Audited found audited) = []
 failed_by path (answer.Refused f) = failed_reads path f
 
--- the counts of files and decoder never fall; a file that couldn't be read raised the one, and is
--- told, and a failed decoding raised the other, which stays otherwise
+-- the counts of files and decoder never fall; a file that couldn't be read raised the first, and is
+-- told, and a failed decoding raised the second, which stays otherwise
 pub record IsCounted (tells : Tells) (began ended : Outside) (path : List ℕ)
     (a : BinaryAnswer) : Type 0 where
   pub files : began.file_faults ≤ ended.file_faults
@@ -146,10 +146,10 @@ pub record IsBinary (tells : Tells) (scan : Scan) (began ended : Outside) (path 
   pub answered : IsAnswered tells scan began ended path a
   pub counted : IsCounted tells began ended path a
 
--- ---- one in which memory ran out
+-- ---- one that ran out of memory
 
--- a part of the audit of these packages: a part of its paths was asked for, from the front, and no
--- other file changed
+-- a part of the audit of these packages: the first of its paths were asked for, and no other file
+-- changed
 pub record IsPart (tells : Tells) (scan : Scan) (began ended : Outside)
     (packages : List Package) : Type 0 where
   pub asked : tells.wire → AddsPart
@@ -174,7 +174,7 @@ pub record IsCutOff (tells : Tells) (scan : Scan) (began ended : Outside)
 
 -- ---- one after the other
 
--- one answer for each path, in their order, each from the moment where the one before ended
+-- one answer for each path, in their order, each from the end of the one before
 abbrev pub AreBinaries : Tells → Scan → Outside → Outside → List (List ℕ) → List BinaryAnswer
     → Type 0
 AreBinaries tells scan began ended [] [] = ended ≡ began
@@ -189,14 +189,14 @@ IsNextBegun tells scan began ended [] = ended ≡ began
 IsNextBegun tells scan began ended (path ∷ paths) =
     (ended ≡ began) ⊎ IsCutOff tells scan began ended path
 
--- a part of the paths was answered, from the front, and the next one may have been begun
+-- the first of the paths were answered, and the next one may have been begun
 abbrev pub ArePartly : Tells → Scan → Outside → Outside → List (List ℕ) → Type 0
 ArePartly tells scan began ended paths =
     (k : ℕ) × (answers : List BinaryAnswer) × (mid : Outside)
     × AreBinaries tells scan began mid (take k paths) answers
     × IsNextBegun tells scan mid ended (drop k paths)
 
--- ---- where all tell what they have
+-- ---- if all tell what they have
 
 abbrev pub all_tell : Tells
 all_tell = record { files = Unit {0}; decoder = Unit {0}; wire = Unit {0}; disk = Unit {0} }

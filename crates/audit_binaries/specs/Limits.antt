@@ -2,12 +2,12 @@
 use Rattle.std.specs.Prelude.{ℕ, ◌^◌, ◌-◌, ◌==◌, Option, Some, None, if◌then◌else◌}
 use Rattle.audit_binaries.specs.declared.limits.BinaryLimits.{BinaryLimits}
 
--- 100 MiB where nothing is asked for; 0 is no limit
+-- 100 MiB by default; 0 is no limit
 abbrev pub binary_limit : Option ℕ → ℕ
 binary_limit None = 104857600
 binary_limit (Some size) = if size == 0 then 2 ^ 64 - 1 else size
 
--- 8 MiB where nothing is asked for
+-- 8 MiB by default
 abbrev pub payload_limit : Option ℕ → ℕ
 payload_limit None = 8388608
 payload_limit (Some size) = size

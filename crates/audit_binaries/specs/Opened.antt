@@ -1,4 +1,4 @@
--- What a binary says: the text that a decoder makes of the bytes at a path (this project, after
+-- What a binary says: the text that a decoder reads from the bytes at a path (this project, after
 -- cargo-audit).
 use Rattle.std.specs.Prelude.{◌≡◌, ◌<◌, ◌⊎◌, ℕ, List, [], ◌∷◌, length, nat_lt, Some, if◌then◌else◌, Result, Ok, Err}
 use Rattle.tame_names.specs.Standing.{Standing, Nothing, File, Folder, Other}
@@ -16,7 +16,7 @@ use Rattle.audit_binaries.specs.declared.opening.Unopened.TheVariants.{Refused, 
 
 -- ---- what is there
 
--- the bytes of what stands at a path, or why there are none
+-- the bytes of the file at a path, or why there are none
 abbrev pub bytes_at : ℕ → Standing → Result (List ℕ) BinaryFault
 bytes_at limit Nothing = Err fault.Missing
 bytes_at limit (File bytes) =
@@ -24,7 +24,7 @@ bytes_at limit (File bytes) =
 bytes_at limit (Folder entries) = Err fault.File
 bytes_at limit Other = Err fault.File
 
--- the text of a lockfile that a decoder answers, and whether it is of all packages; or why there is
+-- the lockfile's text in a decoder's answer, and whether it is of all packages; or why there is
 -- none
 abbrev pub said_text : Answer → Result FoundText BinaryFault
 said_text (Ok (decoded.Complete text)) = Ok (record { found = found.Complete; text = text })
@@ -32,9 +32,9 @@ said_text (Ok (decoded.Incomplete text)) = Ok (record { found = found.Incomplete
 said_text (Ok decoded.Nothing) = Err fault.NoInformation
 said_text (Err n) = Err (fault.PayloadOver n)
 
--- ---- where it is told
+-- ---- if it is told
 
--- these are the bytes that stand there
+-- these are the bytes there
 abbrev pub IsRead : Type 0 → ℕ → Standing → List ℕ → Type 0
 IsRead told limit standing bytes = told → bytes_at limit standing ≡ Ok bytes
 
@@ -51,7 +51,7 @@ IsOpened files_tell decoder_tells limits standing answers said =
 
 -- ---- why there is none
 
--- as the file has it: nothing is there, or it is too large; that a read failed is told by its count
+-- by the file: nothing is there, or it is too large; that a read failed is in its count
 abbrev pub HasNoBytes : Type 0 → ℕ → Standing → BinaryFault → Type 0
 HasNoBytes told limit standing fault.Missing = told → bytes_at limit standing ≡ Err fault.Missing
 HasNoBytes told limit standing (fault.TooLarge n) =
@@ -59,8 +59,8 @@ HasNoBytes told limit standing (fault.TooLarge n) =
 HasNoBytes told limit standing fault.File = Unit {0}
 HasNoBytes told limit standing _ = ⊥
 
--- as the decoder's answer has it: it is over the limit, or says nothing; that decoding failed is
--- told by its count
+-- by the decoder's answer: it is over the limit, or says nothing; that decoding failed is in its
+-- count
 abbrev pub IsUnsaid : Type 0 → ℕ → Answer → BinaryFault → Type 0
 IsUnsaid told limit answer (fault.PayloadOver n) =
     (limit < n) × IsSaid told answer (Err (fault.PayloadOver n))
@@ -76,14 +76,14 @@ IsUnopened files_tell decoder_tells limits standing answers f =
     ⊎ ((bytes : List ℕ) × IsRead files_tell limits.binary standing bytes
     × IsUnsaid decoder_tells limits.payload (answers bytes limits.payload) f)
 
--- want of memory needs no reason
+-- out of memory needs no reason
 abbrev pub IfRefused : (BinaryFault → Type 0) → Unopened → Type 0
 IfRefused P (Refused f) = P f
 IfRefused P NoMemory = Unit {0}
 
 -- ---- calls that failed
 
--- the read that failed, where the fault is that of the file
+-- the read that failed, if the fault is that of the file
 abbrev pub failed_reads : List ℕ → BinaryFault → List FailedCall
 failed_reads path fault.File = record { call = file_call.Read; path = Some path } ∷ []
 failed_reads path _ = []

@@ -1,4 +1,4 @@
--- What the answers for binaries come to (this project, after cargo-audit).
+-- The summary of the answers for binaries (this project, after cargo-audit).
 use Rattle.std.specs.Prelude.{◌≡◌, ◌⊎◌, ℕ, suc, List, [], ◌∷◌, ◌++◌, map, Bool, true, false, Some, if◌then◌else◌, ◌||◌}
 use Rattle.std.specs.List.{list_any}
 use Rattle.tame_names.specs.Counts.{CountRoseBy}
@@ -43,7 +43,7 @@ summary_of deny self_advisories answers = record {
   errors_encountered = list_any is_refused answers || self_fails deny self_advisories;
 }
 
--- the exit: 1 where vulnerabilities were found, else 2 where errors were, else 0
+-- the exit: 1 if vulnerabilities were found, else 2 if errors were, else 0
 abbrev pub summary_status : MultiFileReportSummary → ℕ
 summary_status summary =
     if summary.vulnerabilities_found then 1
@@ -72,8 +72,8 @@ AddsAsked paths before now =
     (added : List Exchange) × (now ≡ before ++ added) × (map (λ e. e.path) added ≡ paths)
     × AreAddressed added
 
--- of the exchanges that were added each audit has its own, in their order, and its verdicts are
--- those of the table over what the server held when asked
+-- each audit has its own part of the exchanges that were added, in their order, and its verdicts
+-- are those of the table over what the server held when asked
 abbrev pub AreHeld : Checks → List Exchange → List BinaryAnswer → Type 0
 AreHeld checks added [] = added ≡ []
 AreHeld checks added (Audited found audited ∷ answers) =
@@ -128,13 +128,13 @@ AddsReadings [] before now = now ≡ before
 AddsReadings (path ∷ paths) before now =
     AddsReadings paths before now ⊎ AddsReadings paths (before ++ reading_of path ∷ []) now
 
--- ---- what is so of all of them
+-- ---- what holds for all of them
 
 -- online, over an honest server and a disk that is kept for what it held, the verdicts of each
 -- audit are the table's over what the server held when asked; the turns go on from the entry to the
--- exit, and the wire's list grows by their exchanges alone, in that order; no file changes but
--- those of the paths that are asked for, and no folders are made but those above them; one fault
--- licenses one refusal
+-- exit, and the wire's list grows only by their exchanges, in that order; no file changes except
+-- those of the paths that are asked for, and no folders are created except those above them; one
+-- fault licenses one refusal
 pub record AreTogether (tells : Tells) (checks : Checks) (began ended : Outside)
     (answers : List BinaryAnswer) : Type 0 where
   pub headline : checks ≡ Online → tells.wire → tells.disk → AllHeld checks

@@ -1,9 +1,9 @@
-//! What is answered of binaries.
+//! Answers for binaries.
 use audit_core::Audited;
 use audit_lock::LockfileFault;
 use tame_names::Items;
 
-/// How much a binary says of the packages that it was built from.
+/// How much a binary says about the packages that it was built from.
 #[derive(Clone, Copy, Debug, PartialEq, Eq)]
 pub enum PackagesFound {
     /// It names all of them.
@@ -25,9 +25,9 @@ pub enum BinaryFault {
     Decode,
     /// What it says has this number of bytes, which is above the limit.
     PayloadOver(u64),
-    /// It says nothing of the packages that it was built from.
+    /// It says nothing about the packages that it was built from.
     NoInformation,
-    /// What it says is no lockfile, for this reason, which is never want of memory.
+    /// What it says is no lockfile, for this reason, which is never out of memory.
     Lockfile(LockfileFault),
 }
 
@@ -40,7 +40,7 @@ pub enum BinaryAnswer {
     Refused(BinaryFault),
 }
 
-/// What the answers for binaries come to.
+/// The summary of the answers for binaries.
 #[derive(Clone, Copy, Debug, PartialEq, Eq)]
 pub struct MultiFileReportSummary {
     /// A binary that was audited has a vulnerability, or a warning that is denied.

@@ -18,9 +18,9 @@ use tame_names::{FileLock, Files, Items, NoMemory, Text};
 use tame_sparse::Wire;
 
 /// Audits what the binary at a path of the host says: reads it, decodes it, and audits its text as
-/// `Auditor::audit_text`. `Missing` where nothing is there, `TooLarge` and `PayloadOver` above the
-/// limits, `NoInformation` where it says nothing, `Lockfile` where that is none, `File` and
-/// `Decode` where it can't be read or decoded.
+/// `Auditor::audit_text`. `Missing` if nothing is there, `TooLarge` and `PayloadOver` above the
+/// limits, `NoInformation` if it says nothing, `Lockfile` if that is none, `File` and `Decode` if
+/// it can't be read or decoded.
 pub fn audit_binary<F: Files, P: Decoder, W: Wire, D: CacheDisk>(
     alloc: Global,
     auditor: &Auditor,
@@ -32,7 +32,7 @@ pub fn audit_binary<F: Files, P: Decoder, W: Wire, D: CacheDisk>(
     wire: &mut W,
     disk: &mut D,
 ) -> Result<BinaryAnswer, NoMemory>
-    // the audit of what stands there and is decoded, or the reason why there is none
+    // the audit of the decoded text there, or the reason why there is none
     ensures answered { IfOk result (IsBinary
         (record { files = F.tells; decoder = P.tells; wire = W.tells; disk = D.tells })
         (record {
@@ -49,7 +49,7 @@ pub fn audit_binary<F: Files, P: Decoder, W: Wire, D: CacheDisk>(
         (P.faults decoder.new))
         path.now) }
 
-    // where memory ran out, what was done of it
+    // if out of memory, what was done of it
     ensures cut { IfErr result (λ _. IsCutOff
         (record { files = F.tells; decoder = P.tells; wire = W.tells; disk = D.tells })
         (record {
@@ -66,7 +66,7 @@ pub fn audit_binary<F: Files, P: Decoder, W: Wire, D: CacheDisk>(
         (P.faults decoder.new))
         path.now) }
 
-    // whatever the answer: what stays, and what is kept
+    // whatever the result: what stays, and what is kept
     ensures files_same { F.tells → F.host files.new ≡ F.host files.old }
     ensures decoder_same { P.tells → (other : List ℕ) (bound : ℕ)
         → P.answers decoder.new other bound ≡ P.answers decoder.old other bound }
@@ -171,9 +171,9 @@ fn audit_each<F: Files, P: Decoder, W: Wire, D: CacheDisk>(
     Ok(answers)
 }
 
-/// Audits what the binaries at these paths say, one after the other, each as `audit_binary`; a
-/// refused one stops nothing. The summary is by what the auditor denies, and by the advisories on
-/// the auditor itself.
+/// Audits what the binaries at these paths say, one after the other, each as `audit_binary`; the
+/// audits go on after a refusal. The summary is by what the auditor denies, and by the advisories
+/// on the auditor itself.
 pub fn audit_binaries<F: Files, P: Decoder, W: Wire, D: CacheDisk>(
     alloc: Global,
     auditor: &Auditor,
@@ -185,7 +185,7 @@ pub fn audit_binaries<F: Files, P: Decoder, W: Wire, D: CacheDisk>(
     wire: &mut W,
     disk: &mut D,
 ) -> Result<BinariesAudit, NoMemory>
-    // one answer for each path, in their order, each from the moment where the one before ended
+    // one answer for each path, in their order, each from the end of the one before
     ensures answered { IfOk result (λ b. AreBinaries
         (record { files = F.tells; decoder = P.tells; wire = W.tells; disk = D.tells })
         (record {
@@ -219,7 +219,7 @@ pub fn audit_binaries<F: Files, P: Decoder, W: Wire, D: CacheDisk>(
     ensures refused { IfOk result (λ b. AreRefused b.answers
         → (wire.new ≡ wire.old) × (disk.new ≡ disk.old)) }
 
-    // where memory ran out, what was done
+    // if out of memory, what was done
     ensures cut { IfErr result (λ _. ArePartly
         (record { files = F.tells; decoder = P.tells; wire = W.tells; disk = D.tells })
         (record {
@@ -236,7 +236,7 @@ pub fn audit_binaries<F: Files, P: Decoder, W: Wire, D: CacheDisk>(
         (P.faults decoder.new))
         paths.now) }
 
-    // whatever the answer: what stays, and what is kept
+    // whatever the result: what stays, and what is kept
     ensures files_same { F.tells → F.host files.new ≡ F.host files.old }
     ensures decoder_same { P.tells → (other : List ℕ) (bound : ℕ)
         → P.answers decoder.new other bound ≡ P.answers decoder.old other bound }

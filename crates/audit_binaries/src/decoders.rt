@@ -1,18 +1,18 @@
-//! What makes a lockfile's text of the bytes of a binary.
+//! The decoder, which turns the bytes of a binary into a lockfile's text.
 ghost use Rattle.std.specs.Prelude.{◌≡◌, ◌<◌, ℕ, List, Result, Err};
 ghost use Rattle.audit_binaries.specs.Decoding.{DecoderAnswers, Decodes, HasDecodeCause};
 
 use std::alloc::Global;
 use tame_names::{NoMemory, Text};
 
-/// What a binary says of the packages that it was built from, as the text of a lockfile.
+/// What a binary says about the packages that it was built from, as the text of a lockfile.
 #[derive(Debug, Drop, PartialEq, Eq)]
 pub enum Decoded {
     /// All of them.
     Complete(Text),
     /// Some of them.
     Incomplete(Text),
-    /// It says nothing of them.
+    /// It says nothing about them.
     Nothing,
 }
 
@@ -23,7 +23,7 @@ pub enum DecodeFault {
     Failed,
     /// What it says has this number of bytes, which is above the limit.
     Over(u64),
-    /// Memory ran out.
+    /// Out of memory.
     NoMemory,
 }
 
@@ -37,14 +37,14 @@ impl From<NoMemory> for DecodeFault {
     }
 }
 
-/// What decodes binaries: one answer for each bytes and limit, which no call changes.
+/// Decodes binaries: one answer for each bytes and limit, which no call changes.
 pub trait Decoder {
     ghost use Rattle.audit_binaries.specs.Decoding.{DecoderAnswers, Decodes, HasDecodeCause};
 
     /// That it tells its answers.
     ghost tells: { Type 0 };
 
-    /// Its answer for each bytes and limit, where it tells it.
+    /// Its answer for each bytes and limit, if it tells it.
     ghost answers: { Self → DecoderAnswers };
 
     /// How often a call has failed.
@@ -54,7 +54,7 @@ pub trait Decoder {
     fn decode_faults(&self) -> u64
         ensures { result ≡ faults self.now };
 
-    /// What the bytes of a binary say, where this has no more than `limit` bytes.
+    /// What the bytes of a binary say, if this has no more than `limit` bytes.
     fn decode(&mut self, alloc: Global, bytes: &[u8], limit: u64) -> Result<Decoded, DecodeFault>
         ensures cause { HasDecodeCause (faults self.old) (faults self.new) result }
         ensures above { (n : ℕ) → result ≡ Err (DecodeFault.Over n) → limit < n }

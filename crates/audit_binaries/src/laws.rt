@@ -5,9 +5,8 @@ ghost use Rattle.audit_binaries.specs.declared.answers.BinaryAnswer.{BinaryAnswe
 ghost use Rattle.audit_binaries.specs.declared.answers.BinaryAnswer.TheVariants as answer;
 ghost use Rattle.audit_binaries.specs.declared.answers.BinaryFault.TheVariants as fault;
 
-/// Where files and decoder tell what they have, an answer is exactly that of what stands at the
-/// path and of what the decoder makes of it, but where the file couldn't be read, or its bytes
-/// decoded.
+/// If files and decoder tell what they have, an answer is exactly that of what is at the path and
+/// of what the decoder makes of it, unless the file couldn't be read, or its bytes decoded.
 pub fn answers_are_exact()
     ensures { (scan : Scan) (began ended : Outside) (path : List ℕ) (a : BinaryAnswer)
         → IsBinary all_tell scan began ended path a

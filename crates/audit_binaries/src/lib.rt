@@ -1,10 +1,10 @@
-//! Audits of what binaries say of themselves: the text of a lockfile that a decoder makes of a
-//! binary's bytes. The limits are a value of their own, handed to each call, and not a part of the
+//! Audits of what binaries say about themselves: a decoder turns a binary's bytes into the text of
+//! a lockfile. The limits are a value of their own, passed to each call, and not a part of the
 //! auditor; and so is what is denied, for the summary.
 //!
 //! Promises: one answer for each path, in their order; each audit is that of the decoded text, from
-//! where the one before ended; a cache that was kept stays kept.
-//! Stands on the auditor of `audit_core` and what it stands on, and on `memchr`.
+//! the end of the one before; a cache that was kept stays kept.
+//! Depends on the auditor of `audit_core` and its dependencies, and on `memchr`.
 //!
 //! ```text
 //! #cargo-lock begin

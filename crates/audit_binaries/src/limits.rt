@@ -12,8 +12,8 @@ pub struct BinaryLimits {
 }
 
 impl BinaryLimits {
-    /// The limits that are asked for, in bytes: a binary of 104,857,600 and a payload of 8,388,608
-    /// where none is, and any binary where 0 is.
+    /// The limits that are asked for, in bytes. By default a binary has 104,857,600 and a payload
+    /// 8,388,608; a binary limit of 0 means any binary.
     pub fn of(max_binary_size: Option<u64>, audit_data_size_limit: Option<u64>) -> BinaryLimits
         ensures { result ≡ limits_of max_binary_size audit_data_size_limit }
     {

@@ -1,4 +1,4 @@
-//! A decoder whose calls fail where a list says so.
+//! A decoder whose calls fail if a list says so.
 ghost use Rattle.std.specs.Prelude.{◌≡◌, ◌≢◌, ◌<◌, ℕ, List, Ok, Err, ⊤, IsErr};
 ghost use Rattle.tame_names.specs.Counts.{IsListed, next_call};
 ghost use Rattle.audit_binaries.specs.Decoding.{Decodes, HasDecodeCause, plain_answer};
@@ -18,7 +18,7 @@ pub struct MemDecoder {
 }
 
 impl MemDecoder {
-    /// No call yet; those of these numbers are to fail.
+    /// No call yet; those with these numbers are to fail.
     pub fn new(fails: Items<u64>) -> MemDecoder
         ensures fails { result.fails ≡ fails }
         ensures calls { result.calls ≡ 0 }

@@ -9,10 +9,10 @@ use crate::limits::BinaryLimits;
 use std::alloc::Global;
 use tame_names::{FileFault, Files, NoMemory, ReadAnswer, Text};
 
-/// The text of a lockfile that a binary says, and whether it is of all packages.
+/// The text of a lockfile in a binary, and whether it is of all packages.
 #[derive(Drop)]
 pub struct FoundText {
-    /// How much the text says of the packages.
+    /// How much the text says about the packages.
     pub found: PackagesFound,
     /// The text of the lockfile.
     pub text: Text,
@@ -23,7 +23,7 @@ pub struct FoundText {
 pub enum Unopened {
     /// It is refused, for this reason.
     Refused(BinaryFault),
-    /// Memory ran out.
+    /// Out of memory.
     NoMemory,
 }
 

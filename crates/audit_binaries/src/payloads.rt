@@ -1,4 +1,4 @@
-//! The payload of bytes: what stands between two lines.
+//! The payload of bytes: what is between two lines.
 ghost use Rattle.std.specs.Prelude.{◌≡◌, ◌≢◌, ◌<◌, ℕ, List, [], ◌∷◌, ◌++◌, length, option_map, option_and_then};
 ghost use Rattle.tame_names.specs.Pieces.{pieces};
 ghost use Rattle.audit_binaries.specs.Payloads.{between, with_newlines};
@@ -8,7 +8,7 @@ use memchr::memchr;
 
 const NEWLINE: u8 = 10;
 
-/// The first line, and what is left behind its newline.
+/// The first line, and what is left after its newline.
 fn first_line(bytes: &[u8]) -> (&[u8], &[u8])
     requires { 0 < length bytes.now }
     ensures lines { pieces 10 bytes.now ≡ result.0.now ∷ pieces 10 result.1.now }
@@ -21,7 +21,7 @@ fn first_line(bytes: &[u8]) -> (&[u8], &[u8])
     }
 }
 
-/// What stands behind the first begin line.
+/// What follows the first begin line.
 fn behind_begin(bytes: &[u8]) -> Option<&[u8]>
     ensures { option_and_then (λ rest. spec.before_end (pieces 10 rest.now)) result
         ≡ between (pieces 10 bytes.now) }
@@ -37,7 +37,7 @@ fn behind_begin(bytes: &[u8]) -> Option<&[u8]>
     None
 }
 
-/// What stands in front of the first end line.
+/// What comes before the first end line.
 fn before_end(bytes: &[u8]) -> Option<&[u8]>
     ensures { option_map (λ front. front.now) result
         ≡ option_map with_newlines (spec.before_end (pieces 10 bytes.now)) }
@@ -53,9 +53,8 @@ fn before_end(bytes: &[u8]) -> Option<&[u8]>
     None
 }
 
-/// The bytes between the first line `#cargo-lock begin` and the next line `#cargo-lock end`, from
-/// behind the newline of the one up to the first byte of the other; nothing without both lines. A
-/// carriage return belongs to its line.
+/// The bytes after the newline of the first line `#cargo-lock begin`, up to the first byte of the
+/// next line `#cargo-lock end`; nothing without both lines. A carriage return belongs to its line.
 pub fn payload_of(bytes: &[u8]) -> Option<&[u8]>
     ensures { option_map (λ payload. payload.now) result ≡ spec.payload_of bytes.now }
 {

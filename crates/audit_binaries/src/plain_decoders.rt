@@ -1,4 +1,4 @@
-//! The decoder that needs nothing outside: by the payload between two lines.
+//! The decoder that needs nothing external: by the payload between two lines.
 ghost use Rattle.std.specs.Prelude.{◌≡◌, ◌<◌, ◌≢◌, ◌⊎◌, ℕ, List, Ok, Err, ⊤, IfOk, IfErr};
 ghost use Rattle.audit_binaries.specs.Decoding.{Decodes, HasDecodeCause};
 ghost use Rattle.audit_binaries.specs.Decoding as spec;
@@ -8,7 +8,7 @@ use crate::payloads::payload_of;
 use std::alloc::Global;
 use tame_names::{Text, utf8_text};
 
-/// What bytes say by their payload, where this has no more than `limit` bytes.
+/// What bytes say by their payload, if this has no more than `limit` bytes.
 pub(crate) fn plain_answer(alloc: Global, bytes: &[u8], limit: u64) -> Result<Decoded, DecodeFault>
     ensures answer { Decodes (spec.plain_answer bytes.now limit) result }
     ensures above { (n : ℕ) → result ≡ Err (DecodeFault.Over n) → limit < n }
@@ -28,7 +28,7 @@ pub(crate) fn plain_answer(alloc: Global, bytes: &[u8], limit: u64) -> Result<De
 }
 
 /// Decodes by the payload: the bytes between the first line `#cargo-lock begin` and the next line
-/// `#cargo-lock end`, where they are UTF-8. It never fails.
+/// `#cargo-lock end`, if they are UTF-8. It never fails.
 #[derive(Clone, Copy, Debug, PartialEq, Eq)]
 pub struct PlainDecoder;
 

@@ -1,4 +1,4 @@
-//! What the answers for binaries come to.
+//! The summary of the answers for binaries.
 ghost use Rattle.std.specs.Prelude.{◌≡◌};
 ghost use Rattle.std.specs.List.{list_any};
 ghost use Rattle.audit_binaries.specs.Summaries.{is_refused};
@@ -54,8 +54,7 @@ pub(crate) fn summary_of(
     }
 }
 
-/// The exit status of a summary: 1 where vulnerabilities were found, else 2 where errors were, else
-/// 0.
+/// The exit status of a summary: 1 if vulnerabilities were found, else 2 if errors were, else 0.
 pub fn summary_status(summary: MultiFileReportSummary) -> u8
     ensures { result ≡ spec.summary_status summary }
 {
