@@ -1,4 +1,4 @@
--- Nothing is at an index file before it is made, where nothing was in the folder.
+-- Nothing is at an index file before it is created, if nothing was in the folder.
 use Rattle.std.proofs.Common.{◌≡◌, inl, inr, ℕ, suc, ◌+◌, ◌<◌, ◌≤◌, ◌==◌, List, [], ◌∷◌, ◌++◌, length, map, take, drop, codes, bytes_eq, get_or, IsUtf8, IsTrue, Bool, true, false, cond, None, refl, sym, ap, ◌∙◌, subst, arith, append_assoc, append-nil, length-append, lit<}
 use Rattle.std.specs.Prelude.{◌||◌, unwrap_or}
 use Rattle.std.proofs.lemmas.Bool.{false_from_ne_true, false≢true}
@@ -46,7 +46,7 @@ front_plain (b ∷ bs) = let rest = front_end bs in (rest.0, ap (λ (xs : List �
 front_both : (xs ys zs : List ℕ) → IsFront xs ys → IsFront ys zs → IsFront xs zs
 front_both xs ys zs h k = (h.0 ++ k.0, k.1 ∙ ap (λ (l : List ℕ). l ++ k.0) h.1 ∙ append_assoc xs h.0 k.0)
 
--- ---- a path that begins none of the ways to a folder
+-- ---- a path that is the start of none of the ways to a folder
 
 way_apart : (w path p : List ℕ) → plain_path p ≡ p → IsFront w path → (IsFront p path → ⊥) → is_same w p ≡ false
 way_apart w path p plain front none = false_from_ne_true _ (λ same.
@@ -78,7 +78,7 @@ ways_apart at path (c ∷ cs) p plain long none = way_case (c == 47) (ways_apart
     way_case true more = (to_apart at path p plain long none, more)
     way_case false more = more
 
--- ---- the path of a name begins no folder of another
+-- ---- the path of a name is the start of no folder of another
 
 abbrev folder_of : List ℕ → List ℕ
 folder_of name = lower (prefix (47 ∷ []) name)
@@ -98,7 +98,7 @@ short_folder (a ∷ b ∷ c ∷ d ∷ more) =
     let size : length (folder_of (a ∷ b ∷ c ∷ d ∷ more)) ≡ 5 = ap (λ (p : List ℕ). length (lower p)) (long_prefix a b c d more) in
     omega (arith, size)
 
--- a folder of names doesn't begin with a digit and a slash, but for that of three letters
+-- a folder of names doesn't begin with a digit and a slash, except that of three letters
 begins_other : (digit : ℕ) (name ys : List ℕ) → digit < 51 → Lacks 47 (lower name) → folder_of name ≡ digit ∷ 47 ∷ ys → ⊥
 begins_other digit [] ys low lacks e = cc
 begins_other digit (a ∷ []) ys low lacks e = cc

@@ -1,4 +1,4 @@
--- What was read, in front of what is left.
+-- What was read, before what is left.
 use Rattle.std.proofs.Common.{◌≡◌, ℕ, ◌+◌, List, [], ◌∷◌, ◌++◌, true, false, cond, Option, Some, None, Result, Ok, Err, refl, sym, ap, ◌∙◌, append_assoc}
 use Rattle.std.specs.Prelude.{filter}
 use Rattle.std.specs.List.{enumerate_from}
@@ -20,7 +20,7 @@ abbrev pub before : {A : Type 0} → List A → Option (List A) → Option (List
 before xs None = None
 before xs (Some ys) = Some (xs ++ ys)
 
--- the same of packages that are checked
+-- the same for packages that are checked
 abbrev pub behind : {A E : Type 0} → List A → Result (List A) E → Result (List A) E
 behind xs (Ok ys) = Ok (xs ++ ys)
 behind xs (Err e) = Err e

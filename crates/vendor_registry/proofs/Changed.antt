@@ -48,7 +48,7 @@ nothing_bytes (File bs) h = cc
 nothing_bytes (Folder es) h = refl
 nothing_bytes Other h = refl
 
--- a folder that is made is no file
+-- a folder that is created is no file
 folder_bytes : (w : List ℕ) (stands : List ℕ → Standing) (q : List ℕ) → StandsPlain stands → bytes_in (with_folder_at w stands q) ≡ bytes_in (stands q)
 folder_bytes w stands q plain = made_case (is_nothing (stands w)) refl
   where
@@ -75,7 +75,7 @@ folders_bytes (w ∷ ws) stands q plain =
 
 -- ---- changes one after the other
 
--- the bytes of the last file that is made at a path, or what was there
+-- the bytes of the last file that is created at a path, or what was there
 abbrev pub last_at : List HostChange → List ℕ → Option (List ℕ) → Option (List ℕ)
 last_at [] q s = s
 last_at (Makes folder ∷ cs) q s = last_at cs q s

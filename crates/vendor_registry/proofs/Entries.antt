@@ -18,7 +18,7 @@ use Rattle.vendor_registry.specs.Checks.{entry_records, file_records, is_of_pack
 use Rattle.vendor_registry.specs.declared.faults.VendorFault.{VendorFault}
 use Rattle.vendor_registry.specs.declared.faults.VendorFault.TheVariants as fault
 
--- ---- one line more
+-- ---- one more line
 
 pub before_more : (xs : List IndexVersion) (x : IndexVersion) (o : Option (List IndexVersion)) → before xs (option_map (λ (ys : List IndexVersion). x ∷ ys) o) ≡ before (xs ++ x ∷ []) o
 before_more xs x None = refl
@@ -45,7 +45,7 @@ of_read : (place : ℕ) (r : Result ReadEntry CacheError) → items_records plac
 of_read place (Ok e) = ap (λ (ls : List (List ℕ)). or_fault (fault.Record place) (records_of ls)) (lines_paired (pieces 0 e.versions))
 of_read place (Err f) = refl
 
--- what is handed out of a file has its records
+-- what is returned of a file has its records
 pub of_file : (place : ℕ) (url : List ℕ) (entry : IndexEntry) (file : File) → HandsOut url (Some entry) file → items_records place (iterated entry) ≡ file_records place url file
 of_file place url (Cache bytes index) file h = rw (h.0, h.1) (of_read place (read_entry url bytes))
 of_file place url (Remote json_lines) file h = absurd h

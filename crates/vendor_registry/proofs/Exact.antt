@@ -52,7 +52,7 @@ found : (fs : Files) (x b : List ℕ) (s : Option (List ℕ)) → last_in fs x s
 found [] x b s h = inr h
 found (f ∷ fs) x b s h = found_case f fs x b s (found fs x b (cond (bytes_eq f.0 x) (Some f.1) s) h)
 
--- where those at a path have the same bytes, it has these
+-- if those at a path have the same bytes, it has these
 abbrev Alone : List ℕ → List ℕ → Files → Type 0
 Alone x b fs = (other : List ℕ) → IsAmong x other fs → other ≡ b
 

@@ -1,4 +1,4 @@
--- The first package with its name and version is the one behind others that haven't both.
+-- The first package with its name and version comes after others that haven't both.
 use Rattle.std.proofs.Common.{◌≡◌, ◌<◌, ℕ, suc, ◌+◌, ◌==◌, List, [], ◌∷◌, ◌++◌, length, take, drop, not, Bool, true, false, cond, Some, refl, sym, ap, ◌∙◌, arith, length-take}
 use Rattle.std.specs.Prelude.{◌&&◌, ◌||◌}
 use Rattle.std.specs.List.{list_any, position_from}
@@ -33,8 +33,8 @@ default_case true p front rest is =
     let none : length front ≡ 0 + length front = omega arith in
     ap (λ i. is_place i (first_place (front ++ p ∷ rest) p)) none ∙ place_among p front rest 0 (self_stands p is)
 
--- the package at a place is looked at where it is of the default registry and none in front stands
--- for it
+-- the package at a place is looked at if it is of the default registry and none before it is its
+-- equal
 pub looked_is : (all : List Package) (i : ℕ) (p : Package) (rest : List Package) → i < length all → drop i all ≡ p ∷ rest
     → is_looked all (i, p) ≡ (is_default p && not (list_any (stands_for p) (take i all)))
 looked_is all i p rest low at =

@@ -13,7 +13,7 @@ use Rattle.tame_local.specs.Registries.{index_of}
 use Rattle.tame_local.proofs.RegistryPaths.{differ, last_behind, lower, lower_lacks, name_lacks, name_long, named_path, no_slash, plain_behind, relative_parts, same_behind}
 use Rattle.vendor_registry.specs.Vendored.{IsInner}
 
--- ---- what stands in front of each path in a folder
+-- ---- what comes before each path in a folder
 
 abbrev pub base : List ℕ → List ℕ
 base folder = cond (length folder == 0) [] (cond (ends_with_slash folder) folder (folder ++ 47 ∷ []))
@@ -64,7 +64,7 @@ front_eq b x y = front_case (bytes_eq x y) refl
         let same : bytes_eq x y ≡ true = (bytes_eq-Decides x y).1 (same_behind b x y e) in
         cc)
 
--- they stand for the same exactly where they are equal
+-- they are the same path exactly if they are equal
 pub same_inner : (folder x y : List ℕ) → IsInner x → IsInner y → is_same (join folder x) (join folder y) ≡ bytes_eq x y
 same_inner folder x y inner_x inner_y =
     ap (λ p. bytes_eq (plain_path p) (plain_path (join folder y))) (join_base folder x inner_x.front)

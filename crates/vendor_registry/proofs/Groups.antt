@@ -40,7 +40,7 @@ one_put old mid now path one q named left more =
     more ∙ ap (λ g. cond (bytes_eq path q) (group_at old path ++ one ∷ []) g) left
     ∙ one_case (bytes_eq path q) path q (group_at old) one refl ∙ ap (λ p. group_at old q ++ cond (bytes_eq p q) (one ∷ []) []) (sym named)
 
--- those so far, in front of those that are left
+-- those so far, before those that are left
 pub put_next : (before more all rest : List CheckedCrate) (q : List ℕ) (one : CheckedCrate) → on q all ≡ before ++ on q (one ∷ rest) → more ≡ before ++ on q (one ∷ []) → on q all ≡ more ++ on q rest
 put_next before more all rest q one h k = h ∙ next_case (is_on q one) ∙ ap (λ (g : List CheckedCrate). g ++ on q rest) (sym k)
   where
@@ -66,7 +66,7 @@ again_case : (b : Bool) (q : List ℕ) (c : CheckedCrate) (cs : List CheckedCrat
 again_case true q c cs is h = ap (λ b. cond b (c ∷ on q (on q cs)) (on q (on q cs))) is ∙ ap (λ (xs : List CheckedCrate). c ∷ xs) h
 again_case false q c cs is h = h
 
--- of a group the same is on its path
+-- the group of a path within that group is the group itself
 pub on_twice : (q : List ℕ) (cs : List CheckedCrate) → on q (on q cs) ≡ on q cs
 on_twice q [] = refl
 on_twice q (c ∷ cs) = again_case (is_on q c) q c cs refl (on_twice q cs)

@@ -49,7 +49,7 @@ join_same w x place front =
 index_same : (w : List ℕ) → IsPlace w → index_of (slashed w) ≡ index_of w
 index_same w place = join_same w (codes "index") place refl
 
--- ---- it stands for the same
+-- ---- it is the same path
 
 end_slash : (bs : List ℕ) → without_end 47 (bs ++ 47 ∷ []) ≡ without_end 47 bs
 end_slash [] = refl

@@ -60,7 +60,7 @@ none_at folder path (file ∷ files) is none =
 pub memory_bare : (files : MemFiles) (folder : List ℕ) → IsPlace folder → NoneBelow folder files.files → IsBare (host_in files) folder
 memory_bare files folder place none path inner = ap standing_of (none_at folder (join folder path) files.files (inner_below folder path place inner) none)
 
--- ---- steps of which each may refuse
+-- ---- steps that may each refuse
 
 part : {A B E : Type 0} (r : Result A E) (f : A → Result B E) (b : B) → and_then f r ≡ Ok b → (a : A) × (r ≡ Ok a) × (f a ≡ Ok b)
 part (Ok a) f b h = (a, refl, h)

@@ -1,4 +1,4 @@
--- Where the checks end: at a package in front of which all were checked.
+-- Where the checks end: at a package before which all were checked.
 use Rattle.std.proofs.Common.{◌≡◌, ◌<◌, ℕ, suc, ◌+◌, List, [], ◌∷◌, ◌++◌, length, take, drop, get_or, Bool, true, false, cond, Result, Ok, Err, refl, sym, ap, ◌∙◌, subst, arith, length-take}
 use Rattle.std.specs.Prelude.{filter}
 use Rattle.std.specs.List.{enumerate_from}
@@ -28,7 +28,7 @@ parted : {A : Type 0} (f : A → Bool) (xs ys : List A) → filter f (xs ++ ys) 
 parted f [] ys = refl
 parted {A} f (x ∷ xs) ys = ap (λ (zs : List A). cond (f x) (x ∷ zs) zs) (parted f xs ys) ∙ part_case (f x) x (filter f xs) (filter f ys)
 
--- ---- one package more
+-- ---- one more package
 
 more_case : (c : CheckedCrate) (r : Result CheckedCrate VendorFault) (rest more : Result (List CheckedCrate) VendorFault) (cs : List CheckedCrate)
     → ((bs : List CheckedCrate) → rest ≡ Ok bs → more ≡ Ok (bs ++ c ∷ []))
@@ -47,9 +47,9 @@ checked_more s [] p cs c h done =
 checked_more s (q ∷ qs) p cs c h done =
     more_case c (checked s q.0 q.1) (all_checked s qs) (all_checked s (qs ++ p ∷ [])) cs (λ bs is. checked_more s qs p bs c is done) h
 
--- ---- those in front of a place
+-- ---- those before a place
 
--- those that are looked at in front of a place
+-- those that are looked at before a place
 abbrev pub front_of : List Package → ℕ → List (ℕ × Package)
 front_of all i = filter (is_looked all) (enumerate_from 0 (take i all))
 

@@ -81,7 +81,7 @@ end_case false a false acc seg n e f no_acc no_seg h = let same : acc + seg ≡ 
 end_is : (pos : Position) (acc seg : ℕ) (nondigit lead : Bool) (n : ℕ) → part_end pos acc seg nondigit lead ≡ Ok n → n ≡ acc + seg
 end_is pos acc seg nondigit lead n h = end_case (seg == 0) (acc == 0) (is_bad_zero pos seg nondigit lead) acc seg n _ _ refl refl h
 
--- what was scanned lacks it where the rest does
+-- what was scanned lacks it if the rest does
 abbrev IsScanned : ℕ → List ℕ → ℕ → Type 0
 IsScanned from xs n = (k : ℕ) × (n ≡ from + k) × (Lacks 47 (drop k xs) → Lacks 47 xs)
 
@@ -123,7 +123,7 @@ identifier_lacks pos xs x h lacks =
     let same : n.0 ≡ by.0 = omega (arith, by.1) in
     by.2 (subst (λ m. Lacks 47 (drop m xs)) same (subst (Lacks 47) (sym (some_case (n.0 == 0) n.0 xs _ x n.2)) lacks))
 
--- ---- the parts behind the numbers
+-- ---- the parts after the numbers
 
 end_lacks : (pos : Position) (major minor patch : ℕ) (pre build xs : List ℕ) (p : Parts) → tail_end pos major minor patch pre build xs ≡ Ok p → Lacks 47 xs
 end_lacks pos major minor patch pre build [] p h = tt

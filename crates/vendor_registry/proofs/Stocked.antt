@@ -1,4 +1,4 @@
--- A registry that is filled with what was checked goes on agreeing with its index.
+-- A registry that is filled with what was checked still agrees with its index.
 use Rattle.std.proofs.Common.{◌≡◌, ℕ, ◌+◌, ◌<◌, List, [], ◌∷◌, ◌++◌, length, map, codes, IsUtf8, IsTrue, is_ok, true, Some, None, Ok, sym, ap, ◌∙◌, arith, subst}
 use Rattle.std.specs.Prelude.{unwrap_or}
 use Rattle.std.proofs.lemmas.List.{length-append}

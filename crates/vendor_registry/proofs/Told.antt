@@ -1,4 +1,4 @@
--- A call of a local registry that failed is one for the path that is told.
+-- A call of a local registry that failed is one for the reported path.
 use Rattle.std.proofs.Common.{◌≡◌, [], ◌∷◌, ◌++◌, ℕ, List, Result, Err, subst}
 use Rattle.tame_names.specs.declared.errors.Error.{Error}
 use Rattle.tame_names.specs.declared.errors.Error.TheVariants as error
@@ -6,7 +6,7 @@ use Rattle.tame_names.specs.declared.errors.IoKind.TheVariants as io_kind
 use Rattle.tame_names.specs.declared.host.FailedCall.{FailedCall}
 use Rattle.tame_local.specs.Calls.{AddsBy, IsCallFor}
 
--- what is so of each call that may fail is so of the one that did
+-- what holds for each call that may fail holds for the one that did
 pub told_so : (may : List ℕ → FailedCall → Type 0) (before now : List FailedCall) (e : Error) (path : List ℕ) (P : Type 0)
     → e ≡ error.IoPath io_kind.Failed path → ((call : FailedCall) → may path call → P) → AddsBy may before now e → P
 told_so may before now e path P is so h =

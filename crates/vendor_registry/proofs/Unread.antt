@@ -9,7 +9,7 @@ use Rattle.vendor_registry.specs.Failed.{AddsFailedRead, FailsReadingAt, FailsRe
 use Rattle.vendor_registry.specs.declared.faults.VendorFault.{VendorFault}
 use Rattle.vendor_registry.specs.declared.faults.VendorFault.TheVariants as fault
 
--- an answer that tells of none
+-- a result that reports none
 err_adds : (T : Type 0) (Failed : ℕ → FailedDiskCalls → FailedDiskCalls → Type 0) (before now : FailedDiskCalls) (e : VendorFault) → IsUnread {T = T} (Err e) → now ≡ before
     → AddsFailedRead {T = T} Failed before now (Err e)
 err_adds T Failed before now (fault.Store at) h same = absurd (h before)
@@ -31,7 +31,7 @@ pub unread_adds : {T : Type 0} (Failed : ℕ → FailedDiskCalls → FailedDiskC
 unread_adds Failed before now (Ok a) h same = same
 unread_adds Failed before now (Err e) h same = err_adds (Unit {0}) Failed before now e h same
 
--- a builder tells of none
+-- a builder reports none
 pub build_adds : (T : Type 0) (Failed : ℕ → FailedDiskCalls → FailedDiskCalls → Type 0) (before now : FailedDiskCalls) (e : VendorFault) → IsBuildFault e → now ≡ before
     → AddsFailedRead {T = T} Failed before now (Err e)
 build_adds T Failed before now (fault.Store at) build same = absurd build
@@ -65,7 +65,7 @@ read_of S T root p q before now (fault.File at) there h = h
 read_of S T root p q before now (fault.ReadBack why) there h = h
 read_of S T root p q before now fault.NoMemory there h = h
 
--- that of the package at a place, behind packages that were checked
+-- that of the package at a place, after packages that were checked
 pub read_at : (S T : Type 0) (root : List ℕ) (all : List Package) (place : ℕ) (p : Package) (before mid now : FailedDiskCalls) (e : VendorFault) → slice_get all place ≡ Some p
     → ((at : ℕ) → e ≡ fault.Store at → at ≡ place) → mid ≡ before → AddsFailedRead {T = S} (FailsReadingOf root p) mid now (Err e)
     → AddsFailedRead {T = T} (FailsReadingAt root all) before now (Err e)

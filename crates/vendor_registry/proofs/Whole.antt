@@ -121,7 +121,7 @@ never_read_back stock packages to cs before now why checks texts plain place ver
     ok_no_err (index_of to) (refused_by why)
     (sym (registry_agrees to whole place sound) ∙ ap (λ h. registry_at h to true) (sym (back.made named)) ∙ back.refused)
 
--- the same of a folder that is named with a slash at its end
+-- the same for a folder that is named with a slash at its end
 place_case : (stock : Stock) (packages : List Package) (w to : List ℕ) (cs : List CheckedCrate) (before now : Host) (why : Error)
     → all_checked stock (looked packages) ≡ Ok cs → AreTexts cs → StandsPlain before.stands → IsPlace w → AreVersioned packages
     → (to ≡ w) ⊎ (to ≡ w ++ 47 ∷ []) → IsReadBack to cs before now why → ⊥

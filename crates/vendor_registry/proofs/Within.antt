@@ -1,4 +1,4 @@
--- Each call of a registry's builder that may fail is told with a path of the registry.
+-- Each call of a registry's builder that may fail is reported with a path of the registry.
 use Rattle.std.proofs.Common.{◌≡◌, inl, inr, codes, ◌∷◌, [], ℕ, Bool, List, Option, Some, None, unwrap_or, sym, subst}
 use Rattle.tame_names.specs.Names.{relative_path, separator}
 use Rattle.tame_names.specs.Paths.{join}

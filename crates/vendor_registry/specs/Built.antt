@@ -1,4 +1,4 @@
--- What a builder of a registry makes of what was checked, and why it is refused (this project,
+-- What a builder of a registry does with what was checked, and why it is refused (this project,
 -- after cargo's local registries).
 use Rattle.std.specs.Prelude.{◌≡◌, ◌⊎◌, ℕ, List, [], ◌∷◌, length, map, flat_map, unwrap_or, Bool, true, false, Option, Some, None, Ok, Err, IsOk}
 use Rattle.tame_names.specs.Changes.{AreFolders, is_nothing}
@@ -42,7 +42,7 @@ paths_made folder cs qs = flat_map (λ q. path_made folder q (on q cs)) qs
 abbrev pub all_made : List ℕ → List CheckedCrate → List HostChange
 all_made folder cs = created folder ∷ paths_made folder cs (paths_of cs)
 
--- ---- what is there when a change is made
+-- ---- what is there at the time of a change
 
 -- nothing is at the index file of a path, and what is put there are records that their lines read
 -- back to
@@ -52,14 +52,14 @@ IsFilled folder q (c ∷ cs) host =
     (host.stands (join (index_of folder) q) ≡ Nothing)
     × AreWritten (map (λ c. c.version) (c ∷ cs))
 
--- the same of each of these paths, behind those in front
+-- the same for each of these paths, after those before it
 abbrev pub AreFilled : List ℕ → List CheckedCrate → List (List ℕ) → Host → Type 0
 AreFilled folder cs [] host = Unit {0}
 AreFilled folder cs (q ∷ qs) host =
     IsFilled folder q (on q cs) host
     × AreFilled folder cs qs (after (path_made folder q (on q cs)) host)
 
--- something is at the index file of a path where something is to be put
+-- something is at the index file of a path that something is to be put on
 abbrev pub IsTakenAt : List ℕ → List ℕ → List CheckedCrate → Host → Type 0
 IsTakenAt folder q [] host = ⊥
 IsTakenAt folder q (c ∷ cs) host = is_nothing (host.stands (join (index_of folder) q)) ≡ false
@@ -73,8 +73,8 @@ IsTaken folder cs (q ∷ qs) host now =
     ⊎ (IsFilled folder q (on q cs) host
     × IsTaken folder cs qs (after (path_made folder q (on q cs)) host) now)
 
--- all packages were checked, and once the folder of the index is made something is at the index
--- file of one of their paths when its turn comes; what was put on the paths in front of it stays
+-- all packages were checked, and once the folder of the index is created something is at the index
+-- file of one of their paths when its turn comes; what was put on the paths before it stays
 abbrev pub IsTakenFor : Stock → List Package → List ℕ → Host → Host → Type 0
 IsTakenFor stock packages folder before now =
     (cs : List CheckedCrate) × (all_checked stock (looked packages) ≡ Ok cs)
@@ -97,14 +97,14 @@ IsBuilt stock packages folder before now =
 
 -- ---- refusals
 
--- what is at the folder of a registry before it is made: nothing, an empty folder, or a refusal
+-- what is at the folder of a registry before it is created: nothing, an empty folder, or a refusal
 abbrev pub free_fault : Standing → Option VendorFault
 free_fault Nothing = None
 free_fault (Folder []) = None
 free_fault (Folder (entry ∷ entries)) = Some (fault.NotEmpty (length (entry ∷ entries)))
 free_fault standing = Some fault.NotADirectory
 
--- the refusals of a builder that begins: what is there already, a call that failed, and want of
+-- the refusals of a builder that begins: what is there already, a call that failed, and out of
 -- memory
 abbrev pub IsBeginFault : VendorFault → Type 0
 IsBeginFault (fault.NotEmpty count) = Unit {0}
@@ -113,7 +113,7 @@ IsBeginFault (fault.File path) = Unit {0}
 IsBeginFault fault.NoMemory = Unit {0}
 IsBeginFault e = ⊥
 
--- the same of a builder that goes on
+-- the same for a builder that goes on
 abbrev pub IsInsertFault : VendorFault → Type 0
 IsInsertFault (fault.NotEmpty count) = Unit {0}
 IsInsertFault (fault.File path) = Unit {0}
@@ -135,7 +135,7 @@ IsStoppedBy stock packages folder e =
     IsStopped stock (looked packages) e
     ⊎ (IsBuildFault e × IsToldIn folder e × IsOk (all_checked stock (looked packages)))
 
--- a refusal by what stands at the folder beforehand; or one entry, at an index file that has come
+-- a refusal by what is at the folder beforehand; or one entry, at an index file that has come
 -- meanwhile
 abbrev pub IsOccupied : Standing → VendorFault → Type 0
 IsOccupied standing (fault.NotEmpty count) =
@@ -154,13 +154,13 @@ pub record IsReadBack (folder : List ℕ) (cs : List CheckedCrate) (before now :
   pub made : ArePathed cs → now ≡ after (all_made folder cs) before
   pub refused : registry_at now folder true ≡ Err (refused_by why)
 
--- what was built of what the packages were checked for doesn't agree with its index
+-- what was built from the checked packages doesn't agree with its index
 abbrev pub IsReadBackFor : Type 0 → Stock → List Package → List ℕ → Host → Host → Error → Type 0
 IsReadBackFor disk_tells stock packages folder before now why =
     (cs : List CheckedCrate) × (disk_tells → all_checked stock (looked packages) ≡ Ok cs)
     × IsReadBack folder cs before now why
 
--- a refusal behind the checks, by what is there and not by a call
+-- a refusal after the checks, by what is there and not by a call
 abbrev pub is_behind : VendorFault → Bool
 is_behind (fault.NotEmpty count) = true
 is_behind fault.NotADirectory = true

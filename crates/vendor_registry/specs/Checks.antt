@@ -54,7 +54,7 @@ or_fault e (Some a) = Ok a
 
 -- ---- the records of a crate
 
--- the records of the lines of a readable entry; a refused file is as good as none
+-- the records of the lines of a readable entry; a refused file counts as none
 abbrev pub entry_records : ℕ → Result ReadEntry CacheError
     → Result (List IndexVersion) VendorFault
 entry_records place (Ok e) = or_fault (fault.Record place) (records_of (lines_in e.versions))
@@ -99,7 +99,7 @@ unless_large place bytes =
     if nat_lt crate_limit (length bytes) then Err (fault.TooLarge place (length bytes))
     else Ok bytes
 
--- the bytes of a crate file by what stands at its path; what is no file can't be read
+-- the bytes of a crate file by what is at its path; what is no file can't be read
 abbrev pub crate_bytes : ℕ → List ℕ → Standing → Result (List ℕ) VendorFault
 crate_bytes place path Nothing = Err (fault.NoCrate place)
 crate_bytes place path (File bytes) = unless_large place bytes
@@ -125,13 +125,13 @@ crate_checked s place q v =
 
 -- ---- a package
 
--- what is put into a registry of the package at a place, whose crate has this path in an index
+-- what the package at a place, whose crate has this path in an index, puts into a registry
 abbrev pub checked_at : Stock → ℕ → Package → List ℕ → Result CheckedCrate VendorFault
 checked_at s place p q =
     and_then (crate_checked s place q) (and_then (decided place p)
     (file_records place s.url (s.files (cache_file s.root q))))
 
--- the same of any package, or the first reason why not; a name without a path has none
+-- the same for any package, or the first reason why not; a name without a path has none
 abbrev pub checked : Stock → ℕ → Package → Result CheckedCrate VendorFault
 checked s place p = and_then (checked_at s place p) (or_fault (fault.Name place) (path p.name))
 
@@ -143,7 +143,7 @@ all_checked s (p ∷ ps) =
 
 -- ---- where the checks end
 
--- a package stands at a place among these, and all in front of it were checked
+-- a package is at a place among these, and all before it were checked
 pub record IsReached (s : Stock) (ps : List (ℕ × Package)) (place : ℕ) (p : Package)
     : Type 0 where
   pub front : List (ℕ × Package)
@@ -152,7 +152,7 @@ pub record IsReached (s : Stock) (ps : List (ℕ × Package)) (place : ℕ) (p :
   pub before : List CheckedCrate
   pub are_checked : all_checked s front ≡ Ok before
 
--- where a call failed: at the package whose entry couldn't be read, or at one whose crate file, the
+-- if a call failed: at the package whose entry couldn't be read, or at one whose crate file, the
 -- one at this path, couldn't
 abbrev pub IsStopped : Stock → List (ℕ × Package) → VendorFault → Type 0
 IsStopped s ps (fault.Store place) = (p : Package) × IsReached s ps place p
@@ -163,7 +163,7 @@ IsStopped s ps e = Unit {0}
 
 -- ---- refusals
 
--- what a refusal says of a package; a call that failed and want of memory say nothing
+-- what a refusal says about a package; a call that failed and out of memory say nothing
 abbrev pub is_of_package : VendorFault → Bool
 is_of_package (fault.Name place) = true
 is_of_package (fault.Absent place) = true
@@ -179,7 +179,7 @@ abbrev pub is_of_checks : VendorFault → Bool
 is_of_checks (fault.Store place) = true
 is_of_checks e = is_of_package e
 
--- the refusals of the checks: those of packages, calls that failed, and want of memory
+-- the refusals of the checks: those of packages, calls that failed, and out of memory
 abbrev pub IsCheckFault : VendorFault → Type 0
 IsCheckFault (fault.NotEmpty count) = ⊥
 IsCheckFault fault.NotADirectory = ⊥

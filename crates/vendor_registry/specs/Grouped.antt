@@ -1,4 +1,4 @@
--- What was checked by the paths of the index (this project).
+-- What was checked, by the paths of the index (this project).
 use Rattle.std.specs.Prelude.{◌≡◌, ℕ, List, [], unwrap_or, String}
 use Rattle.std.specs.BTreeMap.{BTreeMap, get_by_text}
 use Rattle.std.specs.declared.alloc.Global.{Global}
@@ -10,7 +10,7 @@ use Rattle.vendor_registry.specs.declared.checks.CheckedCrate.{CheckedCrate}
 abbrev pub Groups : Type 0
 Groups = BTreeMap (String Global) (List CheckedCrate)
 
--- what it has for a path; nothing where the path isn't in it
+-- what it has for a path; nothing if the path isn't in it
 abbrev pub group_at : Groups → List ℕ → List CheckedCrate
 group_at groups q = unwrap_or (get_by_text groups q) []
 

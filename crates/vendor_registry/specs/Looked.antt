@@ -1,4 +1,4 @@
--- Which packages of a lockfile a registry is made of (this project).
+-- Which packages of a lockfile go into a registry (this project).
 use Rattle.std.specs.Prelude.{◌≡◌, ◌≤◌, ℕ, ◌+◌, List, [], ◌∷◌, Bool, true, false, ◌==◌, ◌&&◌, bytes_eq, filter, Option, Some, None}
 use Rattle.std.specs.List.{AllByRecursion, enumerate_from, list_any, position_from, slice_get}
 use Rattle.std.specs.declared.cmp.Ordering.{Ordering}
@@ -21,7 +21,7 @@ abbrev pub is_place : ℕ → Option ℕ → Bool
 is_place place None = false
 is_place place (Some first) = first == place
 
--- a package of the default registry that stands at the first place of its name and version
+-- a package of the default registry that is at the first place of its name and version
 abbrev pub is_looked : List Package → ℕ × Package → Bool
 is_looked packages p = is_default p.1 && is_place p.0 (first_place packages p.1)
 
@@ -44,13 +44,13 @@ pair_cmp a b =
 abbrev pub is_pair : Package → Pair → Bool
 is_pair p pair = bytes_eq pair.name p.name && bytes_eq pair.version p.version
 
--- these are the pairs of the packages of the default registry among those in front
+-- these are the pairs of the packages of the default registry among those before
 abbrev pub HasPairs : List Pair → List Package → Type 0
 HasPairs pairs front = (p : Package) → list_any (is_pair p) pairs ≡ list_any (stands_for p) front
 
 -- ---- which packages these are
 
--- packages that stand in a lockfile at their places, in its order, from a place on
+-- packages that are in a lockfile at their places, in its order, from a place on
 abbrev pub AreInOrder : List Package → ℕ → List (ℕ × Package) → Type 0
 AreInOrder packages from [] = Unit {0}
 AreInOrder packages from (p ∷ ps) =

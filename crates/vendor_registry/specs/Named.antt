@@ -28,12 +28,12 @@ AreVersioned (p ∷ ps) =
 abbrev pub IsPlace : List ℕ → Type 0
 IsPlace folder = (0 < length folder) × (ends_with_slash folder ≡ false)
 
--- the same, with one slash behind it or none
+-- the same, with one slash after it or none
 abbrev pub IsFolderPath : List ℕ → Type 0
 IsFolderPath path =
     (folder : List ℕ) × IsPlace folder × ((path ≡ folder) ⊎ (path ≡ folder ++ 47 ∷ []))
 
--- a path below a folder: the folder's path stands in front of it, with a slash
+-- a path below a folder: the folder's path comes first, with a slash
 abbrev pub IsBelow : List ℕ → List ℕ → Type 0
 IsBelow folder path = (rest : List ℕ) × (path ≡ folder ++ 47 ∷ rest)
 

@@ -66,13 +66,13 @@ pub data IsAmong (path bytes : List ℕ) : Files → Type 0 where
   later : (file : List ℕ × List ℕ) (files : Files) → IsAmong path bytes files
       → IsAmong path bytes (file ∷ files)
 
--- each of these files stands in a folder, with its bytes
+-- each of these files is in a folder, with its bytes
 abbrev pub HoldsEach : Host → List ℕ → Files → Type 0
 HoldsEach host folder files =
     (path bytes : List ℕ) → IsAmong path bytes files
     → host.stands (join folder path) ≡ File bytes
 
--- no other file stands in it, however deep
+-- no other file is in it, however deep
 abbrev pub HoldsNoOther : Host → List ℕ → Files → Type 0
 HoldsNoOther host folder files =
     (path bytes : List ℕ) → IsInner path
@@ -85,8 +85,8 @@ IsBare host folder =
 
 -- ---- a vendored folder
 
--- a folder is vendored for the packages of a lockfile, and this was answered: it holds the files of
--- what was checked of them, and no others where nothing was in it beforehand; it agrees with its
+-- a folder is vendored for the packages of a lockfile, with this result: it holds the files of
+-- what was checked of them, and no others if nothing was in it beforehand; it agrees with its
 -- index, and these are its index, the number of its crate files and that of its bytes
 pub record IsVendored (stock : Stock) (packages : List Package) (folder : List ℕ)
     (host : Host) (made : Vendored) : Type 0 where

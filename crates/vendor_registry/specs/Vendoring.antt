@@ -1,4 +1,4 @@
--- What a call answers that makes a registry of an audit's packages (this project).
+-- What a call returns that creates a registry of an audit's packages (this project).
 use Rattle.std.specs.Prelude.{◌≡◌, ◌≢◌, ◌-◌, ◌^◌, min, ℕ, List, length, Some, None, true, Result, Ok, Err, IsOk, IsTrue}
 use Rattle.tame_names.specs.Counts.{CountRose}
 use Rattle.tame_names.specs.Standing.{Host}
@@ -18,9 +18,9 @@ use Rattle.vendor_registry.specs.declared.faults.VendorFault.{VendorFault}
 use Rattle.vendor_registry.specs.declared.faults.VendorFault.TheVariants as fault
 use Rattle.vendor_registry.specs.declared.vendoring.Vendored.{Vendored}
 
--- of what a registry is made and where: what host and disk tell; the cache, the folder of the crate
--- files and the host as it was; the packages, and the folder of the registry; the host as it is
--- left, and how often the disk had failed, and has
+-- what a registry is built from and where: what host and disk tell; the cache, the folder of the
+-- crate files and the host as it was; the packages, and the folder of the registry; the host as it
+-- is left, and how often the disk had failed, and has
 pub record Vendoring : Type 1 where
   pub files_tell : Type 0
   pub disk_tells : Type 0
@@ -63,23 +63,23 @@ pub record IsRegistryMade (v : Vendoring) (made : Vendored) : Type 0 where
       → (made.packages ≡ length cs)
       × (made.bytes ≡ min (size_of (vendored_files cs)) (2 ^ 64 - 1))
 
--- none was made
+-- none was created
 pub record IsRegistryRefused (v : Vendoring) (reason : VendorFault) : Type 0 where
   -- a package is refused exactly by the first condition of the table that holds, and then nothing
   -- was written
   pub refused : v.files_tell → v.disk_tells → IsTrue (is_of_package reason)
       → all_checked v.stock (looked v.packages) ≡ Err reason
   pub unwritten : v.files_tell → IsTrue (is_of_checks reason) → v.now ≡ v.stock.host
-  -- all packages are checked before anything is written: where a call failed at a path that is none
-  -- of the registry, as that of a crate file, nothing was
+  -- all packages are checked before anything is written: if a call failed at a path outside of the
+  -- registry, such as that of a crate file, nothing was
   pub unread : v.files_tell → (at : List ℕ) → reason ≡ fault.File at
       → (IsWithin v.folder at → ⊥) → v.now ≡ v.stock.host
-  -- an entry couldn't be read only where the disk failed; a call failed at the first package that
+  -- an entry couldn't be read only if the disk failed; a call failed at the first package that
   -- wasn't checked, or at a path of the registry once all were
   pub store : (at : ℕ) → reason ≡ fault.Store at → CountRose v.disk_faults v.disk_faults_now
   pub stopped : v.files_tell → v.disk_tells → IsStoppedBy v.stock v.packages v.folder reason
-  -- the folder is refused by what stands there, once all packages were checked, and then nothing
-  -- was written; or by an index file that has come meanwhile, which no empty folder has
+  -- the folder is refused by what is there, once all packages were checked, and then nothing was
+  -- written; or by an index file that has come meanwhile, which no empty folder has
   pub behind : v.files_tell → v.disk_tells → IsTrue (is_behind reason)
       → IsOk (all_checked v.stock (looked v.packages))
   pub occupied : v.files_tell → IsOccupied (v.stock.host.stands v.folder) reason
@@ -94,7 +94,7 @@ pub record IsRegistryRefused (v : Vendoring) (reason : VendorFault) : Type 0 whe
   -- nothing was written, or changes that make the registry were begun in their order
   pub begun : v.files_tell → v.disk_tells
       → IsUnfinished v.stock v.packages v.folder v.stock.host v.now
-  -- all was built, and doesn't agree with its index, for this reason; that never comes where each
+  -- all was built, and doesn't agree with its index, for this reason; that never comes if each
   -- version is one of SemVer
   pub read_back : v.files_tell → (why : Error) → reason ≡ fault.ReadBack why
       → IsReadBackFor v.disk_tells v.stock v.packages v.folder v.stock.host v.now why
@@ -102,7 +102,7 @@ pub record IsRegistryRefused (v : Vendoring) (reason : VendorFault) : Type 0 whe
       → IsFolderPath v.folder → AreVersioned v.packages
       → (why : Error) → reason ≢ fault.ReadBack why
 
--- what was answered: a registry that was made, or why there is none
+-- the result: a registry, or why there is none
 abbrev pub IsVendorAnswer : Vendoring → Result Vendored VendorFault → Type 0
 IsVendorAnswer v (Ok made) = IsRegistryMade v made
 IsVendorAnswer v (Err reason) = IsRegistryRefused v reason

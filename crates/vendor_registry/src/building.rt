@@ -1,4 +1,4 @@
-//! A registry that is built of what was checked.
+//! A registry that is built from what was checked.
 ghost use Rattle.std.specs.Prelude.{◌≡◌, ◌≤◌, ◌-◌, ◌^◌, min, ℕ, List, [], ◌∷◌, ◌++◌, map, Ok, Err, Some, None, IfOk, IfErr, IsTrue, OnErr, OnOk, true, false};
 ghost use Rattle.tame_names.specs.Changes.{AreFolders};
 ghost use Rattle.tame_names.specs.Counts.{CountRose};
@@ -82,7 +82,7 @@ fn valid_krate<'c>(alloc: Global, one: &'c CheckedCrate) -> Result<ValidKrate<'c
     }
 }
 
-/// The crate files that are put beside a path.
+/// The crate files that are put next to a path.
 fn krates_on<'c>(
     alloc: Global,
     path: &str,
@@ -102,8 +102,8 @@ fn krates_on<'c>(
 
 // ---- the builder
 
-/// Puts what was checked on a path into a registry: its index file and its crate files. Answers
-/// the number of bytes written, at most 2^64 - 1; 0 where there is nothing on the path.
+/// Puts what was checked on a path into a registry: its index file and its crate files. Returns
+/// the number of bytes written, at most 2^64 - 1; 0 if there is nothing on the path.
 fn insert_path<F: Files>(
     alloc: Global,
     builder: &LocalRegistryBuilder,
@@ -147,7 +147,7 @@ fn insert_path<F: Files>(
     }
 }
 
-/// Puts the group of a path into a registry. Answers the number of bytes written, at most 2^64 - 1.
+/// Puts the group of a path into a registry. Returns the number of bytes written, at most 2^64 - 1.
 fn insert_group<F: Files>(
     alloc: Global,
     builder: &LocalRegistryBuilder,
@@ -183,7 +183,7 @@ fn insert_group<F: Files>(
     insert_path(alloc, builder, path, group_on(groups, path), files)
 }
 
-/// Puts what was checked on these paths into a registry, one after the other. Answers the number of
+/// Puts what was checked on these paths into a registry, one after the other. Returns the number of
 /// bytes written, at most 2^64 - 1.
 fn insert_paths<F: Files>(
     alloc: Global,
@@ -226,7 +226,7 @@ fn insert_paths<F: Files>(
 
 // ---- the whole
 
-/// A builder of a registry in a folder, which has to be empty or absent.
+/// A builder of a registry in a folder, which must be empty or absent.
 fn begin<F: Files>(
     alloc: Global,
     to: Text,
@@ -273,9 +273,9 @@ pub struct Built {
     pub bytes: u64,
 }
 
-/// Builds a registry in a folder, which has to be empty or absent, of what was checked, and
-/// validates it. `NotEmpty` and `NotADirectory` of the folder, before anything is written;
-/// `ReadBack` where it doesn't agree with its index.
+/// Builds a registry of what was checked in a folder, which must be empty or absent, and
+/// validates it. `NotEmpty` and `NotADirectory` for the folder, before anything is written;
+/// `ReadBack` if it doesn't agree with its index.
 pub fn build<F: Files>(
     alloc: Global,
     to: Text,

@@ -28,7 +28,7 @@ use tame_sparse::SparseIndex;
 /// The most bytes of a crate file, 64 MiB.
 const CRATE_LIMIT: u64 = 67108864;
 
-/// What is put into a registry of a package.
+/// What a package puts into a registry.
 #[derive(Drop)]
 pub struct CheckedCrate {
     /// The place of the package in the lockfile, from 0.
@@ -86,7 +86,7 @@ fn entry_records(
     }
 }
 
-/// The records that the cache has of a crate. `Store` where its file can't be read.
+/// The records that the cache has for a crate. `Store` if its file can't be read.
 fn kept_records<D: CacheDisk>(
     alloc: Global,
     index: &SparseIndex,
@@ -203,7 +203,7 @@ fn crate_bytes<F: Files>(
     }
 }
 
-/// The bytes of a crate file, where they have the digest of their record.
+/// The bytes of a crate file, if they have the digest of their record.
 fn valid_bytes(
     place: usize,
     path: Text,
@@ -276,10 +276,10 @@ fn check_crate<F: Files>(
 /// Checks a package of the default registry: its record in the cache of an index, and its crate
 /// file in a folder. Nothing is written.
 ///
-/// `Name` where its name is none of a crate; `Store` where its entry can't be read; `Absent` where
-/// there is none, or a refused one; `Record` where a line has no record; `NoVersion` where no
-/// record has its version's text; `Name` where the last that has it has another name; `NoCrate`,
-/// `File` and `TooLarge` of the crate file; `Digest` where that hasn't the digest of the record.
+/// `Name` if its name isn't valid for a crate; `Store` if its entry can't be read; `Absent` if
+/// there is none, or a refused one; `Record` if a line has no record; `NoVersion` if no record
+/// has its version's text; `Name` if the last record that has it has another name; `NoCrate`,
+/// `File` and `TooLarge` for the crate file; `Digest` if that hasn't the digest of the record.
 pub fn check_package<F: Files, D: CacheDisk>(
     alloc: Global,
     index: &SparseIndex,

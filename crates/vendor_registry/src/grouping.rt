@@ -1,4 +1,4 @@
-//! What was checked by the paths of the index.
+//! What was checked, by the paths of the index.
 ghost use Rattle.std.specs.Prelude.{◌≡◌, ◌++◌, ◌∷◌, [], not, ℕ, List, bytes_eq, string_bytes, if◌then◌else◌, IfOk, OnOk};
 ghost use Rattle.audit_core.specs.Paths.{is_among};
 ghost use Rattle.audit_core.specs.Plans.{with_path};
@@ -15,7 +15,7 @@ pub type Groups = BTreeMap<String, Items<CheckedCrate>>;
 
 // ---- paths
 
-/// Whether a path isn't among the paths so far, whose set this is; it is from now on.
+/// Whether a path isn't among the paths so far, which are in this set; it is from now on.
 fn is_new(alloc: Global, seen: &mut BTreeSet<Text>, path: &Text) -> Result<bool, NoMemory>
     ensures new { (paths : List (List ℕ)) → HasPaths seen.old.keys paths
         → IfOk result (λ new. new ≡ not (is_among path.now paths)) }
@@ -65,7 +65,7 @@ fn keep_group(groups: &mut Groups, path: String, group: Items<CheckedCrate>) -> 
     Ok(())
 }
 
-/// Puts what was checked behind what is kept for its path.
+/// Puts what was checked after what is kept for its path.
 fn put(alloc: Global, groups: &mut Groups, one: CheckedCrate) -> Result<(), NoMemory>
     ensures { (q : List ℕ) → OnOk result (group_at groups.new q
         ≡ group_at groups.old q ++ on q (one ∷ [])) }

@@ -1,9 +1,9 @@
 //! A local registry of the packages that were audited.
 //!
 //! Promises: each package is checked whole before the next, and all before anything is written; a
-//! refusal is the first of a table; the folder that is made holds exactly the deciding records of
-//! the audited versions and their crate files, and agrees with its index.
-//! Stands on the builder of `tame_local`, the cache of `tame_sparse` and the audits of
+//! refusal is the first of a table; the created folder holds exactly the deciding records of the
+//! audited versions and their crate files, and agrees with its index.
+//! Depends on the builder of `tame_local`, the cache of `tame_sparse` and the audits of
 //! `audit_core`.
 //!
 //! ```ignore

@@ -1,4 +1,4 @@
-//! The packages of a lockfile that a registry is made of, each checked whole before the next.
+//! The packages of a lockfile that go into a registry, each checked whole before the next.
 ghost use Rattle.std.specs.Prelude.{◌≡◌, ◌≤◌, ◌++◌, ◌∷◌, [], ◌&&◌, not, ℕ, List, Ok, Err, IfOk, IfErr, OnOk, IsTrue};
 ghost use Rattle.std.specs.List.{list_any};
 ghost use Rattle.tame_names.specs.Counts.{CountRose};
@@ -37,7 +37,7 @@ fn pair_of(alloc: Global, locked: &Package) -> Result<Pair, NoMemory>
     Ok(Pair { name, version })
 }
 
-/// Whether a package is of the default registry and the first with its name and version, behind
+/// Whether a package is of the default registry and the first with its name and version, after
 /// packages whose pairs are these; its pair is one of them from now on.
 fn is_first(alloc: Global, pairs: &mut BTreeSet<Pair>, locked: &Package) -> Result<bool, NoMemory>
     ensures first { (front : List Package) → HasPairs pairs.old.keys front
@@ -55,7 +55,7 @@ fn is_first(alloc: Global, pairs: &mut BTreeSet<Pair>, locked: &Package) -> Resu
 }
 
 /// Checks the packages of the default registry in their order, each pair of name and version once
-/// and whole before the next. Nothing is written. The refusals are those of `check_package`, of the
+/// and whole before the next. Nothing is written. The refusals are those of `check_package` for the
 /// first package that has one.
 pub fn check_packages<F: Files, D: CacheDisk>(
     alloc: Global,

@@ -15,7 +15,7 @@ use tame_local::LocalRegistry;
 use tame_names::{FileLock, Files, Text};
 use tame_sparse::SparseIndex;
 
-/// A registry that was made of an audit's packages.
+/// A registry of an audit's packages.
 #[derive(Drop)]
 pub struct Vendored {
     /// The registry.
@@ -26,15 +26,15 @@ pub struct Vendored {
     pub bytes: u64,
 }
 
-/// Makes a local registry of the packages of an audit that are of the default registry, in a folder
-/// that has to be empty or absent: of their deciding records in the cache of an index, and of their
-/// crate files in the folder `crates`.
+/// Creates a local registry of the packages of an audit that are of the default registry, in a
+/// folder that must be empty or absent: from their deciding records in the cache of an index, and
+/// their crate files in the folder `crates`.
 ///
-/// All packages are checked before anything is written; the refusals are those of `check_package`,
-/// of the first package that has one. Then the registry is built and validated: `NotEmpty` where
-/// the folder has entries, `NotADirectory` where it is none, `ReadBack` where what was built
-/// doesn't agree with its index. `File` and `Store` are calls that failed, and were counted. After
-/// a refusal behind the checks the files written so far stay.
+/// All packages are checked before anything is written; the refusals are those of `check_package`
+/// for the first package that has one. Then the registry is built and validated: `NotEmpty` if the
+/// folder has entries, `NotADirectory` if it isn't one, `ReadBack` if what was built doesn't agree
+/// with its index. `File` and `Store` are calls that failed, and were counted. After a refusal that
+/// comes after the checks the files written so far stay.
 pub fn vendor<F: Files, D: CacheDisk>(
     alloc: Global,
     audited: &Audited,

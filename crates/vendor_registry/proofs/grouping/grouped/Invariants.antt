@@ -4,6 +4,6 @@ use Rattle.vendor_registry.specs.Grouped.{group_at}
 use Rattle.vendor_registry.specs.Vendored.{on}
 use Rattle.vendor_registry.proofs.grouping.grouped.Given as goal
 
--- what was put, in front of what is left
+-- what was put, before what is left
 abbrev pub invariant-loop-one : goal.invariant-loop-one
 invariant-loop-one l = (q : List ℕ) → on q l.fn.checked ≡ group_at l.groups q ++ on q (into_iter_items l.one-iterator)

@@ -17,7 +17,7 @@ use Rattle.vendor_registry.proofs.looking.check_packages.Goals.{then-first+in-Ok
 next_left : (ps : List Package) (i : ℕ) (p : Package) → drop i ps ≡ p ∷ drop (suc i) ps → drop i ps ≡ p ∷ drop (i + 1) ps
 next_left ps i p h = let next : suc i ≡ i + 1 = omega arith in h ∙ ap (λ n. p ∷ drop n ps) next
 
--- the pairs behind the next package
+-- the pairs after the next package
 pairs_next : (all : List Package) (i : ℕ) (p : Package) (keys : List Pair) → i < length all → p ≡ get_or all i p → HasPairs keys (take i all ++ p ∷ []) → HasPairs keys (take (i + 1) all)
 pairs_next all i p keys low at h = subst (HasPairs keys) (ap (λ (q : Package). take i all ++ q ∷ []) at ∙ sym (take_more all i p low)) h
 

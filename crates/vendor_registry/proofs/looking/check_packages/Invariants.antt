@@ -6,7 +6,7 @@ use Rattle.vendor_registry.specs.Looked.{HasPairs}
 use Rattle.vendor_registry.specs.Named.{AreTexts}
 use Rattle.vendor_registry.proofs.looking.check_packages.Given as goal
 
--- what was checked, in front of what is left; the pairs so far; and disk and files as they were
+-- what was checked, before what is left; the pairs so far; and disk and files as they were
 abbrev pub invariant-loop-place : goal.invariant-loop-place
 invariant-loop-place g l = record {
   checked : g.F.Files.tells → g.D.CacheDisk.tells
