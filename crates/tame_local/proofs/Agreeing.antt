@@ -1,4 +1,4 @@
--- A registry that is changed by a builder goes on agreeing with its index.
+-- A registry that is changed by a builder still agrees with its index.
 use Rattle.std.proofs.Common.{◌≡◌, ◌⊎◌, ℕ, ◌+◌, ◌<◌, List, [], ◌∷◌, ◌++◌, length, codes, IsUtf8, IsTrue, is_ok, Bool, true, false, cond, Some, None, refl, sym, ap, ◌∙◌, arith, inl, inr, lit<}
 use Rattle.std.proofs.lemmas.List.{length-append}
 use Rattle.std.proofs.lemmas.Slice.Eq.{bytes_eq-Decides}
@@ -45,7 +45,7 @@ pub record HasFile (r : List ℕ) (stands : List ℕ → Standing) (name version
   pub crate : stands (r ++ 47 ∷ crate_file name version) ≡ File bytes
   pub agrees : Agrees body version bytes
 
--- it stands elsewhere too
+-- it stays so if both files stay
 still : (r : List ℕ) (before now : List ℕ → Standing) (name version : List ℕ) (f : HasFile r before name version) → now (file_of r name) ≡ File f.body
     → now (r ++ 47 ∷ crate_file name version) ≡ File f.bytes → HasFile r now name version
 still r before now name version f index crate = record {
@@ -96,7 +96,7 @@ folder_some (File bs) h = refl
 folder_some (Folder es) h = refl
 folder_some Other h = refl
 
--- ---- what comes where nothing was
+-- ---- what is added where nothing was
 
 kept_entry : (r p : List ℕ) (new : Standing) (stands : List ℕ → Standing) → StandsPlain stands → is_nothing (stands p) ≡ true → (e : Listed) → IsSound r stands e
     → IsSound r (with_standing p new stands) e
@@ -131,7 +131,7 @@ pub folders_sound : (r : List ℕ) (ws : List (List ℕ)) (stands : List ℕ →
 folders_sound r [] stands sound = sound
 folders_sound r (w ∷ ws) stands sound = folders_sound r ws (with_folder_at w stands) (made_sound (is_nothing (stands w)) r w stands refl sound)
 
--- ---- the paths of a registry are apart
+-- ---- the paths of a registry are different
 
 pub lower_long : (cs : List ℕ) → 0 < length cs → 0 < length (lower cs)
 lower_long [] some = some

@@ -51,7 +51,7 @@ folders_free : (ws : List (List ℕ)) (r : List ℕ) (stands : List ℕ → Stan
 folders_free [] r stands free = free
 folders_free (w ∷ ws) r stands free = folders_free ws r (with_folder_at w stands) (made_free (is_nothing (stands w)) w r stands free)
 
--- a folder is there, once it is made
+-- a folder is there, once it is created
 there : (r : List ℕ) (stands : List ℕ → Standing) → IsFree (stands r) → IsClean (with_folder_at r stands r)
 there r stands (inl none) = ([], rw none (here r (Folder []) stands), tt)
 there r stands (inr clean) = made_clean (is_nothing (stands r)) r r stands clean

@@ -1,4 +1,4 @@
--- Each call of a local registry and its builder is one on the path that is told, or on its folder.
+-- Each call of a local registry and its builder is one on the reported path, or on its folder.
 use Rattle.std.proofs.Common.{◌∷◌, [], inl, inr, ℕ, Bool, List, Option, Some, None, unwrap_or, sym, ap, ◌∙◌}
 use Rattle.tame_names.specs.Paths.{parent}
 use Rattle.tame_names.specs.Standing.{Host}

@@ -25,12 +25,12 @@ pub piece_before : (path : List ℕ) (from limit : ℕ) (piece : List ℕ) (befo
     → IsPiece from limit piece (bytes_at path (before.stands path))
 piece_before path from limit piece before now same is = subst (λ (h : Host). IsPiece from limit piece (bytes_at path (h.stands path))) same is
 
--- the hasher holds the bytes in front of a place, if there are such
+-- the hasher holds the bytes before a position, if there are any
 abbrev pub HoldsFront : Sha256 → ℕ → Result (List ℕ) LocalRefusal → Type 0
 HoldsFront hasher from (Ok bytes) = Holds256 hasher (take from bytes)
 HoldsFront hasher from (Err e) = Unit {0}
 
--- none of them is behind it
+-- none of them is after it
 abbrev pub EndsBy : ℕ → Result (List ℕ) LocalRefusal → Type 0
 EndsBy from (Ok bytes) = length bytes ≤ from
 EndsBy from (Err e) = Unit {0}
@@ -50,7 +50,7 @@ more_held (Ok bytes) from limit n piece before now is size fed held =
     subst (Holds256 now) (ap (λ xs. take from bytes ++ xs) (sym front) ∙ sym (take-add from n bytes)) (fed (take from bytes) held)
 more_held (Err e) from limit n piece before now is size fed held = tt
 
--- where no byte is behind a place
+-- if no byte is after a position
 pub ends_at : (r : Result (List ℕ) LocalRefusal) (from len : ℕ) → HasLength len r → len ≤ from → EndsBy from r
 ends_at (Ok bytes) from len is past =
     let same : length bytes ≡ len = cc in

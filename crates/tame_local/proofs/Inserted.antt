@@ -21,7 +21,7 @@ use Rattle.tame_local.specs.Refusals.{LocalRefusal, and_then}
 use Rattle.tame_local.specs.Registries.{index_file, index_of, named_unless, records_in}
 use Rattle.tame_local.specs.declared.digests.ValidKrate.{ValidKrate}
 
--- ---- what an insert asks for
+-- ---- what an insert requires
 
 named_case : (o : Option NameRefusal) (rest : Result Unit LocalRefusal) → and_then (λ named. rest) (named_unless o) ≡ Ok tt → (is_none o ≡ true) × (rest ≡ Ok tt)
 named_case None rest h = (refl, h)

@@ -1,4 +1,4 @@
--- Paths of a registry: what stands behind the last slash, and paths that are apart.
+-- Paths of a registry: the text after the last slash, and paths that are different.
 use Rattle.std.proofs.Common.{◌≡◌, ℕ, zero, suc, ◌+◌, ◌-◌, ◌<◌, ◌≤◌, ◌==◌, List, [], ◌∷◌, ◌++◌, length, map, take, drop, find, not, is_none, option_map, option_and_then, IsTrue, chars, IsUtf8, IsAscii, nat_eq, codes, bytes_eq, get_or, Bool, true, false, cond, Option, Some, None, refl, sym, ap, ◌∙◌, arith, subst, lit<}
 use Rattle.std.specs.Prelude.{◌&&◌, nat_lt}
 use Rattle.std.specs.Char.{to_ascii_lowercase}

@@ -12,7 +12,7 @@ use Rattle.tame_names.specs.Standing.{Standing, Nothing, File, Folder, Other}
 use Rattle.tame_names.specs.declared.host.Listed.{Listed}
 use Rattle.tame_local.specs.Inserts.{StandsPlain}
 
--- what stands at a path by what stood there
+-- what is at a path by what was there
 abbrev by_case : (same nothing within : Bool) → Standing → Listed → Standing → Standing
 by_case same nothing within new e s = cond same new (cond nothing (cond within (with_entry e s) s) s)
 
@@ -40,7 +40,7 @@ pub nothing_stays : (path : List ℕ) (new : Standing) (stands : List ℕ → St
 nothing_stays path new stands q other is =
     rw other (nothing_case (is_nothing (stands path)) (is_path_of (parent path) q) (entry_of path new) (stands q) is)
 
--- a folder has its entries and this one besides, or not
+-- a folder has its entries and also this one, or not
 abbrev pub Gains : List Listed → Listed → Standing → Type 0
 Gains es e s = (s ≡ Folder es) ⊎ (s ≡ Folder (es ++ e ∷ []))
 
@@ -70,7 +70,7 @@ folder_stays path new stands q other is =
 pub new_stands : (path : List ℕ) (new : Standing) (stands : List ℕ → Standing) (q : List ℕ) → is_same path q ≡ true → with_standing path new stands q ≡ new
 new_stands path new stands q same = rw same refl
 
--- ---- paths that stand for the same
+-- ---- paths that are the same
 
 path_of_same : (o : Option (List ℕ)) (p q : List ℕ) → plain_path p ≡ plain_path q → is_path_of o p ≡ is_path_of o q
 path_of_same None p q e = refl
@@ -83,14 +83,14 @@ plain_kept path new stands plain p q same =
     ∙ ap (λ b. by_case (is_same path q) (is_nothing (stands path)) b new (entry_of path new) (stands p)) (path_of_same (parent path) p q e)
     ∙ ap (λ s. by_case (is_same path q) (is_nothing (stands path)) (is_path_of (parent path) q) new (entry_of path new) s) (plain p q same)
 
--- where nothing was, what stands at another path is elsewhere
+-- if nothing is at a path, a path with something is another one
 pub elsewhere : (path : List ℕ) (stands : List ℕ → Standing) (q : List ℕ) → StandsPlain stands → is_nothing (stands path) ≡ true → is_nothing (stands q) ≡ false
     → is_same path q ≡ false
 elsewhere path stands q plain none some = false_from_ne_true _ (λ same.
     let e : is_nothing (stands path) ≡ is_nothing (stands q) = ap is_nothing (plain path q same) in
     cc)
 
--- ---- folders that are made
+-- ---- folders that are created
 
 abbrev pub AreElsewhere : List (List ℕ) → List ℕ → Type 0
 AreElsewhere [] p = Unit {0}

@@ -1,4 +1,4 @@
--- The last `-` in front of the first `.`, by a walk over a text.
+-- The last `-` before the first `.`, by a pass over a text.
 use Rattle.std.proofs.Common.{◌≡◌, ℕ, zero, suc, ◌+◌, ◌<◌, ◌==◌, List, [], ◌∷◌, length, drop, get_or, true, false, Option, Some, None, refl, sym, ap, ◌∙◌, subst, arith, inl, inr}
 use Rattle.std.specs.Prelude.{nat_lt, if◌then◌else◌}
 use Rattle.std.specs.List.{position_or_len}
@@ -10,13 +10,13 @@ use Rattle.std.proofs.lemmas.List.{drop_all}
 use Rattle.std.proofs.lemmas.List.Sums.{position_or_len_is}
 use Rattle.tame_local.specs.CrateFiles.{dash_of}
 
--- the last `-` so far, up to the first `.`, of what is left from a place on
+-- the last `-` so far, up to the first `.`, of what is left from a position on
 abbrev pub dash_from : Option ℕ → ℕ → List ℕ → Option ℕ
 dash_from last at [] = None
 dash_from last at (b ∷ bs) =
     if b == 46 then last else dash_from (if b == 45 then Some at else last) (suc at) bs
 
--- no `.` is in front of a place
+-- no `.` is before a position
 abbrev IsUndotted : List ℕ → ℕ → Type 0
 IsUndotted text i = (k : ℕ) → k < i → (get_or text k 0 == 46) ≡ false
 
@@ -49,6 +49,6 @@ left_finds text (suc n) i size free =
           rw (left, other) (left_finds text n (suc i) (omega (arith, size)) (undotted_on text i free other))
     ]
 
--- a walk over the whole text finds it
+-- a pass over the whole text finds it
 pub walk_finds : (text : List ℕ) → dash_from None 0 text ≡ dash_of text
 walk_finds text = left_finds text (length text) 0 (omega arith) (λ k low. absurd (omega (arith, low)))

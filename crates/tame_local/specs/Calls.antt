@@ -22,8 +22,8 @@ use Rattle.tame_local.specs.declared.digests.ValidKrate.{ValidKrate}
 
 -- ---- what a failed call does
 
--- a refusal by a call that failed adds that call to the failed ones, one that may be told with this
--- path; any other refusal none
+-- a refusal by a call that failed adds that call to the failed ones, one that may be reported with
+-- this path; any other refusal adds none
 abbrev pub AddsBy : (List ℕ → FailedCall → Type 0) → List FailedCall → List FailedCall → Error
     → Type 0
 AddsBy may before now (error.IoPath io_kind.Failed path) =
@@ -42,23 +42,23 @@ pub record HasFileCause {T : Type 0} (before now : ℕ) (result : Result T Error
   pub rose : (path : List ℕ) → result ≡ Err (error.IoPath io_kind.Failed path)
       → CountRose before now
 
--- ---- which calls may fail, with the path that is told
+-- ---- which calls may fail, with the path that is reported
 
--- a call on this path, which is told
+-- a call on this path, which is reported
 abbrev pub IsCallOn : FileCall → List ℕ → List ℕ → FailedCall → Type 0
 IsCallOn name path told call = (told ≡ path) × (call ≡ record { call = name; path = Some path })
 
--- the making of a folder for a path, which is told
+-- the creation of a folder for a path, which is reported
 abbrev pub IsFolderCall : List ℕ → List ℕ → List ℕ → FailedCall → Type 0
 IsFolderCall folder wanted told call =
     (told ≡ wanted) × (call ≡ record { call = file_call.MakeDirs; path = Some folder })
 
--- a call on the path that is told, or on the folder that it is in
+-- a call on the path that is reported, or on the folder that it is in
 abbrev pub IsCallFor : List ℕ → FailedCall → Type 0
 IsCallFor told call =
     (call.path ≡ Some told) ⊎ (call.path ≡ Some (unwrap_or (parent told) []))
 
--- the listing of a folder, or a look at what is there where none is
+-- the listing of a folder, or a look at what is there if it is none
 abbrev pub IsListingCall : Host → List ℕ → List ℕ → FailedCall → Type 0
 IsListingCall host folder told call =
     IsCallOn file_call.List folder told call
@@ -66,7 +66,7 @@ IsListingCall host folder told call =
 
 -- ---- in validating
 
--- the reading of the index file of a name, or of the crate file at a path once the index has told
+-- the reading of the index file of a name, or of the crate file at a path once the index has given
 -- its checksum
 abbrev pub IsPartsCall : Host → List ℕ → List ℕ → List ℕ × List ℕ → List ℕ → FailedCall → Type 0
 IsPartsCall host index path parts told call =
@@ -84,7 +84,7 @@ abbrev pub IsFileCall : Host → List ℕ → List ℕ → List ℕ → List ℕ
 IsFileCall host index folder file told call =
     IsCallIfParts host index (join folder file) (components file) told call
 
--- a reading for one of these files, once all in front of it agreed with the index
+-- a reading for one of these files, once all before it agreed with the index
 abbrev pub IsFilesCall : Host → List ℕ → List ℕ → List (List ℕ) → List ℕ → FailedCall → Type 0
 IsFilesCall host index folder [] told call = ⊥
 IsFilesCall host index folder (file ∷ files) told call =
@@ -99,7 +99,7 @@ IsValidateCall host index told call =
     ⊎ ((entries : List Listed) × (host.stands (crates_folder index) ≡ Folder entries)
     × IsFilesCall host index (crates_folder index) (crate_file_names [] entries) told call)
 
--- a look at the index of a registry, or a call in validating it, where that is asked for
+-- a look at the index of a registry, or a call in validating it, if that is asked for
 abbrev pub IsRegistryCall : Host → List ℕ → Bool → List ℕ → FailedCall → Type 0
 IsRegistryCall host registry validate told call =
     IsCallOn file_call.Kind (index_of registry) told call
@@ -113,26 +113,26 @@ IsFreeCall host path told call =
     IsCallOn file_call.Kind path told call
     ⊎ ((is_folder (host.stands path) ≡ true) × IsCallOn file_call.List path told call)
 
--- such a call at a new registry, or where it is free the making of its index
+-- such a call at a new registry, or if it is free the creation of its index
 abbrev pub IsCreateCall : Host → List ℕ → List ℕ → FailedCall → Type 0
 IsCreateCall host registry told call =
     IsFreeCall host registry told call
     ⊎ ((free_at registry (host.stands registry) ≡ Ok tt)
     × IsFolderCall (index_of registry) (index_of registry) told call)
 
--- the making of one of the files that changes make
+-- the creation of one of the files that changes create
 abbrev pub IsCreatesCall : List HostChange → List ℕ → FailedCall → Type 0
 IsCreatesCall [] told call = ⊥
 IsCreatesCall (Makes folder ∷ changes) told call = IsCreatesCall changes told call
 IsCreatesCall (Creates path bytes ∷ changes) told call =
     IsCallOn file_call.Create path told call ⊎ IsCreatesCall changes told call
 
--- the making of the folder of an index file, or of one of the files of its changes
+-- the creation of the folder of an index file, or of one of the files of its changes
 abbrev pub IsWriteCall : List ℕ → List HostChange → List ℕ → FailedCall → Type 0
 IsWriteCall file changes told call =
     IsFolderCall (unwrap_or (parent file) []) file told call ⊎ IsCreatesCall changes told call
 
--- a look at the index file of a crate, or where it can be inserted a call that inserts it
+-- a look at the index file of a crate, or if it can be inserted a call that inserts it
 abbrev pub IsInsertCall : Host → List ℕ → List IndexVersion → List ValidKrate → List ℕ
     → FailedCall → Type 0
 IsInsertCall host registry versions krates told call =

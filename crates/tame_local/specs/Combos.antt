@@ -1,4 +1,4 @@
--- Where a crate's entry of an index is kept, whatever the index is (this project).
+-- Where a crate's entry of an index of any kind is kept (this project).
 use Rattle.std.specs.Prelude.{◌≡◌, ◌⊎◌, ℕ, List, Bool, true, false, IsTrue, Option, Some, None, Result, Ok, Err}
 use Rattle.tame_names.specs.Standing.{Host}
 use Rattle.tame_names.specs.declared.errors.Error.{Error}
@@ -39,17 +39,17 @@ abbrev pub file_of : EntryPlace → List ℕ → Option (List ℕ)
 file_of (InCache root url) name = cache_file_of root name
 file_of (InIndex index) name = Some (index_file index name)
 
--- its path in a cache; none where it is in an index
+-- its path in a cache; none if it is in an index
 abbrev pub cached_file_of : EntryPlace → List ℕ → Option (List ℕ)
 cached_file_of (InCache root url) name = cache_file_of root name
 cached_file_of (InIndex index) name = None
 
--- what a cache hands out of it, where the disk tells it
+-- what a cache gives for it, if the disk tells it
 abbrev pub IsCached : EntryPlace → File → Option IndexEntry → Type 0
 IsCached (InCache root url) file entry = HandsOut url entry file
 IsCached (InIndex index) file entry = Unit {0}
 
--- what an index hands out of it, where the host tells what it has
+-- what an index gives for it, if the host tells what it has
 abbrev pub IsIndexed : EntryPlace → List ℕ → Host → Option IndexEntry → Type 0
 IsIndexed (InCache root url) name host entry = Unit {0}
 IsIndexed (InIndex index) name host entry = HandsOutFile entry (host.stands (index_file index name))
@@ -68,7 +68,7 @@ IsEntryCall (InIndex index) name told call =
 
 -- ---- which cache there is at a location
 
--- of which kind the index of a url is: sparse, in a git repository, or in the folder of a path
+-- the kind of a url's index: sparse, in a git repository, or in the folder of a path
 pub data IndexKind : Type 0 where
   OfServer : IndexKind
   OfRepository : IndexKind
@@ -87,7 +87,7 @@ kind_by None false = OfRepository
 abbrev pub kind_of : IndexUrl → IndexKind
 kind_of address = kind_by (local_path address) (is_sparse address)
 
--- where an index of a kind stands, or why there is none, where the host tells what it has
+-- where an index of a kind is, or why there is none, if the host tells what it has
 abbrev pub IsOpened : (ℕ → List ℕ → ℕ) → IndexLocation → Host → IndexKind
     → Result ComboIndexCache Error → Type 0
 IsOpened ident location host OfServer (Ok (combo.Sparse index)) =

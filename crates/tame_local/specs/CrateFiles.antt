@@ -13,7 +13,7 @@ abbrev pub Lacks : ℕ → List ℕ → Type 0
 Lacks n [] = Unit {0}
 Lacks n (b ∷ bs) = ((b == n) ≡ false) × Lacks n bs
 
--- what every crate file's name ends with
+-- the end of every crate file's name
 abbrev pub ending : List ℕ
 ending = codes ".crate"
 
@@ -21,24 +21,24 @@ ending = codes ".crate"
 abbrev pub crate_file : List ℕ → List ℕ → List ℕ
 crate_file name version = name ++ 45 ∷ (version ++ ending)
 
--- what stands in front of the ending
+-- the text before the ending
 abbrev pub stem_of : List ℕ → Option (List ℕ)
 stem_of file = if ends_with nat_eq file ending then Some (take (length file - 6) file) else None
 
--- the place of the last `-` in front of the first `.`; none without a `.`
+-- the position of the last `-` before the first `.`; none without a `.`
 abbrev pub dash_of : List ℕ → Option ℕ
 dash_of text =
     if has_byte 46 text then rfind_below 45 text (position_or_len (λ b. b == 46) text) else None
 
--- a text without the byte at a place: what stands in front of it, and what behind
+-- a text without the byte at a position: the text before it, and the text after it
 abbrev pub parted : List ℕ → ℕ → List ℕ × List ℕ
 parted text at = (take at text, drop (suc at) text)
 
 abbrev pub stem_components : List ℕ → Option (List ℕ × List ℕ)
 stem_components stem = option_map (parted stem) (dash_of stem)
 
--- name and version of a crate file: what stands in front of the ending, parted at the last `-` in
--- front of the first `.`
+-- name and version of a crate file: the text before the ending, split at the last `-` before the
+-- first `.`
 abbrev pub components : List ℕ → Option (List ℕ × List ℕ)
 components file = option_and_then stem_components (stem_of file)
 

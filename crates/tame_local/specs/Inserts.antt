@@ -1,4 +1,4 @@
--- Crates that are inserted into a registry, one after the other (this project).
+-- Crates that are inserted into a registry, one after another (this project).
 use Rattle.std.specs.Prelude.{◌≡◌, ◌<◌, ◌^◌, ℕ, List, [], ◌∷◌, length, true, false, Some, None, is_ok, IfSome, IsTrue, Ok}
 use Rattle.std.specs.Str.{IsUtf8}
 use Rattle.semver.specs.Parse.{version_parts}
@@ -15,7 +15,7 @@ use Rattle.tame_local.specs.CrateFiles.{Lacks}
 use Rattle.tame_local.specs.Registries.{crate_file_name, index_of, registry_at, sum_in}
 use Rattle.tame_local.specs.declared.digests.ValidKrate.{ValidKrate}
 
--- at paths that stand for the same, the same stands
+-- at paths that are the same, the same is there
 abbrev pub StandsPlain : (List ℕ → Standing) → Type 0
 StandsPlain stands = (p q : List ℕ) → is_same p q ≡ true → stands p ≡ stands q
 
@@ -32,7 +32,7 @@ pub record IsEmptyRegistry (registry : List ℕ) (host : Host) : Type 0 where
   pub crates : HasNoCrate entries
   pub index : is_folder (host.stands (index_of registry)) ≡ true
 
--- a registry that a builder begins is empty, and goes on standing as plainly
+-- a registry that a builder begins is empty, and paths that are the same still have the same there
 abbrev pub BeginEmpty : Type 0
 BeginEmpty =
     (registry : List ℕ) (host : Host)
@@ -82,7 +82,7 @@ abbrev pub after_inserts : List ℕ → List Insert → Host → Host
 after_inserts registry [] host = host
 after_inserts registry (i ∷ is) host = after_inserts registry is (after_insert registry i host)
 
--- each can be inserted behind those in front
+-- each can be inserted after those before it
 abbrev pub AreInserts : List ℕ → List Insert → Host → Type 0
 AreInserts registry [] host = Unit {0}
 AreInserts registry (i ∷ is) host =

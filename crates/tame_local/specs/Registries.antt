@@ -1,4 +1,4 @@
--- Local registries: an index folder, and beside it a file of each crate (Cargo Book, "Source
+-- Local registries: an index folder, and next to it a file of each crate (Cargo Book, "Source
 -- Replacement", local registry sources).
 use Rattle.std.specs.Prelude.{◌≡◌, ℕ, codes, List, [], ◌∷◌, Bool, is_some, bytes_eq, find, unwrap_or, Option, Some, None, option_and_then, option_map, IfSome, String, Result, Ok, Err, if◌then◌else◌}
 use Rattle.std.specs.BTreeMap.{BTreeMap, get_by_text}
@@ -23,7 +23,7 @@ use Rattle.tame_local.specs.CrateFiles.{components}
 use Rattle.tame_local.specs.Digests.{has_digest}
 use Rattle.tame_local.specs.Refusals.{LocalRefusal, NotAName, NotThere, NotAFolder, NoVersion, OtherDigest, Unsaid, and_then, refused}
 
--- ---- places
+-- ---- paths
 
 -- the index of a registry
 abbrev pub index_of : List ℕ → List ℕ
@@ -33,25 +33,25 @@ index_of registry = join registry (codes "index")
 abbrev pub index_file : List ℕ → List ℕ → List ℕ
 index_file index name = join index (relative_path (separator None) name)
 
--- the folder of the crate files of an index: the one above it, or its own where none is above
+-- the folder of the crate files of an index: the one above it, or the index itself if none is above
 abbrev pub crates_folder : List ℕ → List ℕ
 crates_folder index = unwrap_or (parent index) index
 
 -- ---- folders
 
--- what has to be a folder
+-- what must be a folder
 abbrev pub folder_at : List ℕ → Standing → Result (List Listed) LocalRefusal
 folder_at path Nothing = Err (NotThere path)
 folder_at path (Folder entries) = Ok entries
 folder_at path standing = Err (NotAFolder path)
 
--- the folder `index` of a path where it is there, and the path itself where it is absent
+-- the folder `index` of a path if it is there, and the path itself if it is absent
 abbrev pub index_or_root : List ℕ → Standing → Result (List ℕ) LocalRefusal
 index_or_root root Nothing = Ok root
 index_or_root root (Folder entries) = Ok (index_of root)
 index_or_root root standing = Err (NotAFolder (index_of root))
 
--- the folder of a local index: a path whose last part is `index`, or what stands for it
+-- the folder of a local index: a path whose last part is `index`, or what replaces it
 abbrev pub index_at : Host → List ℕ → Result (List ℕ) LocalRefusal
 index_at host root =
     if bytes_eq (file_name root) (codes "index") then Ok root
@@ -59,13 +59,13 @@ index_at host root =
 
 -- ---- index files
 
--- what an index hands out of a file: nothing where there is none, else its bytes
+-- what an index gives for a file: nothing if there is none, else its bytes
 abbrev pub HandsOutFile : Option IndexEntry → Standing → Type 0
 HandsOutFile None standing = standing ≡ Nothing
 HandsOutFile (Some (Local bytes)) standing = standing ≡ File bytes
 HandsOutFile (Some entry) standing = ⊥
 
--- the bytes of a file that has to be there
+-- the bytes of a file that must be there
 abbrev pub bytes_at : List ℕ → Standing → Result (List ℕ) LocalRefusal
 bytes_at path Nothing = Err (NotThere path)
 bytes_at path (File bytes) = Ok bytes
@@ -79,7 +79,7 @@ records_unless None body = Ok (unwrap_or (records_of (lines body)) [])
 abbrev pub records_in : List ℕ → Result (List IndexVersion) LocalRefusal
 records_in body = records_unless (unread body) body
 
--- the records of the index file at a path, which has to be there
+-- the records of the index file at a path, which must be there
 abbrev pub records_at : Host → List ℕ → Result (List IndexVersion) LocalRefusal
 records_at host path = and_then records_in (bytes_at path (host.stands path))
 
@@ -99,19 +99,19 @@ AreRead host kept =
 
 -- ---- crate files
 
--- the name of a file that is named as a crate file
+-- a file's name, if it is that of a crate file
 abbrev pub if_crate_file : List ℕ → Option (List ℕ)
 if_crate_file name = if is_some (components name) then Some name else None
 
 abbrev pub crate_file_name : Listed → Option (List ℕ)
 crate_file_name entry = if entry.file then option_and_then if_crate_file entry.name else None
 
--- a name at its place in byte order
+-- a name at its position in byte order
 abbrev pub with_name : List (List ℕ) → Option (List ℕ) → List (List ℕ)
 with_name names None = names
 with_name names (Some name) = insert_key (slice_cmp nat_cmp) names name
 
--- the names of crate files among entries, in byte order, with those in front
+-- the names of crate files among entries, in byte order, with the given ones
 abbrev pub crate_file_names : List (List ℕ) → List Listed → List (List ℕ)
 crate_file_names names [] = names
 crate_file_names names (entry ∷ entries) =
@@ -160,13 +160,13 @@ abbrev pub file_checked : Host → List ℕ → List ℕ → List ℕ → Result
 file_checked host index folder file =
     file_if_parts host index folder file (components file)
 
--- each of these files, one after the other
+-- each of these files, one after another
 abbrev pub files_checked : Host → List ℕ → List ℕ → List (List ℕ) → Result Unit LocalRefusal
 files_checked host index folder [] = Ok tt
 files_checked host index folder (file ∷ files) =
     and_then (λ done. files_checked host index folder files) (file_checked host index folder file)
 
--- every crate file beside an index has the digest of its record, or this is the first reason why
+-- every crate file next to an index has the digest of its record, or this is the first reason why
 -- not
 abbrev pub validated : Host → List ℕ → Result Unit LocalRefusal
 validated host index =
@@ -177,7 +177,7 @@ validated host index =
 abbrev pub validated_if : Bool → Host → List ℕ → Result Unit LocalRefusal
 validated_if validate host index = if validate then validated host index else Ok tt
 
--- the index of a registry, which agrees with it where that is asked for
+-- the index of a registry, which agrees with it if that is asked for
 abbrev pub registry_at : Host → List ℕ → Bool → Result (List ℕ) LocalRefusal
 registry_at host registry validate =
     and_then (λ entries. and_then (λ done. Ok (index_of registry))

@@ -1,4 +1,4 @@
-//! Local registries that are built.
+//! Building local registries.
 ghost use Rattle.std.specs.Prelude.{◌≡◌, ◌⊎◌, ◌<◌, ◌+◌, ◌-◌, ◌^◌, [], ◌∷◌, length, unwrap_or, min, Ok, Err, IfOk, IfErr, OnOk, IsTrue};
 ghost use Rattle.tame_names.specs.Changes.{AreFolders};
 ghost use Rattle.tame_names.specs.KrateNames.{text_of};
@@ -23,13 +23,13 @@ use tame_names::{
 use tame_records::IndexKrate;
 
 /// Builds a local registry in a folder. After a refusal the files written so far stay, and it can
-/// go on.
+/// continue.
 #[derive(Debug, Drop)]
 pub struct LocalRegistryBuilder {
     path: Text,
 }
 
-/// That nothing is at a path, or an empty folder.
+/// Checks that nothing is at a path, or an empty folder.
 fn check_free<F: Files>(alloc: Global, files: &mut F, path: &str) -> Result<(), Error>
     ensures ok { F.tells → OnOk result
         (free_at path.now ((F.host files.old).stands path.now) ≡ Ok tt) }
@@ -64,7 +64,7 @@ fn check_free<F: Files>(alloc: Global, files: &mut F, path: &str) -> Result<(), 
     }
 }
 
-/// Makes a folder, and those on the way to it; a refusal has the path of what it is made for.
+/// Creates a folder, and those on the way to it; an error has the path for which it is created.
 fn make_folder<F: Files>(
     alloc: Global,
     files: &mut F,
@@ -89,7 +89,7 @@ fn make_folder<F: Files>(
     }
 }
 
-/// Makes a file.
+/// Creates a file.
 fn make_file<F: Files>(alloc: Global, files: &mut F, path: &str, bytes: &[u8]) -> Result<(), Error>
     ensures made { F.tells → Changes (spec.Creates path.now bytes.now) (F.host files.old)
         (F.host files.new) result }
@@ -105,7 +105,7 @@ fn make_file<F: Files>(alloc: Global, files: &mut F, path: &str, bytes: &[u8]) -
     }
 }
 
-/// That nothing is at the index file of a crate.
+/// Checks that nothing is at the index file of a crate.
 fn check_absent<F: Files>(alloc: Global, files: &mut F, path: &str) -> Result<(), Error>
     ensures ok { F.tells → OnOk result
         (absent_at path.now ((F.host files.old).stands path.now) ≡ Ok tt) }
@@ -158,7 +158,7 @@ fn crate_path(alloc: Global, registry: &str, name: &str, version: &str) -> Resul
     join(alloc, registry, file.as_str())
 }
 
-/// Makes the file of a version in a registry, and answers its number of bytes.
+/// Creates the file of a version in a registry, and answers its number of bytes.
 fn make_crate_file<F: Files>(
     alloc: Global,
     files: &mut F,
@@ -186,8 +186,8 @@ fn make_crate_file<F: Files>(
     Ok(bytes.len() as u64)
 }
 
-/// Makes the files of versions in a registry, one after the other, and answers their number of
-/// bytes and those in front.
+/// Creates the files of versions in a registry, one after another, and answers `front` plus their
+/// number of bytes.
 fn make_crate_files<F: Files>(
     alloc: Global,
     files: &mut F,
@@ -216,9 +216,9 @@ fn make_crate_files<F: Files>(
 }
 
 impl LocalRegistryBuilder {
-    /// A builder of a registry in a folder, which has to be empty or absent; its folder `index` is
-    /// made. `IoPath`: `AlreadyExists` with the number of entries where there are some,
-    /// `NotADirectory` where something else is there, `Failed` where the files failed.
+    /// A builder of a registry in a folder, which must be empty or absent; its folder `index` is
+    /// created. `IoPath`: `AlreadyExists` with the number of entries if there are any,
+    /// `NotADirectory` if something else is there, `Failed` if the files failed.
     pub fn create<F: Files>(
         alloc: Global,
         files: &mut F,
@@ -253,12 +253,11 @@ impl LocalRegistryBuilder {
         self.path.as_str()
     }
 
-    /// Adds a crate: its index file with the lines of its versions, of which there has to be one,
-    /// and then the crate files, in their order. Answers the number of bytes written, at most
-    /// 2^64 - 1.
+    /// Adds a crate: its index file with the lines of its versions, at least one, and then the
+    /// crate files, in their order. Answers the number of bytes written, at most 2^64 - 1.
     ///
-    /// `InvalidKrateName` where the first version's name is none; `IoPath` of the index file:
-    /// `AlreadyExists(1)` where something is there; `IoPath(Failed)` where the files failed.
+    /// `InvalidKrateName` if the first version's name is none; `IoPath` of the index file:
+    /// `AlreadyExists(1)` if something is there; `IoPath(Failed)` if the files failed.
     pub fn insert<F: Files>(
         &self,
         alloc: Global,
@@ -330,8 +329,8 @@ impl LocalRegistryBuilder {
         make_crate_files(alloc, files, self.path.as_str(), krates, lines.len() as u64)
     }
 
-    /// Opens the registry, and validates it where that is wanted, as `LocalRegistry::open`; the
-    /// files stay.
+    /// Opens the registry, and validates it if that is wanted, as `LocalRegistry::open`; the files
+    /// stay.
     pub fn finalize<F: Files>(
         self,
         alloc: Global,

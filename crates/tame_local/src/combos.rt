@@ -21,7 +21,7 @@ use tame_location::{Ident, IndexLocation, IndexUrl};
 use tame_names::{Error, FileLock, Files, IoKind, KrateName, NoMemory, Text};
 use tame_sparse::{GitIndex, SparseIndex};
 
-/// The cache of an index, whatever the index is.
+/// The cache of an index of any kind.
 #[derive(Drop)]
 pub enum ComboIndexCache {
     /// The cache of an index in a git repository.
@@ -30,7 +30,7 @@ pub enum ComboIndexCache {
     Sparse(SparseIndex),
     /// An index in a folder, which needs no cache.
     Local(LocalIndex),
-    /// The index of a local registry, which `new` never makes.
+    /// The index of a local registry, which `new` never creates.
     LocalRegistry(LocalRegistry),
 }
 
@@ -98,9 +98,9 @@ impl ComboIndexCache {
         }
     }
 
-    /// The entry of a crate, as the index of its kind hands it out; nothing where there is none. Of
-    /// a cache the disk alone is called, and of a local index the files alone. A failed read is
-    /// `Io(Failed)` of a cache, and `IoPath(Failed)` of a local index.
+    /// The entry of a crate, as the index of its kind gives it; nothing if there is none. For a
+    /// cache only the disk is called, and for a local index only the files. A failed read is
+    /// `Io(Failed)` for a cache, and `IoPath(Failed)` for a local index.
     pub fn cached_krate<'l, F: Files, D: CacheDisk>(
         &self,
         alloc: Global,

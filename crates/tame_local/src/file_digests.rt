@@ -11,12 +11,12 @@ use sha2::{Digest, Sha256};
 use std::alloc::Global;
 use tame_names::{Error, Files, IoKind, ReadAnswer, Text};
 
-/// The most bytes of a file that are held at once, 1 MiB. A file is opened anew for each piece:
-/// with smaller ones a large file would be opened more often, and most crate files are one so.
+/// The most bytes of a file that are held at once, 1 MiB. A file is opened again for each piece:
+/// with smaller ones a large file would be opened more often. Most crate files are one piece.
 const PIECE: u64 = 1 << 20;
 
-/// The number of bytes of the file at a path. `IoPath`: `NotFound` where nothing is there, `Failed`
-/// where it can't be read.
+/// The number of bytes of the file at a path. `IoPath`: `NotFound` if nothing is there, `Failed` if
+/// it can't be read.
 fn len_at<F: Files>(alloc: Global, files: &mut F, path: &str) -> Result<u64, Error>
     ensures ok { F.tells → IfOk result (λ len. and_then (λ bytes. Ok (length bytes))
         (bytes_at path.now ((F.host files.old).stands path.now)) ≡ Ok len) }
@@ -37,8 +37,8 @@ fn len_at<F: Files>(alloc: Global, files: &mut F, path: &str) -> Result<u64, Err
     }
 }
 
-/// The bytes of the file at a path from number `from` on, no more of them than `limit`. `IoPath`:
-/// `NotFound` where nothing is there, `Failed` where it can't be read.
+/// The bytes of the file at a path from number `from` on, at most `limit`. `IoPath`: `NotFound` if
+/// nothing is there, `Failed` if it can't be read.
 fn piece_at<F: Files>(
     alloc: Global,
     files: &mut F,
@@ -66,8 +66,8 @@ fn piece_at<F: Files>(
     }
 }
 
-/// The SHA-256 digest of the file at a path. `IoPath`: `NotFound` where nothing is there, `Failed`
-/// where it can't be read.
+/// The SHA-256 digest of the file at a path. `IoPath`: `NotFound` if nothing is there, `Failed` if
+/// it can't be read.
 pub(crate) fn digest_at<F: Files>(
     alloc: Global,
     files: &mut F,

@@ -14,7 +14,7 @@ pub fn registries_begin_empty()
 {}
 
 /// A registry of valid crates that a builder inserted is validated: over a host that tells what it
-/// has, `finalize` is refused only for want of memory or where a call failed.
+/// has, `finalize` is refused only if out of memory or if a call failed.
 pub fn inserted_crates_stay_valid()
     ensures { StayValid }
 {}

@@ -1,9 +1,9 @@
-//! Local registries: an index in a folder, crate files beside it, and what builds and checks them.
+//! Local registries: an index in a folder, crate files next to it, and what builds and checks them.
 //!
-//! Promises: a registry is validated exactly where each of its crate files has the digest of its
+//! Promises: a registry is validated exactly if each of its crate files has the digest of its
 //! record; a builder changes the files that it says, and no others; a refusal has its exact reason.
-//! Stands on the files of `tame_names`, the records of `tame_records`, the entries of `tame_entry`,
-//! the caches of `tame_sparse`, and on `sha2` and `bytes`.
+//! Depends on the files of `tame_names`, the records of `tame_records`, the entries of
+//! `tame_entry`, the caches of `tame_sparse`, and on `sha2` and `bytes`.
 //!
 //! ```ignore
 //! // crates/uses/src/indexes.rt: versions_in

@@ -11,7 +11,7 @@ use std::alloc::Global;
 use std::collections::BTreeSet;
 use tame_names::{Error, Files, IoKind, Items, Listed, NoMemory, PathKind, Text, parent};
 
-/// The folder of the crate files of an index: the one above it, or its own where none is above.
+/// The folder of the crate files of an index: the one above it, or the index if there is none.
 pub(crate) fn crates_folder(index: &str) -> &str
     ensures { result.now ≡ spec.crates_folder index.now }
 {
@@ -21,7 +21,7 @@ pub(crate) fn crates_folder(index: &str) -> &str
     }
 }
 
-/// The name of an entry that is a file and named as a crate file.
+/// The name of an entry that is a file with the name of a crate file.
 fn crate_file_name(entry: &Listed) -> Option<&Text>
     ensures { option_map (λ name. name.now) result ≡ spec.crate_file_name entry.now }
 {
@@ -46,8 +46,8 @@ fn names_of(alloc: Global, entries: &[Listed]) -> Result<BTreeSet<Text>, NoMemor
     Ok(names)
 }
 
-/// The entries of the folder at a path. `IoPath` where none is there: `NotFound` where nothing is,
-/// else `NotADirectory`.
+/// The entries of the folder at a path. `IoPath` if none is there: `NotFound` if nothing is, else
+/// `NotADirectory`.
 fn entries_at<F: Files>(alloc: Global, files: &mut F, path: &str) -> Result<Items<Listed>, Error>
     ensures ok { F.tells → IfOk result (λ entries.
         folder_at path.now ((F.host files.old).stands path.now) ≡ Ok entries) }

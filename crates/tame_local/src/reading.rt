@@ -1,4 +1,4 @@
-//! Files that are read, index files once each.
+//! Reading files, index files only once.
 ghost use Rattle.std.specs.Prelude.{◌≡◌, ◌⊎◌, ℕ, List, Ok, Err, Some, None, IfOk, IfErr, OnOk, IsSome, IsTrue, option_map};
 ghost use Rattle.std.specs.BTreeMap.{get_by_text};
 ghost use Rattle.tame_names.specs.Standing.{Host};
@@ -14,8 +14,8 @@ use std::collections::BTreeMap;
 use tame_names::{Error, Files, IoKind, NoMemory, ReadAnswer, Text};
 use tame_records::{Chksum, IndexKrate, IndexVersion};
 
-/// The bytes of the file at a path. `IoPath`: `NotFound` where nothing is there, `Failed` where it
-/// can't be read.
+/// The bytes of the file at a path. `IoPath`: `NotFound` if nothing is there, `Failed` if it can't
+/// be read.
 fn bytes_at<F: Files>(alloc: Global, files: &mut F, path: &str) -> Result<Vec<u8>, Error>
     ensures ok { F.tells → IfOk result (λ bytes.
         spec.bytes_at path.now ((F.host files.old).stands path.now) ≡ Ok bytes.items) }

@@ -11,19 +11,19 @@ use crate::validating::check_files;
 use std::alloc::Global;
 use tame_names::{Error, Files, IoKind, PathKind, Text, join};
 
-/// A local registry: an index, and beside it the files of its crates.
+/// A local registry: an index, and next to it the files of its crates.
 #[derive(Debug, Drop)]
 pub struct LocalRegistry {
     index: LocalIndex,
 }
 
 impl LocalRegistry {
-    /// The registry at a path, which has its index in the folder `index`; it is validated where
-    /// that is wanted, and else nothing in it is looked at.
+    /// The registry at a path, which has its index in the folder `index`; it is validated if that
+    /// is wanted, and else nothing in it is looked at.
     ///
-    /// `IoPath` of that folder: `NotFound` where nothing is there, `NotADirectory` where something
-    /// else is, `Failed` where it can't be looked at. Where it is validated, as `validate` of this
-    /// index: then each `IoPath` may also be of an index file, of a crate file, or of the path
+    /// `IoPath` of that folder: `NotFound` if nothing is there, `NotADirectory` if something else
+    /// is, `Failed` if it can't be looked at. If it is validated, also the errors of `validate` of
+    /// this index: then each `IoPath` may also be of an index file, of a crate file, or of the path
     /// itself, which is their folder.
     pub fn open<F: Files>(
         alloc: Global,
@@ -65,15 +65,15 @@ impl LocalRegistry {
         &self.index
     }
 
-    /// Checks that each crate file beside an index has the digest of the first record of its
+    /// Checks that each crate file next to an index has the digest of the first record of its
     /// version, in the byte order of their names.
     ///
     /// The first reason why not: `InvalidKrateName`, `IoPath` of the index file, `Json` or
     /// `NoCrateVersions` of its lines, `Local(MissingVersion)`, `IoPath` of the crate file,
-    /// `Local(ChecksumMismatch)`. Of a file, `IoPath` is `NotFound` where nothing is there, and
-    /// `Failed` where it can't be read. Before all of them `IoPath` of the folder of the crate
-    /// files, which is the one above the index: `NotFound` where nothing is there, `NotADirectory`
-    /// where something else is, `Failed` where it can't be listed or looked at.
+    /// `Local(ChecksumMismatch)`. For a file, `IoPath` is `NotFound` if nothing is there, and
+    /// `Failed` if it can't be read. Before all of them `IoPath` of the folder of the crate files,
+    /// which is the one above the index: `NotFound` if nothing is there, `NotADirectory` if
+    /// something else is, `Failed` if it can't be listed or looked at.
     pub fn validate<F: Files>(alloc: Global, files: &mut F, index: &LocalIndex) -> Result<(), Error>
         ensures ok { F.tells → OnOk result (validated (F.host files.old) index.now.path ≡ Ok tt) }
         ensures refused { F.tells → IfErr result (λ e. IsTrue (is_told e)

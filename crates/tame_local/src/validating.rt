@@ -1,4 +1,4 @@
-//! Crate files checked against their index.
+//! Checking crate files against their index.
 ghost use Rattle.std.specs.Prelude.{◌≡◌, Ok, Err, IfOk, IfErr, OnOk, IsTrue};
 ghost use Rattle.tame_names.specs.KrateNames.{text_of};
 ghost use Rattle.tame_local.specs.Calls.{AddsFailed, HasFileCause, IsFileCall, IsFilesCall, IsPartsCall};
@@ -89,7 +89,7 @@ fn check_file<F: Files>(
     check_parts(alloc, files, index, read, path.as_str(), name, version)
 }
 
-/// Checks crate files in a folder against the index, one after the other.
+/// Checks crate files in a folder against the index, one after another.
 pub(crate) fn check_files<F: Files>(
     alloc: Global,
     files: &mut F,

@@ -3,7 +3,7 @@ use Rattle.tame_local.specs.Registries.{bytes_at}
 use Rattle.tame_local.proofs.FileDigests.{HoldsFront}
 use Rattle.tame_local.proofs.file_digests.digest_at.Given as goal
 
--- the host as it was, and the hasher holds what is in front
+-- the host as it was, and the hasher holds what came before
 abbrev pub invariant-loop-from : goal.invariant-loop-from
 invariant-loop-from g l = record {
   later : g.F.Files.faults l.fn.files ≤ g.F.Files.faults l.files;
