@@ -1,4 +1,4 @@
-//! What lies below a folder. No link is followed there, and nothing but a plain file is opened.
+//! What is below a folder. No link is followed there, and only plain files are opened.
 ghost use Rattle.std.specs.Prelude.{◌≡◌};
 
 use crate::calls::{look, look_at_opened, open};
@@ -11,7 +11,7 @@ use std::os::unix::fs::MetadataExt;
 use std::rt::Files;
 use tame_names::{ReadAnswer, Text, join};
 
-/// What is at a place.
+/// What is at a path.
 #[derive(Drop)]
 pub enum Found {
     /// There is nothing.
@@ -27,7 +27,7 @@ pub fn joined(alloc: Global, folder: &str, name: &str) -> io::Result<Text> {
     made(join(alloc, folder, name))
 }
 
-/// The path of something that lies in a folder, and not above or at it.
+/// The path of something that is in a folder, and not above or at it.
 pub fn inside(alloc: Global, folder: &str, name: &str) -> io::Result<Text> {
     if matches!(name, "" | "." | "..") {
         return Err(io::Error::from(ErrorKind::InvalidInput));
@@ -35,7 +35,7 @@ pub fn inside(alloc: Global, folder: &str, name: &str) -> io::Result<Text> {
     joined(alloc, folder, name)
 }
 
-/// What is at a place, without following a link; anything but a folder and a file is an error.
+/// What is at a path, without following a link; anything but a folder and a file is an error.
 pub fn found_at<R: Files>(rt: &R, place: &str) -> io::Result<Found> {
     match look(rt, place) {
         Ok(found) if found.is_dir() => Ok(Found::Folder),
@@ -51,7 +51,7 @@ pub fn found_at<R: Files>(rt: &R, place: &str) -> io::Result<Found> {
 pub struct Below {
     /// The path.
     pub place: Text,
-    /// What is known of the file there; none where there is none.
+    /// What is known of the file there; none if there is none.
     pub file: Option<Metadata>,
 }
 
@@ -69,7 +69,7 @@ pub fn is_same(first: &Metadata, second: &Metadata) -> bool {
     first.dev() == second.dev() && first.ino() == second.ino()
 }
 
-/// An error where a file has more than `limit` bytes.
+/// An error if a file has more than `limit` bytes.
 pub fn check_limit(found: &Metadata, limit: u64) -> io::Result<()> {
     if found.len() > limit {
         return Err(io::Error::from(ErrorKind::FileTooLarge));
@@ -77,8 +77,8 @@ pub fn check_limit(found: &Metadata, limit: u64) -> io::Result<()> {
     Ok(())
 }
 
-/// Opens the file that was found at a place, where it has at most `limit` bytes and no other one
-/// has come there since.
+/// Opens the file that was found at a path, if it has at most `limit` bytes and no other one has
+/// come there since.
 pub fn open_found<R: Files>(
     rt: &R,
     place: &str,
@@ -96,7 +96,7 @@ pub fn open_found<R: Files>(
     }
 }
 
-/// Opens the file that was found at a place to be read, as `open_found` does.
+/// Opens the file that was found at a path to be read, as `open_found` does.
 pub fn open_to_read<R: Files>(
     rt: &R,
     place: &str,
@@ -118,7 +118,7 @@ pub struct Root<'a, R: Files + AllocGlobal> {
     rt: &'a R,
     /// The path of the folder.
     pub folder: &'a str,
-    /// The places below the folder at which folders were found.
+    /// The paths of the folders that were found below the folder.
     known: BTreeSet<Text>,
 }
 
@@ -134,7 +134,7 @@ impl<'a, R: Files + AllocGlobal> Root<'a, R> {
         }
     }
 
-    /// Notes that a folder is at a place.
+    /// Notes that a folder is at a path.
     pub fn note_folder(&mut self, place: &str) -> io::Result<()> {
         let place = made(Text::of(self.rt.alloc(), place))?;
         match self.known.insert(place) {
@@ -143,7 +143,7 @@ impl<'a, R: Files + AllocGlobal> Root<'a, R> {
         }
     }
 
-    /// Whether a folder is at a place.
+    /// Whether a folder is at a path.
     fn is_folder(&mut self, place: &Text) -> io::Result<bool> {
         if self.known.contains(place) {
             return Ok(true);
@@ -166,7 +166,7 @@ impl<'a, R: Files + AllocGlobal> Root<'a, R> {
         Ok(matches!(found_at(self.rt, place.as_str())?, Found::Folder))
     }
 
-    /// The place of folders, and whether they are there. Each is looked at; below a file and below
+    /// The path of folders, and whether they are there. Each is looked at; below a file and below
     /// nothing there is none.
     fn way(&mut self, folders: &str) -> io::Result<(Text, bool)> {
         let alloc = self.rt.alloc();

@@ -10,8 +10,8 @@ use std::rt;
 use tame_cache::{CacheDisk, DiskFault, DiskReadFault, Peek};
 
 /// The files of a folder as the disk of a cache. It tells nothing of their contents. Below the
-/// folder no link is followed, and nothing but plain files of at most 256 MiB is opened. After a
-/// sync that failed nothing is written any more.
+/// folder no link is followed, and only plain files of at most 256 MiB are opened. After a sync
+/// that failed nothing more is written.
 #[derive(Drop)]
 pub struct FileCacheDisk<'a, R: rt::Files + AllocGlobal> {
     files: CacheFolder<'a, R>,

@@ -1,5 +1,5 @@
 //! The files of a cache folder. Each is written by one descriptor, and synced with the folders in
-//! which something was made.
+//! which something was created.
 ghost use Rattle.std.specs.Prelude.{◌≡◌};
 
 use crate::below::{
@@ -21,12 +21,12 @@ use tame_names::{Items, Text};
 /// The largest file of a cache that is opened, in bytes: 256 MiB.
 pub const CACHE_LIMIT: u64 = 268435456;
 
-/// An open file of the cache. What is written goes by the descriptor that is synced then.
+/// An open file of the cache. Writes use the descriptor that is synced afterwards.
 #[derive(Drop)]
 struct OpenedFile<F: Drop> {
     path: Text,
     file: F,
-    /// That nothing in it is left from before it was opened which isn't on the disk.
+    /// Whether all that was in it before it was opened is on the disk.
     is_settled: bool,
 }
 
@@ -42,14 +42,14 @@ pub struct CacheFolder<'a, R: Files + AllocGlobal> {
     waiting: Waiting,
     /// The file that was read last.
     read: Option<OpenedToRead<R::File>>,
-    /// The folders in which something was made since they were synced.
+    /// The folders in which something was created since they were synced.
     unsynced: Items<Text>,
-    /// That a sync has failed: of the file that is open, or of its folders. Nothing is written
-    /// from then on, and that file isn't read.
+    /// Whether a sync has failed: of the open file, or of its folders. From then on nothing is
+    /// written, and that file isn't read.
     has_failed: bool,
 }
 
-/// The folder that a place lies in.
+/// The folder that contains a path.
 fn above(place: &str) -> &str {
     match place.rsplit_once('/') {
         Some(("", _)) => "/",
@@ -58,9 +58,9 @@ fn above(place: &str) -> &str {
     }
 }
 
-/// Writes a closed gate once more. After a failed sync of another process the system may hold the
-/// 0 alone, and count it as written; now it goes to the disk by this descriptor. A gate that isn't
-/// closed isn't written, so none is ever opened here.
+/// Writes a closed gate once more. After a failed sync of another process the system may hold the 0
+/// only in memory, and count it as written; now it goes to the disk by this descriptor. A gate that
+/// isn't closed isn't written, so none is ever opened here.
 fn close_again<F: FileExt>(file: &F) -> io::Result<()> {
     match first_byte(file)? {
         Some(0) => file.write_all_at(&[0], 0),
@@ -87,7 +87,7 @@ where
         }
     }
 
-    /// An error where a sync has failed.
+    /// An error if a sync has failed.
     fn may_write(&self) -> io::Result<()> {
         if self.has_failed {
             return Err(io::Error::from(ErrorKind::Other));
@@ -111,7 +111,7 @@ where
         }
     }
 
-    /// What was written to this file is in it; an error where the sync of it has failed.
+    /// What was written to this file is in it; an error if its sync has failed.
     fn ready_to_read(&mut self, path: &str) -> io::Result<()> {
         if self.is_opened(path) {
             self.may_write()?;
@@ -121,7 +121,7 @@ where
     }
 
     /// The file at a path, opened to be read, if there is one. The one that was read last is still
-    /// open, and is opened again only where another one has come to the path.
+    /// open, and is opened again only if another one has come to the path.
     fn open_to_read(&mut self, path: &str) -> io::Result<Option<OpenedToRead<R::File>>> {
         self.ready_to_read(path)?;
         let below = self.root.file(path)?;
@@ -164,7 +164,7 @@ where
         Ok(Some(whole?))
     }
 
-    /// Notes that something is to be made at a place: its folder has to be synced.
+    /// Notes that something is to be created at a path: its folder must be synced.
     fn note_made(&mut self, place: &str) -> io::Result<()> {
         let folder = above(place);
         for noted in self.unsynced.as_slice() {
@@ -185,7 +185,7 @@ where
         }
     }
 
-    /// Makes the cache folder and those above it, where links may lead, if they are missing.
+    /// Creates the cache folder and those above it, following links, if they are missing.
     fn make_cache_folder(&mut self) -> io::Result<()> {
         match look_through(self.rt, self.root.folder) {
             Err(error) if error.kind() == ErrorKind::NotFound => {}
@@ -214,7 +214,7 @@ where
         Ok(())
     }
 
-    /// Makes the folders above a path.
+    /// Creates the folders above a path.
     pub fn make_folders(&mut self, path: &str) -> io::Result<()> {
         self.may_write()?;
         let Some((folders, _)) = path.rsplit_once('/') else {
@@ -237,7 +237,7 @@ where
         Ok(())
     }
 
-    /// Opens a file to be written; makes it where it may be made and there is none.
+    /// Opens a file to be written; creates it if that is allowed and there is none.
     fn open(&mut self, path: &str, may_make: bool) -> io::Result<OpenedFile<R::File>> {
         let below = self.root.file(path)?;
         let place = below.place.as_str();
@@ -273,7 +273,7 @@ where
         }
     }
 
-    /// Writes a piece at a place of a file, and makes the file where there is none.
+    /// Writes a piece at a place of a file, and creates the file if there is none.
     pub fn write(&mut self, path: &str, at: u64, piece: &[u8]) -> io::Result<()> {
         let opened = self.opened(path, true)?;
         let done = self.waiting.add(&opened.file, at, piece);
@@ -281,7 +281,7 @@ where
         done
     }
 
-    /// Cuts a file to a length, where it is longer.
+    /// Cuts a file to a length, if it is longer.
     pub fn cut(&mut self, path: &str, len: u64) -> io::Result<()> {
         let opened = self.opened(path, false)?;
         let done = match self.waiting.write(&opened.file) {
@@ -292,7 +292,7 @@ where
         done
     }
 
-    /// Syncs a file, and the folders in which something was made since they were synced.
+    /// Syncs a file, and the folders in which something was created since they were synced.
     pub fn sync(&mut self, path: &str) -> io::Result<()> {
         let mut opened = self.opened(path, false)?;
         let done = self.settle(&mut opened);
@@ -326,7 +326,7 @@ where
         Ok(())
     }
 
-    /// Syncs what is open, and notes where that fails.
+    /// Syncs what is open, and notes if that fails.
     fn sync_all(&mut self, file: &R::File) -> io::Result<()> {
         let done = sync(file);
         self.has_failed = done.is_err();

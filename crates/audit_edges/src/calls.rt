@@ -1,4 +1,4 @@
-//! Calls on the host. One that a signal interrupts is made again.
+//! Calls on the host. One that a signal interrupts is repeated.
 use crate::locking::LockFiles;
 use std::alloc::Global;
 use std::env;
@@ -8,7 +8,7 @@ use std::os::unix::fs::FileExt;
 use std::path::PathBuf;
 use std::rt::{Env, Files};
 
-/// What a call answers that isn't interrupted.
+/// The result of a call that isn't interrupted.
 macro_rules! again {
     ($call:expr) => {{
         for _ in 0..u64::MAX {
@@ -21,12 +21,12 @@ macro_rules! again {
     }};
 }
 
-/// What is at a place, without following a link there.
+/// What is at a path, without following a link there.
 pub fn look<R: Files>(rt: &R, place: &str) -> io::Result<Metadata> {
     again!(fs::symlink_metadata(rt, place))
 }
 
-/// What is at a place, where links lead.
+/// What is at a path, following links.
 pub fn look_through<R: Files>(rt: &R, place: &str) -> io::Result<Metadata> {
     again!(fs::metadata(rt, place))
 }
@@ -36,12 +36,12 @@ pub fn look_at_opened<F: OpenFile>(file: &F) -> io::Result<Metadata> {
     again!(file.metadata())
 }
 
-/// Makes a folder at a place; an error where something is there.
+/// Creates a folder at a path; an error if something is there.
 pub fn make_folder<R: Files>(rt: &R, place: &str) -> io::Result<()> {
     again!(fs::create_dir(rt, place))
 }
 
-/// Opens the file at a place in this way.
+/// Opens the file at a path in this way.
 pub fn open<R: Files>(rt: &R, how: &OpenOptions, place: &str) -> io::Result<R::File> {
     again!(how.open(rt, place))
 }
@@ -51,7 +51,7 @@ pub fn open_lock<R: LockFiles>(rt: &R, how: &OpenOptions, place: &str) -> io::Re
     again!(rt.open_lock(how, place))
 }
 
-/// Takes the lock of the file that was opened at a place.
+/// Takes the lock of the file that was opened at a path.
 pub fn take_lock<R: LockFiles>(
     rt: &R,
     place: &str,
@@ -62,7 +62,7 @@ pub fn take_lock<R: LockFiles>(
     again!(rt.take_lock(place, file, exclusive, block))
 }
 
-/// The folder at a place, where a link there leads, opened to be listed.
+/// The folder at a path, following a link there, opened to be listed.
 pub fn open_folder<'a, R: Files + AllocGlobal>(
     rt: &'a R,
     place: &str,
@@ -85,7 +85,7 @@ pub fn seek<F: Seek>(file: &mut F, at: u64) -> io::Result<u64> {
     again!(file.seek(SeekFrom::Start(at)))
 }
 
-/// The first byte of a file; none where it has none.
+/// The first byte of a file; none if it has none.
 pub fn first_byte<F: FileExt>(file: &F) -> io::Result<Option<u8>> {
     let mut room = [0u8; 1];
     for _ in 0..u64::MAX {
@@ -109,7 +109,7 @@ pub fn sync<F: OpenFile>(file: &F) -> io::Result<()> {
     again!(file.sync_all())
 }
 
-/// Hands on what a writer has kept back.
+/// Flushes a writer.
 pub fn flush<W: Write>(writer: &mut W) -> io::Result<()> {
     again!(writer.flush())
 }

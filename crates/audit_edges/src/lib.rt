@@ -1,8 +1,8 @@
 //! The real outside: output, files, and a folder in place of a server. None tells its contents.
 //!
-//! Promises: each object meets its trait, with its counts of faults, and keeps to its limits; of
-//! what a real file or stream holds nothing is said.
-//! Stands on the traits of `tame_names`, `tame_cache` and `tame_sparse`, and on std's files.
+//! Promises: each object meets its trait, with its counts of faults, and keeps to its limits;
+//! nothing is said about what a real file or stream holds.
+//! Depends on the traits of `tame_names`, `tame_cache` and `tame_sparse`, and on std's files.
 //!
 //! ```ignore
 //! let mut files = StdFiles::new(rt);

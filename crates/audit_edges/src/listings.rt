@@ -1,4 +1,4 @@
-//! The entries of a folder, and what is at a path, where links lead.
+//! The entries of a folder, and what is at a path, following links.
 use crate::calls::{look_through, open_folder};
 use crate::reading::{is_absent, made, without_last_slashes};
 use std::alloc::Global;
@@ -7,8 +7,8 @@ use std::io::{self, ErrorKind};
 use std::rt::Files;
 use tame_names::{Items, Listed, PathKind, Text};
 
-/// What is at a path, where links lead. A link that leads nowhere is absent. A path that ends with
-/// a slash stands for the path without it.
+/// What is at a path, following links. A link that leads nowhere is absent. A path that ends with a
+/// slash means the path without it.
 pub fn kind_of<R: Files>(rt: &R, path: &str) -> io::Result<PathKind> {
     match look_through(rt, without_last_slashes(path)) {
         Ok(found) if found.is_file() => Ok(PathKind::File),
@@ -19,7 +19,7 @@ pub fn kind_of<R: Files>(rt: &R, path: &str) -> io::Result<PathKind> {
     }
 }
 
-/// Whether an entry leads to a file. One that is there no longer doesn't, nor does a link that
+/// Whether an entry leads to a file. One that is no longer there doesn't, nor does a link that
 /// leads nowhere or back to itself.
 fn leads_to_file<R: Files>(rt: &R, place: &str) -> io::Result<bool> {
     match look_through(rt, place) {
@@ -30,7 +30,7 @@ fn leads_to_file<R: Files>(rt: &R, place: &str) -> io::Result<bool> {
     }
 }
 
-/// An entry with its name. Where std gives it as an error of its own, its name isn't UTF-8, and
+/// An entry with its name. If std returns an error of its own for it, its name isn't UTF-8, and
 /// what it leads to can't be asked for.
 fn listed<R: Files + AllocGlobal>(
     rt: &R,
@@ -72,8 +72,8 @@ fn listed_once<R: Files + AllocGlobal>(
     Ok(Some(entries))
 }
 
-/// The entries of the folder at a path, where a link there leads; nothing where no folder is. An
-/// interrupted listing begins again. A path that ends with a slash stands for the path without it.
+/// The entries of the folder at a path, following a link there; nothing if no folder is there. An
+/// interrupted listing begins again. A path that ends with a slash means the path without it.
 pub fn list_folder<R: Files + AllocGlobal>(
     rt: &R,
     alloc: Global,

@@ -1,5 +1,5 @@
-//! Files that are opened to be locked, and their locks. Std has locks for its own files alone, so a
-//! runtime says by itself how it opens such a file and takes its lock.
+//! Files that are opened to be locked, and their locks. Std has locks only for its own files, so a
+//! runtime itself defines how it opens such a file and takes its lock.
 use crate::calls::{look_through, open_lock, take_lock};
 use crate::reading::{is_absent, without_last_slashes};
 use std::fs::{File, OpenOptions};
@@ -8,12 +8,12 @@ use std::rt::Files;
 
 /// A runtime with files whose locks can be taken.
 pub trait LockFiles {
-    /// Opens the file at a place to be locked.
+    /// Opens the file at a path to be locked.
     fn open_lock(&self, how: &OpenOptions, place: &str) -> io::Result<File>;
 
-    /// Takes the lock of the file that was opened at a place, for oneself (`exclusive`) or with
-    /// others; waits for its turn where it may (`block`), and else gives `WouldBlock` where another
-    /// one holds it. Where the file system has no locks it gives `Unsupported`.
+    /// Takes the lock of the file that was opened at a path, alone (`exclusive`) or shared. Waits
+    /// for its turn if it may (`block`), and else gives `WouldBlock` if another one holds the lock.
+    /// If the file system has no locks it gives `Unsupported`.
     fn take_lock(&self, place: &str, file: &File, exclusive: bool, block: bool) -> io::Result<()>;
 }
 
@@ -32,9 +32,9 @@ impl LockFiles for HostRuntime {
     }
 }
 
-/// Opens the file at a path to be locked: to be read, or exclusively to be written too, which makes
-/// it where nothing is. What is there and is no file isn't opened, since that could wait for ever.
-/// A path that ends with a slash stands for the path without it.
+/// Opens the file at a path to be locked: to be read, or exclusively to be written too, which
+/// creates it if nothing is there. What is there but isn't a file isn't opened, since that could
+/// wait for ever. A path that ends with a slash means the path without it.
 pub fn open_to_lock<R: Files + LockFiles>(rt: &R, path: &str, exclusive: bool) -> io::Result<File> {
     let path = without_last_slashes(path);
     match look_through(rt, path) {

@@ -1,11 +1,11 @@
-//! Folders and files that are made.
+//! Folders and files that are created.
 use crate::calls::{look_through, make_folder, open};
 use crate::reading::without_last_slashes;
 use std::fs::OpenOptions;
 use std::io::{self, ErrorKind, Write};
 use std::rt::Files;
 
-/// Makes a folder where nothing is. What is there already has to be a folder, or to lead to one.
+/// Creates a folder if nothing is there. What is there already must be a folder, or lead to one.
 fn make_one<R: Files>(rt: &R, place: &str) -> io::Result<()> {
     match make_folder(rt, place) {
         Err(error) if error.kind() != ErrorKind::NotFound => match look_through(rt, place) {
@@ -16,8 +16,8 @@ fn make_one<R: Files>(rt: &R, place: &str) -> io::Result<()> {
     }
 }
 
-/// Makes the folder at a path and those on the way to it that are missing. A path that ends with a
-/// slash stands for the path without it; the empty path is the current folder, which is there.
+/// Creates the folder at a path and those on the way to it that are missing. A path that ends with
+/// a slash means the path without it; the empty path is the current folder, which is there.
 pub fn make_folders<R: Files>(rt: &R, path: &str) -> io::Result<()> {
     let path = without_last_slashes(path);
     if path.is_empty() {
@@ -36,8 +36,8 @@ pub fn make_folders<R: Files>(rt: &R, path: &str) -> io::Result<()> {
     make_one(rt, path)
 }
 
-/// Makes the file at a path, with these bytes. What is there already stays, a link too. A path that
-/// ends with a slash stands for the path without it.
+/// Creates the file at a path, with these bytes. What is there already stays, a link too. A path
+/// that ends with a slash means the path without it.
 pub fn make_file<R: Files>(rt: &R, path: &str, bytes: &[u8]) -> io::Result<()> {
     let mut how = OpenOptions::new();
     how.write(true);

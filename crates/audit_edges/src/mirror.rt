@@ -13,12 +13,12 @@ use tame_sparse::{Request, Wire, WireAnswer, WireFault};
 /// The largest file of a mirror that is sent, in bytes: 64 MiB.
 pub const MIRROR_LIMIT: u64 = 67108864;
 
-/// Answers a path by the file there in a folder: 404 where it is absent, 304 where its entity
-/// tag is the named one, else 200. The tag is the text of the file with `.etag` added, without
-/// a newline at its end; a text that no request can name as it is, as an empty one, is no tag.
-/// Where the tag isn't the same before and after the file is read, the exchange fails. A file whose
-/// tag is the named one is opened and not read. Below the folder no link is followed, and nothing
-/// but plain files is opened; a folder there is looked at once. It tells nothing of its exchanges.
+/// Answers a path by the file there in a folder: 404 if it is absent, 304 if its entity tag is
+/// the named one, else 200. The tag is the text of the file with `.etag` added, without a newline
+/// at its end; a text that no request can name as it is, such as an empty one, is no tag. If the
+/// tag isn't the same before and after the file is read, the exchange fails. A file whose tag is
+/// the named one is opened and not read. Below the folder no link is followed, and only plain
+/// files are opened; a folder there is looked at once. It tells nothing of its exchanges.
 #[derive(Drop)]
 pub struct MirrorWire<'a, R: rt::Files + AllocGlobal> {
     root: Root<'a, R>,
@@ -85,8 +85,8 @@ fn bare(alloc: Global, status: u16, etag: Option<Text>) -> WireAnswer {
     }
 }
 
-/// The answer to a request. The file is looked at before its tag is read, and opened behind it; so
-/// it was there when its tag was, and one whose tag is the named one needn't be read.
+/// The answer to a request. The file is looked at before its tag is read, and opened after it; so
+/// it was there when its tag was, and one whose tag is the named one need not be read.
 fn answer<'a, R: rt::Files + AllocGlobal>(
     root: &mut Root<'a, R>,
     alloc: Global,

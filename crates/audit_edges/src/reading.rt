@@ -10,7 +10,7 @@ use std::os::unix::fs::FileExt;
 use std::rt::Files;
 use tame_names::{NoMemory, ReadAnswer};
 
-/// What was made, where memory sufficed.
+/// What was created, unless out of memory.
 pub fn made<T>(made: Result<T, NoMemory>) -> io::Result<T> {
     match made {
         Ok(made) => Ok(made),
@@ -18,8 +18,8 @@ pub fn made<T>(made: Result<T, NoMemory>) -> io::Result<T> {
     }
 }
 
-/// Whether nothing can be at a path, by the error of a look at it: nothing is there, it lies
-/// below a file, or a name of it is longer than the system allows.
+/// Whether nothing can be at a path, by the error of a look at it: nothing is there, it is below a
+/// file, or a name in it is longer than the system allows.
 pub fn is_absent(kind: ErrorKind) -> bool {
     matches!(
         kind,
@@ -27,7 +27,7 @@ pub fn is_absent(kind: ErrorKind) -> bool {
     )
 }
 
-/// How many bytes are asked for where it isn't known how many come.
+/// How many bytes are asked for if it isn't known how many come.
 const PIECE: usize = 8192;
 
 /// How many bytes are cleared at once.
@@ -45,7 +45,7 @@ fn lengthen(bytes: &mut Vec<u8>, len: usize) -> io::Result<()> {
     Err(io::Error::from(ErrorKind::Other))
 }
 
-/// Reads once, behind the bytes that are filled, and gives how many are then.
+/// Reads once, after the bytes that are filled, and returns how many are filled then.
 fn fill<R: Read>(reader: &mut R, bytes: &mut [u8], filled: usize) -> io::Result<usize> {
     match bytes.get_mut(filled..) {
         Some(room) => Ok(filled.saturating_add(read_once(reader, room)?)),
@@ -54,8 +54,8 @@ fn fill<R: Read>(reader: &mut R, bytes: &mut [u8], filled: usize) -> io::Result<
 }
 
 /// The bytes of a reader, of which `expected` should come, or that they are more than the limit.
-/// The end is where a read gives nothing, or where it gives the last of the expected ones though
-/// it asked for more.
+/// The end is a read that gives nothing, or one that gives the last of the expected ones though it
+/// asked for more.
 pub fn read_within<R: Read>(
     alloc: Global,
     reader: &mut R,
@@ -88,7 +88,7 @@ pub fn read_within<R: Read>(
     Err(io::Error::from(ErrorKind::Other))
 }
 
-/// A file that is read from its beginning on, wherever its own place stands.
+/// A file that is read from its beginning, whatever its own position is.
 #[derive(Drop)]
 pub struct FromStart<'a, F> {
     file: &'a F,
@@ -96,7 +96,7 @@ pub struct FromStart<'a, F> {
 }
 
 impl<'a, F> FromStart<'a, F> {
-    /// A reader of this file that stands at its beginning.
+    /// A reader of this file, at its beginning.
     pub fn new(file: &'a F) -> FromStart<'a, F> {
         FromStart { file, at: 0 }
     }
@@ -110,14 +110,14 @@ impl<'a, F: FileExt> Read for FromStart<'a, F> {
     }
 }
 
-/// The path without slashes at its end; one that is nothing but slashes stays.
+/// The path without slashes at its end; one that has only slashes stays.
 pub fn without_last_slashes(path: &str) -> &str {
     let rest = path.trim_end_matches('/');
     if rest.is_empty() { path } else { rest }
 }
 
-/// Looks at a path to be read, where links lead. What is there and is no file can't be read; it
-/// mustn't be opened, since that could wait for ever.
+/// Looks at a path to be read, following links. What is there but isn't a file can't be read; it
+/// must not be opened, since that could wait for ever.
 fn readable<R: Files>(rt: &R, path: &str) -> io::Result<Option<Metadata>> {
     match look_through(rt, path) {
         Ok(found) if found.is_file() => Ok(Some(found)),
@@ -146,8 +146,8 @@ fn read_up_to<F: Read>(alloc: Global, reader: &mut F, limit: u64) -> io::Result<
     Err(io::Error::from(ErrorKind::Other))
 }
 
-/// A part of the file at a path, where links lead: no more bytes than the limit, from a place on;
-/// none where the file ends before, however far that place is.
+/// A part of the file at a path, following links: no more bytes than the limit, from a place on;
+/// none if the file ends before, however far that place is.
 /// The path and what can't be read are as those of `read_file`.
 pub fn read_part<R: Files + AllocGlobal>(
     rt: &R,
@@ -172,9 +172,8 @@ pub fn read_part<R: Files + AllocGlobal>(
     Ok(Some(read_up_to(alloc, &mut file, rest)?))
 }
 
-/// The file at a path, where links lead. What is there and is no file can't be read; it isn't
-/// opened, since that could wait for ever. A path that ends with a slash stands for the path
-/// without it.
+/// The file at a path, following links. What is there but isn't a file can't be read; it isn't
+/// opened, since that could wait for ever. A path that ends with a slash means the path without it.
 pub fn read_file<R: Files + AllocGlobal>(
     rt: &R,
     alloc: Global,

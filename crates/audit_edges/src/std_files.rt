@@ -32,7 +32,7 @@ impl<'a, R: rt::Files + AllocGlobal> StdFiles<'a, R> {
         StdFiles { rt, faults: 0 }
     }
 
-    /// The fault of a call that gave an error of this kind, which is counted unless memory ran out.
+    /// The fault of a call that gave an error of this kind, which is counted unless out of memory.
     fn fault(&mut self, kind: ErrorKind) -> FileFault
         ensures later { self.old.faults ≤ self.new.faults }
         ensures rose { result ≢ FileFault.NoMemory → CountRose self.old.faults self.new.faults }
@@ -53,7 +53,7 @@ impl<'a, R: rt::Files + AllocGlobal> StdFiles<'a, R> {
     }
 
     /// The fault of an opening that gave an error of this kind. It is counted unless it says that
-    /// nothing is there, that it is denied, or that memory ran out.
+    /// nothing is there, that it is denied, or out of memory.
     fn open_fault(&mut self, kind: ErrorKind) -> Result<LockOpenFault, NoMemory>
         ensures later { self.old.faults ≤ self.new.faults }
         ensures rose { result ≡ Ok LockOpenFault.Failed
@@ -73,9 +73,9 @@ impl<'a, R: rt::Files + AllocGlobal> StdFiles<'a, R> {
         }
     }
 
-    /// The fault of a taking that gave an error of this kind. It is counted unless it says that
-    /// another one holds the lock, where it didn't wait, that there are no locks, or that memory
-    /// ran out.
+    /// The fault of taking a lock that gave an error of this kind. It is counted unless it says
+    /// that another one holds the lock (if it didn't wait), that there are no locks, or out of
+    /// memory.
     fn take_fault(&mut self, kind: ErrorKind, block: bool) -> Result<LockTakeFault, NoMemory>
         ensures later { self.old.faults ≤ self.new.faults }
         ensures rose { result ≡ Ok LockTakeFault.Failed

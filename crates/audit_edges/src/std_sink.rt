@@ -5,7 +5,7 @@ use crate::calls::flush;
 use std::io::{self, Write};
 use tame_names::{Sink, SinkFault};
 
-/// Writes a piece whole.
+/// Writes a whole piece.
 fn write_whole<W: Write>(writer: &mut W, piece: &[u8]) -> io::Result<()> {
     writer.write_all(piece)?;
     flush(writer)

@@ -29,7 +29,7 @@ impl Waiting {
             && len.saturating_add(piece.len()) <= WAITING_LIMIT
     }
 
-    /// Adds a piece of the file. Where it doesn't follow, what waits is written first.
+    /// Adds a piece of the file. If it doesn't follow, what waits is written first.
     pub fn add<F: FileExt>(&mut self, file: &F, at: u64, piece: &[u8]) -> io::Result<()> {
         if !self.takes(at, piece) {
             self.write(file)?;
@@ -39,7 +39,7 @@ impl Waiting {
         Ok(())
     }
 
-    /// Writes what waits. Where that fails it waits on, and is written again from its beginning.
+    /// Writes what waits. If that fails it still waits, and is written again from its beginning.
     pub fn write<F: FileExt>(&mut self, file: &F) -> io::Result<()> {
         if !self.bytes.is_empty() {
             file.write_all_at(self.bytes.as_slice(), self.at)?;
