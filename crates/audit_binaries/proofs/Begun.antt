@@ -6,7 +6,7 @@ use Rattle.audit_lock.specs.declared.resolving.Package.{Package}
 use Rattle.audit_binaries.specs.Binaries.{IsBegun, IsPart, IsUncalled, Outside, Says, Scan, Tells}
 use Rattle.audit_binaries.specs.declared.opening.FoundText.{FoundText}
 
--- what a binary says is no lockfile, and nothing was called; or it is one, and a part of its audit was done
+-- what a binary says is no lockfile, and nothing was called; or it is one, and was audited in part
 pub begun_by : (tells : Tells) (scan : Scan) (began ended : Outside) (path : List ℕ) (said : FoundText) → Says tells scan path said
     → ((f : LockfileFault) → locked said.text ≡ Err f → IsUncalled began ended)
     → ((packages : List Package) → locked said.text ≡ Ok packages → IsPart tells scan began ended packages)
