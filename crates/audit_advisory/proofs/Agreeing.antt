@@ -1,4 +1,4 @@
--- Intervals whose ends have no pre-release hold the releases that cargo's `semver` matches.
+-- Intervals whose ends have no pre-release hold the same releases that cargo's `semver` matches.
 use Rattle.std.proofs.Common.{◌≡◌, ◌+◌, ◌-◌, ◌^◌, ◌<◌, ℕ, List, [], ◌∷◌, map, Option, Some, None, Bool, true, false, refl, sym, ◌∙◌, arith}
 use Rattle.std.specs.Prelude.{◌&&◌, ◌||◌, ◌==◌, length, Ok}
 use Rattle.std.specs.List.{list_all}

@@ -61,7 +61,7 @@ segments-joined (a ∷ b ∷ bs) =
 
 -- ---- no two colons within
 
--- a first segment is empty, or begins as the path does
+-- the first segment is empty, or begins as the path does
 abbrev BeginsWith : ℕ → List (List ℕ) → Type 0
 BeginsWith b [] = ⊤
 BeginsWith b ([] ∷ more) = ⊤

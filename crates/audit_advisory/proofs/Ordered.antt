@@ -25,12 +25,12 @@ goes_on-lower past Greater Less le e = absurd (omega (arith, le))
 goes_on-lower past Greater Equal le e = absurd (omega (arith, le))
 goes_on-lower past Greater Greater le e = e
 
--- where a search goes on to the right, it does so at each item before
+-- if a search goes on to the right at an item, it does so at each item before
 pub goes_on-before : {K X : Type 0} {R : K → K → Ordering} → IsTotalOrder R → (key : X → K) (xs : List X) (q : K) (past : Bool) → IsSortedByKey key R xs
     → (i j : ℕ) (d : X) → i ≤ j → j < length xs → goes_on past (R (key (get_or xs j d)) q) ≡ true → goes_on past (R (key (get_or xs i d)) q) ≡ true
 goes_on-before o key xs q past up i j d le lt e = goes_on-lower past _ _ (searchable_from_sorted o key xs q up i j d le lt) e
 
--- where it does not, it does not at each item behind
+-- if it does not, it does not at any item after
 pub goes_on-behind : {K X : Type 0} {R : K → K → Ordering} → IsTotalOrder R → (key : X → K) (xs : List X) (q : K) (past : Bool) → IsSortedByKey key R xs
     → (i j : ℕ) (d : X) → i ≤ j → j < length xs → goes_on past (R (key (get_or xs i d)) q) ≡ false → goes_on past (R (key (get_or xs j d)) q) ≡ false
 goes_on-behind {R = R} o key xs q past up i j d le lt e =
@@ -90,7 +90,8 @@ same_key {X = X} {R = R} o key xs ys moved stable q =
       | false ↦ λ e. filter_none p ys (sym (list_any-IsPermutation p xs ys moved) ∙ e) ∙ sym (filter_none p xs e)
     ] refl
 
--- what `sort_by` ensures, where each call compares by the key: the items ascend by it, and those of a key are those before the sort, in their order
+-- what `sort_by` ensures if each call compares by the key: the items ascend by it, and those of a
+-- key are those before the sort, in their order
 pub sorted_once : {K X F : Type 0} {R : K → K → Ordering} (o : IsTotalOrder R) (key : X → K) {g : Mut F (Bor X × (Bor X × Unit {0})) Ordering} {f : F} (xs ys : List X)
     → IsPermutation xs ys
     → ((lt : X → X → Bool) → IsStrictWeakOrder lt → ComparesAs g lt f → IsSortedBy lt ys)

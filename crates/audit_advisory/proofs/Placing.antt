@@ -28,7 +28,7 @@ filter_placed {A = A} n test i (x ∷ xs) low =
 places_below : {A : Type 0} (test : A → Bool) (xs : List A) → All (λ j. j < length xs) (places_where test xs)
 places_below {A = A} test xs = All-map (λ j. j < length xs) (λ (x : Placed A). x.place) _ (filter_placed (length xs) (λ (x : Placed A). test x.item) 0 xs (omega arith))
 
--- what is made of places below the counts has a fact, so all that a report tells has it
+-- if a property holds for all that is made of places below the counts, it holds for all of a report
 all_told : {B : Type 0} (P : B → Type 0) (make : ℕ → ℕ → B) (test : Package → Advisory → Bool) (advisories : List Advisory) (n i : ℕ) (packages : List Package)
     → i + length packages ≤ n → ((p a : ℕ) → p < n → a < length advisories → P (make p a)) → All P (told_from make test advisories i packages)
 all_told P make test advisories n i [] low each = All-nil P
@@ -37,11 +37,11 @@ all_told P make test advisories n i (p ∷ more) low each =
     let one = All-map P (make i) (places_where (test p) advisories) (λ k d below. each i _ here (places_below (test p) advisories k d below)) in
     rw (told_from-cons make test advisories i p more) (All-append P _ _ one (all_told P make test advisories n (suc i) more (omega (arith, low)) each))
 
--- what a vulnerability has to keep
+-- what a vulnerability must satisfy
 abbrev pub found_within : ℕ → ℕ → Vulnerability → Type 0
 found_within packages advisories v = (v.advisory < advisories) × (v.«package» < packages)
 
--- what a warning has to keep
+-- what a warning must satisfy
 abbrev warned_within : ℕ → ℕ → Warning → Type 0
 warned_within packages advisories w = (w.«package» < packages) × IfSome w.advisory (λ a. a < advisories)
 

@@ -19,7 +19,7 @@ use Rattle.audit_advisory.specs.declared.versions.Versions.{Versions}
 
 -- ---- `[versions]`
 
--- the texts at a key, none where it is absent, or a broken rule
+-- the strings at a key, none if it is absent; or a broken rule
 abbrev pub version_texts : List ℕ → Members → Result (List (List ℕ)) AdvisoryFault
 version_texts key ms = or_rule rule.Versions (optional_texts (get_member key ms))
 
@@ -30,7 +30,7 @@ versions_in ms =
 
 -- ---- `[affected]`
 
--- the segments of a path, which two colons divide
+-- the segments of a path, divided by two colons
 abbrev pub onto_segment : ℕ → List (List ℕ) → List (List ℕ)
 onto_segment b [] = (b ∷ []) ∷ []
 onto_segment b (segment ∷ more) = (b ∷ segment) ∷ more
@@ -83,7 +83,7 @@ affected_or_absent m = option_and_then affected_in (optional as_table m)
 
 -- ---- the whole
 
--- the fields beneath a title and a description
+-- the fields, with a title and a description
 abbrev pub fields_of : Members → List ℕ × List ℕ → Result Advisory AdvisoryFault
 fields_of ms titles =
     and_then (λ metadata. and_then (λ versions. and_then (λ affected.
@@ -107,7 +107,7 @@ without_floats ms = if members_have_float ms then Err fault.Float else Ok ms
 abbrev pub head_of : List ℕ → Result Members AdvisoryFault
 head_of head = and_then without_floats (or_fault fault.Toml (parse_document head))
 
--- the head, the title, the fields, in this order; `parted` is the head and what follows it
+-- read in this order: the head, the title, the fields; `parted` is the head and what follows it
 abbrev pub advisory_in : List ℕ × List ℕ → Result Advisory AdvisoryFault
 advisory_in parted =
     and_then (λ ms. and_then (fields_of ms) (or_rule rule.Title (titled parted.1)))

@@ -9,7 +9,7 @@ abbrev pub HasNext : Option ℕ → Type 0
 HasNext None = ⊤
 HasNext (Some n) = n < 2 ^ 64 - 1
 
--- no part is stated behind a missing one, and `*` stands for at least one
+-- no part is stated after a missing one, and `*` leaves at least one out
 abbrev pub StandsInOrder : Op → Option ℕ → Option ℕ → Type 0
 StandsInOrder o None None = ⊤
 StandsInOrder o None (Some p) = ⊥

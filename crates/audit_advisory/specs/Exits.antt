@@ -20,7 +20,7 @@ same_kind _ _ = false
 abbrev pub denies : WarningKind → DenyOption → Bool
 denies k option = list_any (λ denied. same_kind denied k) (warning_kinds_of option)
 
--- some option does
+-- some option denies this kind
 abbrev pub is_denied : List DenyOption → WarningKind → Bool
 is_denied options k = list_any (denies k) options
 
@@ -28,7 +28,7 @@ is_denied options k = list_any (denies k) options
 abbrev pub has_denied : List Warning → List DenyOption → Bool
 has_denied warnings options = list_any (λ warning. is_denied options warning.kind) warnings
 
--- a report has a vulnerability, or such a warning
+-- a report has a vulnerability, or a warning of a denied kind
 abbrev pub report_fails : Report → List DenyOption → Bool
 report_fails report options =
     not (length report.vulnerabilities == 0) || has_denied report.warnings options
@@ -41,11 +41,11 @@ is_warnings _ = false
 abbrev pub denies_self : List DenyOption → Bool
 denies_self options = list_any is_warnings options
 
--- there are such advisories, and they are denied
+-- there are advisories on the auditor itself, and they are denied
 abbrev pub self_fails : List DenyOption → List ℕ → Bool
 self_fails options self_advisories = not (length self_advisories == 0) && denies_self options
 
--- an audit fails by its report, or by the advisories on the auditor itself
+-- an audit fails because of its report, or of the advisories on the auditor itself
 abbrev pub fails : Report → List DenyOption → List ℕ → Bool
 fails report options self_advisories =
     report_fails report options || self_fails options self_advisories

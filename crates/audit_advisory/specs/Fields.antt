@@ -16,12 +16,12 @@ use Rattle.audit_advisory.specs.declared.metadata.Metadata.{Metadata}
 abbrev pub or_rule : {A : Type 0} → AdvisoryRule → Option A → Result A AdvisoryFault
 or_rule r read = or_fault (fault.Rule r) read
 
--- a text that isn't empty
+-- a string that isn't empty
 abbrev pub as_filled : Data → Option (List ℕ)
 as_filled (string s) = if length s == 0 then None else Some s
 as_filled _ = None
 
--- a text has this form: a digit for each `d`, and every other byte itself
+-- a string has this form: a digit for each `d`, and every other byte as it is
 abbrev pub has_form : List ℕ → List ℕ → Bool
 has_form [] [] = true
 has_form [] (b ∷ bs) = false
@@ -31,12 +31,12 @@ has_form (f ∷ fs) (b ∷ bs) = (if f == 100 then is_ascii_digit b else b == f)
 abbrev pub is_date : List ℕ → Bool
 is_date s = has_form (codes "dddd-dd-dd") s
 
--- a text of the form of a date: year, month and day in digits, whatever they are
+-- a string in the form of a date: year, month and day in digits, whatever they are
 abbrev pub as_date : Data → Option (List ℕ)
 as_date (string s) = if is_date s then Some s else None
 as_date _ = None
 
--- what an advisory informs of
+-- what an advisory informs about
 abbrev pub kind_of : List ℕ → Informational
 kind_of s =
     if bytes_eq s (codes "notice") then informational.Notice
@@ -75,7 +75,7 @@ informational_field ms =
 abbrev pub score_field : Members → Result (Option ℕ) AdvisoryFault
 score_field ms = or_rule rule.Score (score_or_absent (get_member (codes "score_tenths") ms))
 
--- id, package, date, withdrawn, url, source, license, cvss, informational and score, in this order
+-- in this order: id, package, date, withdrawn, url, source, license, cvss, informational, score
 abbrev pub metadata_of : List ℕ × List ℕ → Members → Result Metadata AdvisoryFault
 metadata_of titles ms =
     and_then (λ id. and_then (λ «package». and_then

@@ -1,4 +1,4 @@
--- The interval of versions that a comparator stands for, by its operator, its parts and its
+-- The interval of versions of a comparator, by its operator, its parts and its
 -- pre-release.
 use Rattle.std.specs.Prelude.{ℕ, ◌+◌, ◌-◌, ◌^◌, nat_lt, codes, List, [], Bool, true, false, ◌&&◌, Option, Some, None, option_map, if◌then◌else◌}
 use Rattle.std.specs.List.{list_all}
@@ -14,14 +14,14 @@ use Rattle.audit_advisory.specs.declared.bounds.Upper.{Upper}
 use Rattle.audit_advisory.specs.declared.bounds.Upper.TheVariants as upper
 use Rattle.audit_advisory.specs.declared.intervals.Interval.{Interval}
 
--- a version keeps a lower bound
+-- a version is within a lower bound
 abbrev pub keeps_lower : Lower → Point → Bool
 keeps_lower lower.Free v = true
 keeps_lower (lower.From edge) v = is_ge (precedence v edge)
 keeps_lower (lower.Above edge) v = is_gt (precedence v edge)
 keeps_lower lower.Unreachable v = false
 
--- a version keeps an upper bound
+-- a version is within an upper bound
 abbrev pub keeps_upper : Upper → Point → Bool
 keeps_upper upper.Free v = true
 keeps_upper (upper.UpTo edge) v = is_le (precedence v edge)
@@ -31,15 +31,15 @@ keeps_upper (upper.Below edge) v = is_lt (precedence v edge)
 abbrev pub lies_in : Interval → Point → Bool
 lies_in i v = keeps_lower i.lower v && keeps_upper i.upper v
 
--- a version lies in each of these
+-- a version lies in each of these intervals
 abbrev pub lies_in_each : List Interval → Point → Bool
 lies_in_each is v = list_all (λ i. lies_in i v) is
 
--- a part raised by one, where it still has 64 bits
+-- a part raised by one, if it still has 64 bits
 abbrev pub raised : ℕ → Option ℕ
 raised n = if nat_lt n (2 ^ 64 - 1) then Some (n + 1) else None
 
--- the release with this part raised, and what follows it 0
+-- the release with this part raised and the parts after it 0
 abbrev pub next_major : ℕ → Option Release
 next_major major = option_map (λ next. record { major = next; minor = 0; patch = 0 }) (raised major)
 
@@ -57,7 +57,7 @@ next_patch major minor patch = option_map (λ next. record {
   patch = next;
 }) (raised patch)
 
--- from a release; where there is none, nothing is that high
+-- from a release; if there is none, nothing is that high
 abbrev pub from_release : Option Release → Lower
 from_release None = lower.Unreachable
 from_release (Some r) = lower.From (record {
@@ -67,7 +67,7 @@ from_release (Some r) = lower.From (record {
   pre = [];
 })
 
--- below `M.m.p-0`, the lowest pre-release of a release; where there is none, everything is
+-- below `M.m.p-0`, the lowest pre-release of a release; if there is none, everything is
 abbrev pub below_release : Option Release → Upper
 below_release None = upper.Free
 below_release (Some r) = upper.Below (record {
@@ -86,24 +86,24 @@ part (Some n) = n
 abbrev pub stated : Held → Point
 stated c = record { major = c.1; minor = part c.2; patch = part c.3; pre = c.4 }
 
--- above a whole version, from the next of the last part otherwise: `>`
+-- `>`: above a full version; else from the next of the last stated part
 abbrev pub past_parts : Option ℕ → Option ℕ → Held → Lower
 past_parts None patch c = from_release (next_major c.1)
 past_parts (Some m) None c = from_release (next_minor c.1 m)
 past_parts (Some m) (Some p) c = lower.Above (stated c)
 
--- up to a whole version, below the next of the last part otherwise: `=` and `<=`
+-- `=` and `<=`: up to a full version; else below the next of the last stated part
 abbrev pub up_to_parts : Option ℕ → Option ℕ → Held → Upper
 up_to_parts None patch c = below_release (next_major c.1)
 up_to_parts (Some m) None c = below_release (next_minor c.1 m)
 up_to_parts (Some m) (Some p) c = upper.UpTo (stated c)
 
--- below the next minor version, the next major one where no minor is stated: `~` and `*`
+-- `~` and `*`: below the next minor version; if no minor is stated, below the next major one
 abbrev pub alike_parts : Option ℕ → ℕ → Option Release
 alike_parts None major = next_major major
 alike_parts (Some m) major = next_minor major m
 
--- below the next of the first part that isn't 0, of the last part where all are: `^`
+-- `^`: below the next of the first part that isn't 0; if all are 0, of the last stated part
 abbrev pub compatible_patch : Option ℕ → ℕ → ℕ → Option Release
 compatible_patch None major minor = next_minor major minor
 compatible_patch (Some p) major minor = next_patch major minor p

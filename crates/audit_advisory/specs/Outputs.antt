@@ -1,4 +1,4 @@
--- The words for what an audit denies and for the forms of its report, and what they stand for.
+-- The words for what an audit denies and for the forms of its report, and what they mean.
 use Rattle.std.specs.Prelude.{ℕ, codes, List, [], ◌∷◌, Bool, true, false, ◌||◌, bytes_eq, Option, Some, None, if◌then◌else◌}
 use Rattle.audit_advisory.specs.declared.outputs.DenyOption.{DenyOption}
 use Rattle.audit_advisory.specs.declared.outputs.DenyOption.TheVariants as deny
@@ -11,7 +11,7 @@ use Rattle.audit_advisory.specs.declared.outputs.WarningKind.TheVariants as kind
 abbrev pub all_deny_options : List DenyOption
 all_deny_options = deny.Warnings ∷ deny.Unmaintained ∷ deny.Unsound ∷ deny.Yanked ∷ []
 
--- the place of an option in their order
+-- the place of an option in the order of all
 abbrev pub deny_place : DenyOption → ℕ
 deny_place deny.Warnings = 0
 deny_place deny.Unmaintained = 1
@@ -26,7 +26,7 @@ deny_option_of s =
     else if bytes_eq s (codes "yanked") then Some deny.Yanked
     else None
 
--- an option denies its own kind, `warnings` all but notices
+-- an option denies its own kind, `warnings` denies all but notices
 abbrev pub warning_kinds_of : DenyOption → List WarningKind
 warning_kinds_of deny.Warnings = kind.Unmaintained ∷ kind.Unsound ∷ kind.Yanked ∷ []
 warning_kinds_of deny.Unmaintained = kind.Unmaintained ∷ []
@@ -40,7 +40,7 @@ output_format_of s =
     else if bytes_eq s (codes "terminal") then Some format.Terminal
     else None
 
--- a form that a machine reads
+-- a form that machines read
 abbrev pub is_for_machines : OutputFormat → Bool
 is_for_machines format.Json = true
 is_for_machines format.Sarif = true

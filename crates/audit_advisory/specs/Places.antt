@@ -7,7 +7,7 @@ pub record Placed (A : Type 0) : Type 0 where
   pub place : ℕ
   pub item : A
 
--- those of a list that begins at a place
+-- the items of a list that begins at a place
 abbrev pub placed_from : {A : Type 0} → ℕ → List A → List (Placed A)
 placed_from i [] = []
 placed_from i (x ∷ xs) = record { place = i; item = x } ∷ placed_from (suc i) xs

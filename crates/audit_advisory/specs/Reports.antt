@@ -27,7 +27,7 @@ advisory_at advisories place = option_and_then (slice_get advisories) place
 abbrev pub counts : Settings → Advisory → Bool
 counts settings a = is_none a.metadata.withdrawn && not (is_among a.metadata.id settings.ignore)
 
--- it counts, and affects a package of its name
+-- an advisory counts, and affects a package of its name
 abbrev pub speaks_of : Settings → Package → Advisory → Bool
 speaks_of settings p a = counts settings a && affects settings a p
 
@@ -36,13 +36,13 @@ speaks_of settings p a = counts settings a && affects settings a p
 abbrev pub is_plain : Advisory → Bool
 is_plain a = is_none a.metadata.informational
 
--- one that isn't informational counts, and hits a package
+-- an advisory counts, isn't informational, and hits a package
 abbrev pub is_vulnerability : Settings → Package → Advisory → Bool
 is_vulnerability settings p a = is_plain a && counts settings a && hits settings a p
 
 -- ---- warnings
 
--- this is what a warning of a kind tells
+-- a warning of this kind is about this kind of advisory
 abbrev pub tells : WarningKind → Informational → Bool
 tells kind.Notice told.Notice = true
 tells kind.Unmaintained told.Unmaintained = true
@@ -62,7 +62,7 @@ is_listed k settings =
 abbrev pub is_warned_of : WarningKind → Settings → Advisory → Bool
 is_warned_of k settings a = is_told k a.metadata.informational && is_listed k settings
 
--- such a one counts, and hits a package
+-- such an advisory counts, and hits a package
 abbrev pub is_warning : Settings → WarningKind → Package → Advisory → Bool
 is_warning settings k p a = is_warned_of k settings a && counts settings a && hits settings a p
 
@@ -80,7 +80,7 @@ pair_of p a = record { locked = p; advisory = a }
 abbrev pub all_pairs : List (Placed Package) → List (Placed Advisory) → List Pair
 all_pairs packages advisories = flat_map (λ p. map (pair_of p) advisories) packages
 
--- those that pass a test
+-- the pairs that pass a test
 abbrev pub pairs_where : (Package → Advisory → Bool) → List Package → List Advisory → List Pair
 pairs_where test packages advisories =
     filter (λ (pair : Pair). test pair.locked.item pair.advisory.item)
@@ -126,6 +126,6 @@ pub record IsPlaced (report : Report) : Type 0 where
 abbrev pub yanked_at : ℕ → Warning
 yanked_at i = record { kind = kind.Yanked; «package» = i; advisory = None }
 
--- warnings of these packages stand behind the others
+-- warnings for these packages come after the others
 abbrev pub with_yanked : Report → List ℕ → Report
 with_yanked report packages = record report { warnings = report.warnings ++ map yanked_at packages }

@@ -10,21 +10,21 @@ abbrev pub intervals_from : {E : Type 0} → Result (List Held) E → Option (Li
 intervals_from (Ok comparators) = Some (map interval_of comparators)
 intervals_from (Err e) = None
 
--- the interval of each comparator that `semver` reads in a text; nothing where it refuses the text
+-- the interval of each comparator that `semver` reads in a text; none if it refuses the text
 abbrev pub intervals_of : List ℕ → Option (List Interval)
 intervals_of text = intervals_from (req_of text)
 
--- a text that is a requirement
+-- a string that is a requirement
 abbrev pub requirement_of : List ℕ → Option (List ℕ)
 requirement_of text = if is_some (intervals_of text) then Some text else None
 
--- the texts, if each is a requirement
+-- the strings, if each is a requirement
 abbrev pub requirements_of : List (List ℕ) → Option (List (List ℕ))
 requirements_of [] = Some []
 requirements_of (text ∷ texts) =
     option_and_then (λ r. option_map (λ rs. r ∷ rs) (requirements_of texts)) (requirement_of text)
 
--- a version lies in each of the intervals, if there are any to speak of
+-- there are intervals, and a version lies in each of them
 abbrev pub meets_in : Option (List Interval) → Point → Bool
 meets_in None v = false
 meets_in (Some is) v = lies_in_each is v

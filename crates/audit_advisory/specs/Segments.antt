@@ -1,13 +1,13 @@
--- Paths of functions and their segments, whatever way they are cut (this project).
+-- Paths of functions and their segments, however they are cut (this project).
 use Rattle.std.specs.Prelude.{ℕ, codes, List, [], ◌∷◌, ◌++◌, Bool, false, ◌&&◌, ◌||◌, ◌==◌}
 
--- segments with two colons between each two
+-- the segments, joined by two colons
 abbrev pub joined : List (List ℕ) → List ℕ
 joined [] = []
 joined (segment ∷ []) = segment
 joined (segment ∷ next ∷ more) = segment ++ codes "::" ++ joined (next ∷ more)
 
--- a text has two colons side by side
+-- a string has two colons side by side
 abbrev pub has_colons : List ℕ → Bool
 has_colons [] = false
 has_colons (a ∷ []) = false

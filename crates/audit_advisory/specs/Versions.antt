@@ -8,7 +8,7 @@ use Rattle.audit_advisory.specs.declared.faults.AdvisoryFault.{AdvisoryFault}
 use Rattle.audit_advisory.specs.declared.faults.AdvisoryFault.TheVariants as fault
 use Rattle.audit_advisory.specs.declared.faults.AdvisoryRule.TheVariants as rule
 
--- the requirements of two lists of texts
+-- the requirements of two lists of strings
 abbrev pub versions_of : List (List ℕ) → List (List ℕ) → Result Versions AdvisoryFault
 versions_of patched unaffected =
     and_then (λ ps. and_then (λ us. Ok (record { patched = ps; unaffected = us }))

@@ -23,15 +23,15 @@ pub struct Advisory {
     pub metadata: Metadata,
     /// Which versions are patched and unaffected; the others are vulnerable.
     pub versions: Versions,
-    /// The architectures that are affected; all, where there is none.
+    /// The architectures that are affected; all, if the list is empty.
     pub arch: Items<Text>,
-    /// The systems that are affected; all, where there is none.
+    /// The systems that are affected; all, if the list is empty.
     pub os: Items<Text>,
-    /// The functions that are affected, with the versions of each; none need be named.
+    /// The functions that are affected, with the versions of each; may be empty.
     pub functions: Items<Function>,
 }
 
-/// A head, which is TOML without floats.
+/// Reads a head, which is TOML without floats.
 fn read_head(alloc: Global, head: &str) -> Result<Table, AdvisoryFault>
     ensures ok { IfOk result (λ table. head_of head.now ≡ Ok (table_view table)) }
     ensures refused { IfErr result (λ e. e ≢ AdvisoryFault.NoMemory → head_of head.now ≡ Err e) }
@@ -48,7 +48,7 @@ fn read_head(alloc: Global, head: &str) -> Result<Table, AdvisoryFault>
     }
 }
 
-/// The texts at a key of `[versions]`, none where it is absent.
+/// The strings at a key of `[versions]`, none if it is absent.
 fn version_texts(alloc: Global, table: &Table, key: &str) -> Result<Items<Text>, AdvisoryFault>
     ensures ok { IfOk result (λ ts. spec.version_texts key.now (table_view table.now) ≡ Ok ts) }
     ensures refused { IfErr result (λ e. e ≢ AdvisoryFault.NoMemory
@@ -71,7 +71,7 @@ fn read_versions(alloc: Global, table: &Table) -> Result<Versions, AdvisoryFault
     Versions::new(alloc, &patched, &unaffected)
 }
 
-/// The fields of a head, beneath a title and a description.
+/// The fields of a head, with a title and a description.
 fn read_fields(
     alloc: Global,
     table: &Table,
@@ -103,7 +103,7 @@ fn read_fields(
     })
 }
 
-/// The advisory of a head and of what follows it.
+/// The advisory of a head and what follows it.
 fn read_parted(alloc: Global, head: &str, behind: &str) -> Result<Advisory, AdvisoryFault>
     ensures ok { IfOk result (λ a. advisory_in (head.now, behind.now) ≡ Ok a) }
     ensures refused { IfErr result (λ e. e ≢ AdvisoryFault.NoMemory
@@ -118,7 +118,7 @@ fn read_parted(alloc: Global, head: &str, behind: &str) -> Result<Advisory, Advi
 
 impl Advisory {
     /// The advisory that a text is, or the first rule that it breaks: `Fence`, `Toml`, `Float`,
-    /// `Title`, and then the fields `[advisory]`, id, package, date, withdrawn, url, source,
+    /// `Title`, then the fields `[advisory]`, id, package, date, withdrawn, url, source,
     /// license, cvss, informational, score, `[versions]` and `[affected]`.
     pub fn read(alloc: Global, text: &str) -> Result<Advisory, AdvisoryFault>
         ensures ok { IfOk result (λ advisory. advisory_of text.now ≡ Ok advisory) }

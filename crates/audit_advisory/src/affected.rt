@@ -1,4 +1,4 @@
-//! What of a package an advisory affects.
+//! Which part of a package an advisory affects.
 ghost use Rattle.std.specs.Prelude.{◌≡◌, ◌∷◌, ◌++◌, ◌<◌, [], length, MatchOption, IfOk, IfSome, option_map};
 ghost use Rattle.toml.specs.View.{view, table_view};
 ghost use Rattle.audit_advisory.specs.Advisories as spec;
@@ -13,7 +13,7 @@ use toml_tables::{member, optional_table, optional_texts, texts_of};
 /// A function's path, cut at `::`.
 pub type FunctionPath = Items<Text>;
 
-/// An affected function, and the versions in which it is.
+/// An affected function, and the versions in which it is affected.
 #[derive(Debug, Drop, PartialEq, Eq)]
 pub struct Function {
     /// The function's path.
@@ -22,7 +22,7 @@ pub struct Function {
     pub versions: Items<Requirement>,
 }
 
-/// What of a package is affected; an empty list of architectures or systems stands for all.
+/// Which part of a package is affected; an empty list of architectures or systems means all.
 #[derive(Debug, Drop)]
 pub struct Affected {
     /// The architectures.
@@ -33,7 +33,7 @@ pub struct Affected {
     pub functions: Items<Function>,
 }
 
-/// The first segment and what follows its `::`, where there is one.
+/// The first segment and what follows its `::`, if there is one.
 fn cut_segment(path: &str) -> Option<(&str, &str)>
     ensures segments { MatchOption result (spec.segments path.now ≡ path.now ∷ [])
         (λ p. spec.segments path.now ≡ p.0.now ∷ spec.segments p.1.now) }
@@ -126,7 +126,7 @@ fn affected_of(alloc: Global, table: &Table) -> Result<Option<Affected>, NoMemor
     }))
 }
 
-/// What the table `[affected]` says; nothing where it is absent.
+/// What the table `[affected]` says; nothing if it is absent.
 pub fn affected_or_absent(
     alloc: Global,
     member: Option<&Value>,

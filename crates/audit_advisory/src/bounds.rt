@@ -18,7 +18,7 @@ pub enum Lower {
     Free,
     /// At this edge, which is inside.
     From(Edge),
-    /// Behind this edge, which is outside.
+    /// After this edge, which is outside.
     Above(Edge),
     /// No version is high enough: its number would pass 64 bits.
     Unreachable,
@@ -31,7 +31,7 @@ pub enum Upper {
     Free,
     /// At this edge, which is inside.
     UpTo(Edge),
-    /// In front of this edge, which is outside.
+    /// Before this edge, which is outside.
     Below(Edge),
 }
 
@@ -62,7 +62,7 @@ impl Upper {
     }
 }
 
-/// A part raised by one, where it still has 64 bits.
+/// A part raised by one, if it still has 64 bits.
 fn raised(part: u64) -> Option<u64>
     ensures { result ≡ spec.raised part }
 {
@@ -73,7 +73,7 @@ fn raised(part: u64) -> Option<u64>
     }
 }
 
-/// The next major release, where there is one.
+/// The next major release, if there is one.
 pub fn next_major(major: u64) -> Option<Release>
     ensures { result ≡ spec.next_major major }
 {
@@ -85,7 +85,7 @@ pub fn next_major(major: u64) -> Option<Release>
     })
 }
 
-/// The next minor release, where there is one.
+/// The next minor release, if there is one.
 pub fn next_minor(major: u64, minor: u64) -> Option<Release>
     ensures { result ≡ spec.next_minor major minor }
 {
@@ -97,7 +97,7 @@ pub fn next_minor(major: u64, minor: u64) -> Option<Release>
     })
 }
 
-/// The next patch release, where there is one.
+/// The next patch release, if there is one.
 pub fn next_patch(major: u64, minor: u64, patch: u64) -> Option<Release>
     ensures { result ≡ spec.next_patch major minor patch }
 {
@@ -125,7 +125,7 @@ fn copied_pre(alloc: Global, pre: &Prerelease) -> Result<Prerelease, NoMemory>
     Ok(pre.clone()?)
 }
 
-/// The version that a comparator states, its missing parts 0.
+/// The version that a comparator states, with missing parts as 0.
 pub fn stated(alloc: Global, comparator: &Comparator) -> Result<Edge, NoMemory>
     ensures { IfOk result (λ edge. edge ≡ spec.stated (comparator_view comparator.now)) }
 {
@@ -137,7 +137,7 @@ pub fn stated(alloc: Global, comparator: &Comparator) -> Result<Edge, NoMemory>
     Ok(Edge::at(release, copied_pre(alloc, &comparator.pre)?))
 }
 
-/// From a release; where there is none, nothing is that high.
+/// From a release; if there is none, nothing is that high.
 pub fn from_release(release: Option<Release>) -> Lower
     ensures { result ≡ spec.from_release release }
 {
@@ -147,7 +147,7 @@ pub fn from_release(release: Option<Release>) -> Lower
     }
 }
 
-/// Below the lowest pre-release of a release; where there is none, everything is.
+/// Below the lowest pre-release of a release; if there is none, everything is.
 pub fn below_release(alloc: Global, release: Option<Release>) -> Result<Upper, NoMemory>
     ensures { IfOk result (λ end. end ≡ spec.below_release release) }
 {

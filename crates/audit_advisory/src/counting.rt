@@ -8,7 +8,7 @@ use std::cmp::Ordering;
 /// How many comparisons of names were made.
 #[derive(Debug, Drop, PartialEq, Eq)]
 pub struct Comparisons {
-    /// From 2^64 - 1 on it stays there.
+    /// At 2^64 - 1 it stays there.
     pub made: u64,
 }
 

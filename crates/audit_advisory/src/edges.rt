@@ -1,4 +1,4 @@
-//! Places in the order of versions.
+//! Points in the order of versions.
 ghost use Rattle.std.specs.Prelude.{◌≡◌};
 ghost use Rattle.semver.specs.Identifiers.{pre_text};
 ghost use Rattle.audit_advisory.specs.Points.{Point, point_of, precedence};
@@ -7,7 +7,7 @@ use semver::{BuildMetadata, Prerelease, Version};
 use std::cmp::Ordering;
 use std::marker::Model;
 
-/// A place in the order of versions. Contracts see its numbers and its pre-release.
+/// A point in the order of versions. Contracts see its numbers and its pre-release.
 #[derive(Debug, Drop)]
 pub struct Edge {
     version: Version,
@@ -51,7 +51,7 @@ impl Edge {
         }
     }
 
-    /// How a version compares with this place.
+    /// How a version compares with this point.
     pub fn order_of(&self, version: &Version) -> Ordering
         ensures { result ≡ precedence (point_of version.now) self.now }
     {

@@ -50,22 +50,22 @@ pub fn denies_self(deny: &[DenyOption]) -> bool
     false
 }
 
-/// Whether an audit fails by its report: it has a vulnerability, or a warning of a kind that some
-/// option denies.
+/// Whether an audit fails because of its report: it has a vulnerability, or a warning of a kind
+/// that some option denies.
 pub fn report_fails(report: &Report, deny: &[DenyOption]) -> bool
     ensures { result ≡ spec.report_fails report.now deny.now }
 {
     !report.vulnerabilities.as_slice().is_empty() || has_denied(report.warnings.as_slice(), deny)
 }
 
-/// Whether an audit fails by advisories on the auditor itself, which `warnings` denies.
+/// Whether an audit fails because of advisories on the auditor itself, which `warnings` denies.
 pub fn self_fails(deny: &[DenyOption], self_advisories: &[usize]) -> bool
     ensures { result ≡ spec.self_fails deny.now self_advisories.now }
 {
     !self_advisories.is_empty() && denies_self(deny)
 }
 
-/// Whether an audit fails: by its report, or by advisories on the auditor itself.
+/// Whether an audit fails, because of its report or of advisories on the auditor itself.
 pub fn fails(report: &Report, deny: &[DenyOption], self_advisories: &[usize]) -> bool
     ensures { result ≡ spec.fails report.now deny.now self_advisories.now }
 {

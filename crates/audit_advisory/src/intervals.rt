@@ -1,4 +1,4 @@
-//! The interval of versions that a comparator stands for.
+//! The interval of versions of a comparator.
 ghost use Rattle.std.specs.Prelude.{◌≡◌, IfOk};
 ghost use Rattle.semver.specs.Identifiers.{comparator_view};
 ghost use Rattle.audit_advisory.specs.Points.{point_of};
@@ -20,7 +20,7 @@ pub struct Interval {
     upper: Upper,
 }
 
-/// Above a whole version, from the next of the last part otherwise.
+/// Above a full version; else from the next of the last stated part.
 fn past(alloc: Global, comparator: &Comparator) -> Result<Lower, NoMemory>
     ensures { IfOk result (λ l. l
         ≡ past_parts comparator.now.minor comparator.now.patch (comparator_view comparator.now)) }
@@ -32,7 +32,7 @@ fn past(alloc: Global, comparator: &Comparator) -> Result<Lower, NoMemory>
     }
 }
 
-/// Up to a whole version, below the next of the last part otherwise.
+/// Up to a full version; else below the next of the last stated part.
 fn up_to(alloc: Global, comparator: &Comparator) -> Result<Upper, NoMemory>
     ensures { IfOk result (λ u. u
         ≡ up_to_parts comparator.now.minor comparator.now.patch (comparator_view comparator.now)) }
@@ -44,7 +44,7 @@ fn up_to(alloc: Global, comparator: &Comparator) -> Result<Upper, NoMemory>
     }
 }
 
-/// The next minor release, the next major one where no minor number is stated.
+/// The next minor release; if no minor number is stated, the next major one.
 fn alike(comparator: &Comparator) -> Option<Release>
     ensures { result ≡ alike_parts comparator.now.minor comparator.now.major }
 {
@@ -54,7 +54,7 @@ fn alike(comparator: &Comparator) -> Option<Release>
     }
 }
 
-/// The next release in the first part that isn't 0, in the last part where all are.
+/// The next release in the first part that isn't 0; if all are 0, in the last stated part.
 fn compatible(comparator: &Comparator) -> Option<Release>
     ensures { result ≡ spec.compatible (comparator_view comparator.now) }
 {

@@ -1,4 +1,4 @@
-//! What holds of every interval, in the words of Semantic Versioning 2.0.0, and of every path.
+//! What holds for every interval, in the terms of Semantic Versioning 2.0.0, and for every path.
 ghost use Rattle.std.specs.Prelude.{◌≡◌, ◌↔◌, ◌<◌, ◌-◌, ◌^◌, ℕ, codes, List, [], map, Option, Some, Ok, IsTrue, false};
 ghost use Rattle.std.specs.List.{All};
 ghost use Rattle.std.specs.Ordering.{nat_cmp};
@@ -20,7 +20,7 @@ ghost use Rattle.audit_advisory.specs.Segments.{has_colons, joined};
 use crate::outputs::{DenyOption, VERSION};
 use std::cmp::Ordering;
 
-/// What options of denial compare as: their places in the order of all four.
+/// Options of denial compare by their places in the order of all four.
 pub fn deny_options_compare(one: DenyOption, other: DenyOption) -> Ordering
     ensures { result ≡ nat_cmp (deny_place one) (deny_place other) }
 {
@@ -41,8 +41,8 @@ pub fn exact_holds_one_precedence()
         ≡ ordering.Equal) }
 {}
 
-/// A release that `^` holds has the first stated number that isn't 0, and the zeros before it: only
-/// a new major version, or anything in major version 0, may break its users (sections 4 and 8).
+/// A release that `^` holds has the same first number that isn't 0, and the zeros before it: only a
+/// new major version, or anything in major version 0, may break its users (sections 4 and 8).
 pub fn caret_keeps_the_first_number()
     ensures major { (a : ℕ) (minor patch : Option ℕ) (pre : List ℕ) (v : Point)
         → 0 < a → a < 2 ^ 64 - 1 → v.pre ≡ []
@@ -56,8 +56,8 @@ pub fn caret_keeps_the_first_number()
         → (v.major ≡ 0) × (v.minor ≡ 0) × (v.patch ≡ c) }
 {}
 
-/// Where no end has a pre-release, intervals hold the releases that cargo's own matching does: of
-/// one comparator, and of a requirement. The two part at pre-releases, and at ends of 2^64 - 1.
+/// If no end has a pre-release, intervals hold the same releases as cargo's own matching: for one
+/// comparator, and for a requirement. They differ at pre-releases, and at ends of 2^64 - 1.
 pub fn releases_are_as_for_cargo()
     ensures one { (c : Comparator) (v : Version) → IsPlain (comparator_view c)
         → pre_text v.pre ≡ []
@@ -67,7 +67,7 @@ pub fn releases_are_as_for_cargo()
         → pre_text v.pre ≡ [] → meets text (point_of v) ≡ matches_all cs v }
 {}
 
-/// The segments of a path, with two colons between each two, are the path; and none of them has two
+/// The segments of a path, joined by two colons, are the path; and none of them has two
 /// colons side by side.
 pub fn segments_give_the_path()
     ensures joined { (path : List ℕ) → joined (segments path) ≡ path }

@@ -1,10 +1,10 @@
-//! Security advisories: their texts, their versions, the packages that they hit, and the report on
+//! Security advisories: their texts, their versions, the packages they hit, and the report on
 //! a lockfile.
 //!
-//! Promises: a text reads to its advisory, or the first rule that it breaks is named; a version
-//! meets a requirement exactly by a table of bounds; a report is the filter over all pairs of a
-//! package and an advisory, made with a bound on the comparisons of names.
-//! Stands on `tame_names`, `toml_tables`, the lockfiles of `audit_lock`, and `semver`.
+//! Promises: a text reads to its advisory, or to the first rule that it breaks; whether a version
+//! meets a requirement follows from a table of bounds; a report is the filter over all pairs of a
+//! package and an advisory, and the number of comparisons of names has a bound.
+//! Depends on `tame_names`, `toml_tables`, the lockfiles of `audit_lock`, and `semver`.
 //!
 //! ```ignore
 //! // crates/uses/src/audits.rt: is_hit

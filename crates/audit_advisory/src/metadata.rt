@@ -11,7 +11,7 @@ use tame_names::{NoMemory, Text};
 use toml::{Table, Value};
 use toml_tables::{member, optional_number, optional_text};
 
-/// What an advisory informs of, where it tells of no vulnerability.
+/// What an advisory informs about, if it reports no vulnerability.
 #[derive(Debug, Drop, PartialEq, Eq)]
 pub enum Informational {
     /// Something to note.
@@ -27,23 +27,23 @@ pub enum Informational {
 /// What an advisory says of itself.
 #[derive(Debug, Drop, PartialEq, Eq)]
 pub struct Metadata {
-    /// The id, as `RUSTSEC-2024-0001`; it isn't empty.
+    /// The id, for example `RUSTSEC-2024-0001`; it isn't empty.
     pub id: Text,
     /// The name of the package that it is about; it isn't empty.
     pub package: Text,
-    /// The rest of the line behind `# `.
+    /// The rest of the line after `# `.
     pub title: Text,
     /// What follows the title.
     pub description: Text,
-    /// Year, month and day, as `2024-01-31`.
+    /// Year, month and day, in the form `2024-01-31`.
     pub date: Text,
-    /// Where more is said, if it is stated.
+    /// A link with more information, if it is stated.
     pub url: Option<Text>,
     /// The source of the package, as a lockfile writes it, if it is stated.
     pub source: Option<Text>,
-    /// What is informed of; none where the advisory tells of a vulnerability.
+    /// What it informs about; none if the advisory reports a vulnerability.
     pub informational: Option<Informational>,
-    /// Year, month and day, as `2024-01-31`.
+    /// Year, month and day, in the form `2024-01-31`.
     pub withdrawn: Option<Text>,
     /// The licence of the advisory's text, if it is stated.
     pub license: Option<Text>,
@@ -63,7 +63,7 @@ fn filled_text<'a>(member: Option<&'a Value>) -> Option<&'a str>
     }
 }
 
-/// Whether a text has this form: a digit for each `d`, and every other byte itself.
+/// Whether a string has this form: a digit for each `d`, and every other byte as it is.
 fn has_form(form: &[u8], text: &[u8]) -> bool
     ensures { result ≡ spec.has_form form.now text.now }
 {
@@ -122,7 +122,7 @@ fn score_or_absent(member: Option<&Value>) -> Option<Option<u8>>
 }
 
 impl Informational {
-    /// What a text informs of.
+    /// The kind that a string names.
     pub fn of(alloc: Global, text: &str) -> Result<Informational, NoMemory>
         ensures { IfOk result (λ kind. kind ≡ kind_of text.now) }
     {
@@ -150,7 +150,7 @@ impl Informational {
     }
 }
 
-/// A text that isn't empty, at a key.
+/// A string that isn't empty, at a key.
 fn filled_field(
     alloc: Global,
     table: &Table,
@@ -167,7 +167,7 @@ fn filled_field(
     }
 }
 
-/// A text at a key, or nothing where it is absent.
+/// A string at a key, or nothing if it is absent.
 fn text_field(
     alloc: Global,
     table: &Table,
@@ -227,7 +227,7 @@ fn score_field(table: &Table) -> Result<Option<u8>, AdvisoryFault>
     }
 }
 
-/// What the table `[advisory]` says, beneath a title and a description.
+/// What the table `[advisory]` says, with a title and a description.
 pub fn read_metadata(
     alloc: Global,
     title: &str,

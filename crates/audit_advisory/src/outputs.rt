@@ -8,10 +8,10 @@ use std::alloc::Global;
 use std::str::FromStr;
 use tame_names::{Items, NoMemory};
 
-/// The version of `cargo-audit` that is ported, which texts and reports name.
+/// The version of `cargo-audit` that is ported; texts and reports name it.
 pub const VERSION: &str = "0.22.2";
 
-/// What is warned of.
+/// What a warning is about.
 #[derive(Clone, Copy, Debug, PartialEq, Eq)]
 pub enum WarningKind {
     /// Something to note.
@@ -29,11 +29,11 @@ pub enum WarningKind {
 pub enum DenyOption {
     /// Every kind of warning but notices, and advisories on the auditor itself.
     Warnings,
-    /// Warnings of packages that nobody maintains.
+    /// Warnings about packages that nobody maintains.
     Unmaintained,
-    /// Warnings of unsound packages.
+    /// Warnings about unsound packages.
     Unsound,
-    /// Warnings of yanked versions.
+    /// Warnings about yanked versions.
     Yanked,
 }
 
@@ -44,7 +44,7 @@ pub enum OutputFormat {
     Json,
     /// A SARIF log.
     Sarif,
-    /// Lines to be read at a terminal.
+    /// Lines for a terminal.
     Terminal,
 }
 
@@ -84,7 +84,7 @@ impl DenyOption {
         Ok(all)
     }
 
-    /// The option of a word, which is in lower case; nothing for any other text.
+    /// The option of a word in lower case; none for any other string.
     pub fn from_word(word: &str) -> Option<DenyOption>
         ensures { result ≡ deny_option_of word.now }
     {
@@ -119,7 +119,7 @@ impl DenyOption {
 }
 
 impl OutputFormat {
-    /// The format of a word, which is in lower case; nothing for any other text.
+    /// The format of a word in lower case; none for any other string.
     pub fn from_word(word: &str) -> Option<OutputFormat>
         ensures { result ≡ output_format_of word.now }
     {
@@ -160,7 +160,7 @@ impl FromStr for OutputFormat {
 }
 
 impl OutputConfig {
-    /// Whether status lines are left out: where that is asked for, and in both forms for machines.
+    /// Whether status lines are left out: if that is asked for, and in both forms for machines.
     pub fn is_quiet(&self) -> bool
         ensures { result ≡ spec.is_quiet self.now }
     {

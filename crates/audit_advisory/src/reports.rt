@@ -1,4 +1,4 @@
-//! What an audit reports by its advisories.
+//! What an audit reports from its advisories.
 ghost use Rattle.std.specs.Prelude.{◌≡◌, ℕ, ◌+◌, ◌*◌, ◌^◌, ◌<◌, ◌≤◌, ◌++◌, All, IfOk, OnOk, OnErr, length, map, option_copied, slice_get};
 ghost use Rattle.audit_advisory.specs.Reports.{IsPlaced, report_of, with_yanked, yanked_at};
 ghost use Rattle.audit_advisory.specs.Reports as spec;
@@ -13,7 +13,7 @@ use audit_lock::Lockfile;
 use std::alloc::Global;
 use tame_names::{Items, NoMemory};
 
-/// A package that an advisory hits, by their places in the lockfile and in the database.
+/// A package and an advisory that hits it, by their places in the lockfile and in the database.
 #[derive(Clone, Copy, Debug, PartialEq, Eq)]
 pub struct Vulnerability {
     /// The place of the advisory in the database, from 0.
@@ -22,14 +22,14 @@ pub struct Vulnerability {
     pub package: usize,
 }
 
-/// What is told of a package besides vulnerabilities, by its place in the lockfile.
+/// A warning about a package, by its place in the lockfile.
 #[derive(Clone, Copy, Debug, PartialEq, Eq)]
 pub struct Warning {
-    /// What is told.
+    /// What it is about.
     pub kind: WarningKind,
     /// The place of the package in the lockfile, from 0.
     pub package: usize,
-    /// The place in the database of the advisory that tells it; none for a yanked package.
+    /// The place of the advisory in the database; none for a yanked package.
     pub advisory: Option<usize>,
 }
 
@@ -49,7 +49,7 @@ pub struct Report {
     pub warnings: Items<Warning>,
 }
 
-/// The warnings that these packages are yanked.
+/// A warning for each of these packages that it is yanked.
 fn yanked(alloc: Global, packages: &[usize]) -> Result<Items<Warning>, NoMemory>
     ensures { IfOk result (λ warnings. warnings ≡ map yanked_at packages.now) }
 {
@@ -65,10 +65,10 @@ fn yanked(alloc: Global, packages: &[usize]) -> Result<Items<Warning>, NoMemory>
 }
 
 impl Report {
-    /// What the advisories of a database say of a lockfile's packages. Each package's advisories
-    /// are found by two binary searches, which are counted: together at most twice the number of
-    /// packages times d comparisons, where there are fewer than 2^d advisories. Nothing is counted
-    /// past 2^64 - 1.
+    /// What the advisories of a database say about a lockfile's packages. Two binary searches find
+    /// each package's advisories. Their comparisons are counted: if there are fewer than 2^d
+    /// advisories, together at most twice the number of packages times d. The count stops at
+    /// 2^64 - 1.
     pub fn generate(
         alloc: Global,
         database: &Database,
@@ -97,8 +97,8 @@ impl Report {
         })
     }
 
-    /// Adds a warning for each of these packages, by their places, that it is yanked; all of them,
-    /// or none where memory runs out.
+    /// Adds a warning for each of these packages, by their places, that it is yanked; adds all of
+    /// them, or none if out of memory.
     pub fn add_yanked(&mut self, alloc: Global, packages: &[usize]) -> Result<(), NoMemory>
         ensures ok { OnOk result (self.new ≡ with_yanked self.old packages.now) }
         ensures placed { IsPlaced self.old

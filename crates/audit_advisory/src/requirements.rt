@@ -30,7 +30,7 @@ impl Model for Requirement {
     ghost invariant = { λ r. intervals_of r.text ≡ Some r.intervals };
 }
 
-// ---- compared by their texts, which say their intervals
+// ---- compared by their texts, which determine their intervals
 
 ghost use Rattle.std.specs.Prelude.{bytes_eq};
 ghost use Rattle.std.proofs.Common.{rules};
@@ -50,7 +50,7 @@ impl Eq for Requirement {
     ghost laws = { Prim.search (comparing, rules) };
 }
 
-/// Whether memory ran out.
+/// Whether the error is out of memory.
 pub fn is_memory(error: semver::Error) -> bool
     ensures { IsTrue result ↔ (error ≡ memory_error) }
 {
@@ -81,7 +81,7 @@ fn lies_in_each(intervals: &[Interval], version: &Version) -> bool
 }
 
 impl Requirement {
-    /// The requirement that a text is; a text that `semver` refuses is none.
+    /// The requirement that a text is; none if `semver` refuses the text.
     pub fn read(alloc: Global, text: &str) -> Result<Option<Requirement>, NoMemory>
         ensures { IfOk result (λ r. r ≡ requirement_of text.now) }
     {

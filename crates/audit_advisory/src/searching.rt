@@ -1,4 +1,4 @@
-//! Advisories in the order of the names that they are on, and searches by name.
+//! Advisories in the order of the names they are about, and searches by name.
 ghost use Rattle.std.specs.Prelude.{◌≡◌, ℕ, ◌+◌, ◌*◌, ◌^◌, ◌<◌, ◌≤◌, IfOk, length, slice_index, slice_range, true, false};
 ghost use Rattle.std.specs.List.{filter};
 ghost use Rattle.std.specs.Cmp.Lexicographic.{slice_cmp};
@@ -13,7 +13,7 @@ use std::alloc::Global;
 use std::cmp::Ordering;
 use tame_names::{Items, NoMemory};
 
-/// The name that the advisory at a place is on; nothing where there is none.
+/// The name that the advisory at a place is about; empty if there is none.
 fn name_at(advisories: &[Advisory], place: usize) -> &str
     ensures { result.now ≡ spec.name_at advisories.now place }
 {
@@ -46,7 +46,7 @@ pub(crate) fn sorted_places(
     Ok(Items::of(places))
 }
 
-/// Whether a search goes on to the right of a name that compares so.
+/// Whether a search goes on to the right of a name with this order.
 fn goes_on(past: bool, order: Ordering) -> bool
     ensures { result ≡ spec.goes_on past order }
 {
@@ -57,8 +57,8 @@ fn goes_on(past: bool, order: Ordering) -> bool
     }
 }
 
-/// The first place in the order whose name is not below a name; with `past`, whose name is above
-/// it.
+/// The first place in the order whose name is not below a name; with `past`, whose name is
+/// above it.
 fn first_place(
     advisories: &[Advisory],
     by_name: &[usize],
@@ -91,7 +91,7 @@ fn first_place(
     low
 }
 
-/// Where the places of the advisories on a name begin and end, by two binary searches.
+/// Where the places of the advisories about a name begin and end, by two binary searches.
 pub(crate) fn piece_of(
     advisories: &[Advisory],
     by_name: &[usize],

@@ -29,11 +29,11 @@ pub struct Settings {
     pub ignore: Items<Text>,
     /// Advisories of a lower severity are left out.
     pub severity: Option<Severity>,
-    /// The architectures that count; all, where there is none.
+    /// The architectures that count; all, if the list is empty.
     pub target_arch: Items<Text>,
-    /// The systems that count; all, where there is none.
+    /// The systems that count; all, if the list is empty.
     pub target_os: Items<Text>,
-    /// What is warned of.
+    /// The kinds of informational advisory to warn about.
     pub informational_warnings: Items<Informational>,
 }
 
@@ -68,7 +68,7 @@ impl Severity {
     }
 }
 
-/// Whether a score isn't below a threshold, where both are stated.
+/// Whether a score isn't below a threshold, if both are stated.
 pub fn is_severe(tenths: Option<u8>, threshold: Option<Severity>) -> bool
     ensures { result ≡ spec.is_severe tenths threshold }
 {
@@ -79,7 +79,7 @@ pub fn is_severe(tenths: Option<u8>, threshold: Option<Severity>) -> bool
     }
 }
 
-/// Copies of texts.
+/// Copies of strings.
 pub fn texts_copied(alloc: Global, texts: &[Text]) -> Result<Items<Text>, NoMemory>
     ensures { IfOk result (λ copies. copies ≡ texts.now) }
 {

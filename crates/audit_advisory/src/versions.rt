@@ -11,14 +11,14 @@ use semver::Version;
 use std::alloc::Global;
 use tame_names::{Items, NoMemory, Text};
 
-/// The versions that were patched and those that never were affected; all others are vulnerable.
+/// The patched versions and those that were never affected; all others are vulnerable.
 #[derive(Debug, Drop, PartialEq, Eq)]
 pub struct Versions {
     patched: Items<Requirement>,
     unaffected: Items<Requirement>,
 }
 
-/// The requirement that each text is, if each is one.
+/// The requirement that each string is, if each is one.
 pub fn requirements_of(
     alloc: Global,
     texts: &[Text],
@@ -48,7 +48,7 @@ pub fn meets_any(requirements: &[Requirement], version: &Version) -> bool
 }
 
 impl Versions {
-    /// The requirements of two lists of texts; each text has to be one.
+    /// The requirements of two lists of strings; each string must be one.
     pub fn new(
         alloc: Global,
         patched: &Items<Text>,
@@ -85,7 +85,7 @@ impl Versions {
         self.patched.as_slice()
     }
 
-    /// The requirements that versions meet which never were vulnerable.
+    /// The requirements that versions meet that were never vulnerable.
     pub fn unaffected(&self) -> &[Requirement]
         ensures { result.now ≡ self.now.unaffected }
     {

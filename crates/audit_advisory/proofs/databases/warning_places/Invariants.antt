@@ -5,7 +5,7 @@ use Rattle.audit_advisory.specs.Points.{point_of}
 use Rattle.audit_advisory.specs.Queries.{warns_of}
 use Rattle.audit_advisory.proofs.databases.warning_places.Given as goal
 
--- the places so far, in front of those of what is left
+-- the places so far, before those of what is left
 abbrev pub invariant-loop-place : goal.invariant-loop-place
 invariant-loop-place l =
     filter (passes_at (warns_of (point_of l.version)) l.advisories) l.places

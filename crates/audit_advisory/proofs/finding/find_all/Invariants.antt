@@ -4,7 +4,7 @@ use Rattle.audit_advisory.specs.declared.outputs.WarningKind.TheVariants as kind
 use Rattle.audit_advisory.proofs.Picking.{told_from}
 use Rattle.audit_advisory.proofs.finding.find_all.Given as goal
 
--- each list so far, in front of what is left of it
+-- each list so far, before what is left of it
 abbrev pub invariant-loop-i : goal.invariant-loop-i
 invariant-loop-i l = record {
   vulnerabilities : vulnerabilities_of l.settings l.database l.packages

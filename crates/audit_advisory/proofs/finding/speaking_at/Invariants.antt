@@ -4,7 +4,7 @@ use Rattle.audit_advisory.specs.Places.{passes_at}
 use Rattle.audit_advisory.specs.Reports.{speaks_of}
 use Rattle.audit_advisory.proofs.finding.speaking_at.Given as goal
 
--- the places so far, in front of those of what is left
+-- the places so far, before those of what is left
 abbrev pub invariant-loop-place : goal.invariant-loop-place
 invariant-loop-place l =
     filter (passes_at (speaks_of l.settings l.locked) l.advisories) l.places
