@@ -1,4 +1,4 @@
--- Options of `--deny`, one after the other.
+-- The options of `--deny`, one after the other.
 use Rattle.std.proofs.Common.{◌≡◌, ℕ, List, [], ◌∷◌, ◌++◌, Bool, true, false, cond, ◌||◌, refl, sym, ap, ◌∙◌, append-nil, append_assoc, rules}
 use Rattle.std.specs.Prelude.{bytes_eq}
 use Rattle.std.specs.List.{list_any}
@@ -57,7 +57,7 @@ same_kind (Other s) Unmaintained h = absurd (false≢true h)
 same_kind (Other s) Unsound h = absurd (false≢true h)
 same_kind (Other s) (Other t) h = ap Other (same_text s t h)
 
--- ---- one kind more
+-- ---- one more kind
 
 has_last : (k j : Informational) (ks : List Informational) → has_kind k (ks ++ j ∷ []) ≡ (has_kind k ks || is_same_kind j k)
 has_last k j [] = elim (is_same_kind j k) as (λ b. cond b true false ≡ (false || b)) [ true ↦ refl | false ↦ refl ]
@@ -88,7 +88,7 @@ has_three k ks =
     has_with k Unsound (with_kind Unmaintained (with_kind Notice ks))
     ∙ ap (λ b. b || is_same_kind Unsound k) (has_with k Unmaintained (with_kind Notice ks) ∙ ap (λ b. b || is_same_kind Unmaintained k) (has_with k Notice ks))
 
--- ---- what is warned of
+-- ---- which kinds are warned about
 
 none_other : (t : List ℕ) (options : List DenyOption) → list_any (adds_kind (Other t)) options ≡ false
 none_other t [] = refl
@@ -160,7 +160,7 @@ warned-kinds (deny.Yanked ∷ options) ks k =
     warned-kinds options ks k
     ∙ ap (λ b. has_kind k ks || (b || list_any (adds_kind k) options)) (adds_yanked k)
 
--- ---- what was stated stands in front
+-- ---- what is stated comes first
 
 abbrev pub IsBehind : List Informational → List Informational → Type 0
 IsBehind ks all = (more : List Informational) × (all ≡ ks ++ more)

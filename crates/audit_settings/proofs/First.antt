@@ -1,4 +1,4 @@
--- What is kept of some texts is the first of them in byte order.
+-- Of several strings the first in byte order is kept.
 use Rattle.std.proofs.Common.{◌≡◌, ◌⊎◌, inl, inr, ℕ, suc, List, [], ◌∷◌, Bool, true, false, cond, Some, None, refl, sym, ap, ◌∙◌, arith}
 use Rattle.std.specs.Ordering.{is_le, nat_cmp, ordering_reverse}
 use Rattle.std.specs.declared.cmp.Ordering.{Ordering}
@@ -17,7 +17,7 @@ never_before_itself t before =
     let bad : Less ≡ Greater = sym before ∙ nat_list_cmp_total.antisymm t t ∙ ap ordering_reverse before in
     cc
 
--- what is before a text is before what that text isn't behind
+-- if `k` isn't after `t`, and `t` is before `r`, then `k` is before `r`
 before_kept : (s : Ordering) (k t r : List ℕ) → order k t ≡ s → is_le s ≡ true → order t r ≡ Less → order k r ≡ Less
 before_kept Less k t r e le b = nat_list_cmp_total.trans k t r e b
 before_kept Equal k t r e le b = nat_list_cmp_total.congr k t r e ∙ b

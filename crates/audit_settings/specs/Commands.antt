@@ -1,4 +1,4 @@
--- The options of `audit` where none was given.
+-- The options of `audit` if none was given.
 use Rattle.std.specs.Prelude.{[], false, None}
 use Rattle.audit_settings.specs.declared.commands.AuditCommand.{AuditCommand}
 

@@ -1,4 +1,4 @@
--- The settings where nothing is stated.
+-- The settings if nothing is stated.
 use Rattle.std.specs.Prelude.{[], true, false, None}
 use Rattle.audit_advisory.specs.declared.outputs.OutputConfig.{OutputConfig}
 use Rattle.audit_advisory.specs.declared.outputs.OutputFormat.TheVariants as format

@@ -1,4 +1,4 @@
--- The tables of the settings and their keys, in the order in which they are looked at (the file
+-- The tables of the settings and their keys, in the order in which they are read (the file
 -- `audit.toml` of cargo-audit).
 use Rattle.std.specs.Prelude.{ℕ, codes, List, [], ◌∷◌, ◌++◌, Bool, true, false, bytes_eq, Option, Some, None, if◌then◌else◌}
 use Rattle.audit_settings.specs.declared.sections.Section.{Section}
@@ -20,7 +20,7 @@ keys Output = codes "deny" ∷ codes "format" ∷ codes "quiet" ∷ codes "show_
 keys Target = codes "arch" ∷ codes "os" ∷ []
 keys Yanked = codes "enabled" ∷ codes "update_index" ∷ []
 
--- the table of a name
+-- the table with a name
 abbrev pub section_of : List ℕ → Option Section
 section_of text =
     if bytes_eq text (codes "advisories") then Some Advisories
@@ -34,6 +34,6 @@ abbrev pub is_in : List ℕ → List (List ℕ) → Bool
 is_in text [] = false
 is_in text (t ∷ ts) = if bytes_eq text t then true else is_in text ts
 
--- a table's name and a key of it, as `table.key`
+-- a table's name and one of its keys, as `table.key`
 abbrev pub dotted : List ℕ → List ℕ → List ℕ
 dotted table key = table ++ codes "." ++ key

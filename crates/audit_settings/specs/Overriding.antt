@@ -15,17 +15,17 @@ use Rattle.audit_settings.specs.declared.configs.FilterList.TheVariants.{Many}
 use Rattle.audit_settings.specs.declared.configs.TargetConfig.{TargetConfig}
 use Rattle.audit_settings.specs.declared.configs.YankedConfig.{YankedConfig}
 
--- what is given on the command line, else what the settings say
+-- the value on the command line, else the one in the settings
 abbrev pub given_or : {A : Type 0} → Option A → Option A → Option A
 given_or None settled = settled
 given_or (Some given) settled = Some given
 
--- targets that are given replace those of the settings
+-- targets on the command line replace those of the settings
 abbrev pub filter_or : List (List ℕ) → Option FilterList → Option FilterList
 filter_or [] settled = settled
 filter_or (t ∷ ts) settled = Some (Many (t ∷ ts))
 
--- each option is appended, but `warnings` puts all four in place of the list
+-- each option is appended, but `warnings` replaces the list by all four
 abbrev pub denied : List DenyOption → List DenyOption → List DenyOption
 denied [] settled = settled
 denied (deny.Warnings ∷ given) settled = denied given all_deny_options
@@ -69,7 +69,7 @@ target_under c settled = record {
 abbrev pub yanked_under : AuditCommand → YankedConfig → YankedConfig
 yanked_under c settled = record settled { enabled = settled.enabled && not c.no_yanked }
 
--- the settings under a command's options
+-- the settings with a command's options applied
 abbrev pub overridden : AuditCommand → AuditConfig → AuditConfig
 overridden c settled = record {
   advisories = advisories_under c settled.advisories;

@@ -9,7 +9,7 @@ use Rattle.audit_settings.specs.declared.configs.AuditConfig.{AuditConfig}
 use Rattle.audit_settings.specs.declared.configs.FilterList.{FilterList}
 use Rattle.audit_settings.specs.declared.configs.FilterList.TheVariants.{Single, Many}
 
--- the texts of a filter; none, where there is no filter
+-- the strings of a filter; none, if there is no filter
 abbrev pub filter_texts : Option FilterList → List (List ℕ)
 filter_texts None = []
 filter_texts (Some (Single text)) = text ∷ []
@@ -30,13 +30,13 @@ has_kind kind (k ∷ ks) = if is_same_kind k kind then true else has_kind kind k
 abbrev pub with_kind : Informational → List Informational → List Informational
 with_kind kind ks = if has_kind kind ks then ks else ks ++ kind ∷ []
 
--- what is warned of where nothing is denied
+-- what is warned about if nothing is denied
 abbrev pub stated_kinds : Option (List Informational) → List Informational
 stated_kinds None = Unmaintained ∷ Unsound ∷ Notice ∷ []
 stated_kinds (Some ks) = ks
 
--- these kinds, and those that are denied, one option after the other; `warnings` adds all and is
--- the last that counts
+-- these kinds, and those that are denied, one option after the other; `warnings` adds all, and the
+-- options after it don't count
 abbrev pub warned_of : List DenyOption → List Informational → List Informational
 warned_of [] ks = ks
 warned_of (deny.Warnings ∷ options) ks =

@@ -44,7 +44,7 @@ as_severity d = option_and_then severity_named (as_str d)
 abbrev pub as_format : Data → Option OutputFormat
 as_format d = option_and_then output_format_of (as_str d)
 
--- an array of texts, each what an advisory may inform of
+-- an array of strings, each a kind that an advisory may inform about
 abbrev pub as_kinds : Data → Option (List Informational)
 as_kinds d = option_map (map kind_of) (texts_of d)
 
@@ -57,12 +57,12 @@ deny_options_in (t ∷ ts) =
 abbrev pub deny_options : Option Data → Option (List DenyOption)
 deny_options m = option_and_then deny_options_in (optional_texts m)
 
--- a text, or an array of texts
+-- a string, or an array of strings
 abbrev pub as_filter : Data → Option FilterList
 as_filter (string s) = Some (Single s)
 as_filter d = option_map Many (texts_of d)
 
--- ---- what stands at a key; each takes the key's own name and its name with its table's
+-- ---- what is at a key; each takes the key's own name, and its name with its table's
 
 abbrev pub text_field : List ℕ → List ℕ → Members → Result (Option (List ℕ)) Refusal
 text_field key place ms = or_fault (wrong place) (optional as_str (get_member key ms))
@@ -73,7 +73,7 @@ flag_field key place ms =
     or_fault (wrong place) (option_map (λ flag. unwrap_or flag true)
     (optional as_bool (get_member key ms)))
 
--- a flag that has to be there
+-- a flag that must be there
 abbrev pub flag_there : List ℕ → Option Bool → Result Bool Refusal
 flag_there place None = Err (missing place)
 flag_there place (Some flag) = Ok flag
@@ -153,7 +153,7 @@ yanked_of (Some ms) =
 
 -- ---- the whole
 
--- a table by its name: absent, or written; any other value is wrong at this name
+-- a table by its name: absent, or written; any other value at this name is wrong
 abbrev pub written : List ℕ → Members → Result (Option Members) Refusal
 written table ms = or_fault (wrong table) (optional as_table (get_member table ms))
 
@@ -175,7 +175,7 @@ tables_of ms =
     (and_then database_of (written (codes "database") ms)))
     (and_then advisories_of (written (codes "advisories") ms))
 
--- no key may be unknown; of several the first in byte order is named
+-- no key may be unknown; if several are, the first in byte order is reported
 abbrev pub unless_unknown : Option (List ℕ) → Members → Result AuditConfig Refusal
 unless_unknown None ms = tables_of ms
 unless_unknown (Some key) ms = Err (unknown key)
@@ -185,6 +185,6 @@ settings_in ms =
     if members_have_float ms then Err has_a_float
     else unless_unknown (first_in_order (unknown_keys ms)) ms
 
--- the settings that a text is: TOML, without floats, without unknown keys, and each key of its form
+-- the settings that a text is: TOML without floats and unknown keys, and each value of its form
 abbrev pub settings : List ℕ → Result AuditConfig Refusal
 settings text = and_then settings_in (or_fault no_toml (parse_document text))

@@ -6,14 +6,14 @@ use audit_advisory::{DenyOption, OutputFormat};
 use std::alloc::Global;
 use tame_names::{Items, Text};
 
-/// When the output would be coloured. Read, and not used.
+/// When the output would be coloured. Read but not used.
 #[derive(Clone, Copy, Debug, PartialEq, Eq)]
 pub enum Color {
-    /// At all times.
+    /// Always.
     Always,
-    /// Where the output is a terminal.
+    /// If the output is a terminal.
     Auto,
-    /// At no time.
+    /// Never.
     Never,
 }
 
@@ -27,7 +27,7 @@ impl Default for Color {
     }
 }
 
-/// The options of `audit`, as they were given: an option that wasn't is `None`, an empty list or
+/// The options of `audit`, as given: an option that wasn't given is `None`, an empty list or
 /// false. `color`, `stale` and `url` have no effect.
 #[derive(Debug, Drop, PartialEq, Eq)]
 pub struct AuditCommand {
@@ -45,13 +45,13 @@ pub struct AuditCommand {
     pub no_yanked: bool,
     /// The index isn't asked.
     pub no_fetch: bool,
-    /// Read, and not used.
+    /// Read but not used.
     pub stale: bool,
     /// The architectures that count.
     pub target_arch: Items<Text>,
     /// The systems that count.
     pub target_os: Items<Text>,
-    /// Read, and not used.
+    /// Read but not used.
     pub url: Option<Text>,
     /// No status lines, and no trees.
     pub quiet: bool,

@@ -18,12 +18,12 @@ pub enum FilterList {
     Many(Items<Text>),
 }
 
-/// What of the advisories counts.
+/// Which advisories count.
 #[derive(Debug, Drop, PartialEq, Eq)]
 pub struct AdvisoryConfig {
     /// The ids of advisories that are left out.
     pub ignore: Items<Text>,
-    /// What is warned of, where it is stated.
+    /// The kinds that are warned about, if stated.
     pub informational_warnings: Option<Items<Informational>>,
     /// Advisories of a lower severity are left out.
     pub severity_threshold: Option<Severity>,
@@ -32,17 +32,17 @@ pub struct AdvisoryConfig {
 /// Where the advisories come from.
 #[derive(Debug, Drop, PartialEq, Eq)]
 pub struct DatabaseConfig {
-    /// The folder of the advisories, where it is stated.
+    /// The folder of the advisories, if stated.
     pub path: Option<Text>,
-    /// Read, and not used.
+    /// Read but not used.
     pub url: Option<Text>,
     /// Whether the index may be asked.
     pub fetch: bool,
-    /// Read, and not used.
+    /// Read but not used.
     pub stale: bool,
 }
 
-/// The targets that count; all, where nothing is stated.
+/// The targets that count; all, if nothing is stated.
 #[derive(Debug, Drop, PartialEq, Eq)]
 pub struct TargetConfig {
     /// The architectures.
@@ -54,16 +54,16 @@ pub struct TargetConfig {
 /// The check for yanked versions.
 #[derive(Debug, Drop, PartialEq, Eq)]
 pub struct YankedConfig {
-    /// Whether it is made.
+    /// Whether the check is made.
     pub enabled: bool,
-    /// Whether the index is asked, and not only what the cache has of it.
+    /// Whether the index is asked, and not only its cached copy.
     pub update_index: bool,
 }
 
 /// The settings of an audit.
 #[derive(Debug, Drop, PartialEq, Eq)]
 pub struct AuditConfig {
-    /// What of the advisories counts.
+    /// Which advisories count.
     pub advisories: AdvisoryConfig,
     /// Where the advisories come from.
     pub database: DatabaseConfig,
@@ -75,7 +75,7 @@ pub struct AuditConfig {
     pub yanked: YankedConfig,
 }
 
-/// Why a text gives no settings; of several reasons the first in this order, and of several keys
+/// Why a text gives no settings. Of several reasons, the first in this order; of several keys,
 /// the first as [`AuditConfig::from_toml`] says.
 #[derive(Debug, Drop, PartialEq, Eq)]
 pub enum SettingsFault {
@@ -87,9 +87,9 @@ pub enum SettingsFault {
     Unknown { key: Text },
     /// A key that a written table must have, as `table.key`.
     Missing { key: &'static str },
-    /// A key with a value of another form, as `table.key`, or a table that is none.
+    /// A key with a value of another form, as `table.key`; or a name that should be a table.
     Value { key: &'static str },
-    /// Memory ran out.
+    /// Out of memory.
     NoMemory,
 }
 
@@ -103,7 +103,7 @@ impl From<NoMemory> for SettingsFault {
     }
 }
 
-/// Where nothing is stated.
+/// If nothing is stated.
 impl Default for DatabaseConfig {
     ghost is_default = { λ config. config ≡ default_database };
 
@@ -142,7 +142,7 @@ impl Default for YankedConfig {
 }
 
 impl AuditConfig {
-    /// The settings where nothing is stated.
+    /// The settings if nothing is stated.
     pub fn new(alloc: Global) -> Result<AuditConfig, NoMemory>
         ensures { result ≡ Ok default_settings }
     {

@@ -1,5 +1,5 @@
-//! What stands at a key of a table of the settings. Most functions take the key's own name and its
-//! name with its table's in front, by which a refusal calls it.
+//! What is at a key of a table of the settings. Most functions take the key's own name, and its
+//! name as `table.key`, which a refusal uses.
 ghost use Rattle.std.specs.Prelude.{◌≡◌, IfOk, Ok, map, option_map};
 ghost use Rattle.toml.specs.View.{view, table_view};
 ghost use Rattle.toml_tables.specs.Members.{optional};
@@ -29,7 +29,7 @@ fn severity_named(text: &str) -> Option<Severity>
     }
 }
 
-/// A severity, or that it is absent; nothing where the member is another value.
+/// A severity, or that it is absent; nothing if the member is another value.
 pub fn optional_severity(member: Option<&Value>) -> Option<Option<Severity>>
     ensures { result ≡ optional as_severity (option_map (λ v. view v.now) member.entry) }
 {
@@ -39,7 +39,7 @@ pub fn optional_severity(member: Option<&Value>) -> Option<Option<Severity>>
     }
 }
 
-/// The form of a report, or that it is absent; nothing where the member is another value.
+/// The form of a report, or that it is absent; nothing if the member is another value.
 pub fn optional_format(member: Option<&Value>) -> Option<Option<OutputFormat>>
     ensures { result ≡ optional as_format (option_map (λ v. view v.now) member.entry) }
 {
@@ -49,7 +49,7 @@ pub fn optional_format(member: Option<&Value>) -> Option<Option<OutputFormat>>
     }
 }
 
-/// What each text informs of.
+/// The kind that each string names.
 fn kinds_named(alloc: Global, texts: &[Text]) -> Result<Items<Informational>, NoMemory>
     ensures { IfOk result (λ kinds. kinds ≡ map kind_of texts.now) }
 {
@@ -60,7 +60,7 @@ fn kinds_named(alloc: Global, texts: &[Text]) -> Result<Items<Informational>, No
     Ok(kinds)
 }
 
-/// What is warned of, or that it is absent; nothing where the member is another value.
+/// What is warned about, or that it is absent; nothing if the member is another value.
 pub fn optional_kinds(
     alloc: Global,
     member: Option<&Value>,
@@ -90,7 +90,7 @@ fn deny_options_in(alloc: Global, texts: &[Text]) -> Result<Option<Items<DenyOpt
     Ok(Some(options))
 }
 
-/// What is denied: an empty list where the member is absent, `None` where it has another form.
+/// What is denied: an empty list if the member is absent, `None` if it has another form.
 pub fn deny_options(
     alloc: Global,
     member: Option<&Value>,
@@ -116,7 +116,7 @@ fn filter_of(alloc: Global, value: &Value) -> Result<Option<FilterList>, NoMemor
     }
 }
 
-/// A text, or that it is absent.
+/// A string, or that it is absent.
 pub fn text_field(
     alloc: Global,
     table: &Table,
@@ -133,7 +133,7 @@ pub fn text_field(
     }
 }
 
-/// A flag, true where it is absent.
+/// A flag, true if it is absent.
 pub fn flag_field(table: &Table, key: &str, place: &'static str) -> Result<bool, SettingsFault>
     ensures ok { IfOk result (λ b. spec.flag_field key.now place.now (table_view table.now)
         ≡ Ok b) }
@@ -146,7 +146,7 @@ pub fn flag_field(table: &Table, key: &str, place: &'static str) -> Result<bool,
     }
 }
 
-/// A flag that has to be there.
+/// A flag that must be there.
 pub fn required_flag(table: &Table, key: &str, place: &'static str) -> Result<bool, SettingsFault>
     ensures ok { IfOk result (λ b. spec.required_flag key.now place.now (table_view table.now)
         ≡ Ok b) }
@@ -159,7 +159,7 @@ pub fn required_flag(table: &Table, key: &str, place: &'static str) -> Result<bo
     }
 }
 
-/// A text or an array of texts, or that it is absent.
+/// A string or an array of strings, or that it is absent.
 pub fn filter_field(
     alloc: Global,
     table: &Table,

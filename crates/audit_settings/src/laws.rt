@@ -1,4 +1,4 @@
-//! What holds of settings, as their definitions say.
+//! What holds for settings, by their definitions.
 ghost use Rattle.std.specs.Prelude.{◌≡◌, ℕ, List, [], ◌∷◌, ◌++◌, ◌||◌, false, None, Some, Ok};
 ghost use Rattle.std.specs.List.{list_any};
 ghost use Rattle.toml.specs.Data.{no_members};
@@ -16,7 +16,7 @@ ghost use Rattle.audit_settings.specs.Settings.{settings_in};
 ghost use Rattle.audit_settings.specs.Unknown.{IsFirst, first_in_order};
 ghost use Rattle.audit_settings.specs.declared.configs.AuditConfig.{AuditConfig};
 
-/// A document without keys gives the settings where nothing is stated.
+/// A document without keys gives the default settings.
 pub fn defaults_are_read_from_nothing()
     ensures { settings_in no_members ≡ Ok default_settings }
 {}
@@ -26,16 +26,15 @@ pub fn commands_of_no_option()
     ensures { (s : AuditConfig) → overridden no_option s ≡ s }
 {}
 
-/// What is told of several unknown keys is one of them, and none is before it in byte order; where
-/// there is one, one is told.
+/// If there are unknown keys, one of them is reported, and none of them is before it in byte order.
 pub fn first_key_is_first()
     ensures first { (texts : List (List ℕ)) (key : List ℕ)
         → first_in_order texts ≡ Some key → IsFirst key texts }
     ensures none { (texts : List (List ℕ)) → first_in_order texts ≡ None → texts ≡ [] }
 {}
 
-/// What is given behind `--deny` stands behind what the settings deny, in its order; the last
-/// `warnings` puts all four options in place of what stands in front of it.
+/// What is given after `--deny` comes after what the settings deny, in its order; the last
+/// `warnings` replaces all before it by all four options.
 pub fn denied_options_are_appended()
     ensures appended { (given settled : List DenyOption) → denies_self given ≡ false
         → denied given settled ≡ settled ++ given }
@@ -43,8 +42,8 @@ pub fn denied_options_are_appended()
         → denied (front ++ Warnings ∷ back) settled ≡ all_deny_options ++ back }
 {}
 
-/// Advisories of a kind are warned of exactly where the settings state the kind or some option adds
-/// it, whatever the order of the options; what is stated stands in front, in its order.
+/// Advisories of a kind are warned about if and only if the settings state the kind or some option
+/// adds it, whatever the order of the options; what is stated comes first, in its order.
 pub fn denied_kinds_are_warned_of()
     ensures kinds { (options : List DenyOption) (stated : List Informational) (k : Informational)
         → has_kind k (warned_of options stated)

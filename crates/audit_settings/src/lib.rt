@@ -1,8 +1,8 @@
-//! The settings of an audit: what `audit.toml` says, and how the words of a command override it.
+//! The settings of an audit: what `audit.toml` says, and how a command's options override it.
 //!
-//! Promises: a text reads to its settings, or the first rule that it breaks is named, with its key
-//! where it has one; an option changes exactly its setting, and no option changes none.
-//! Stands on `tame_names`, `toml_tables`, and the settings of a report of `audit_advisory`.
+//! Promises: a text reads to its settings, or to the first rule that it breaks, with the key if
+//! there is one; an option changes exactly its setting; without options nothing changes.
+//! Depends on `tame_names`, `toml_tables`, and the settings of a report of `audit_advisory`.
 //!
 //! ```ignore
 //! // crates/uses/src/audits.rt: offline_settings

@@ -1,4 +1,4 @@
-//! The settings of a file under the options of a command.
+//! The settings of a file with the options of a command applied.
 ghost use Rattle.std.specs.Prelude.{◌≡◌, IfOk};
 ghost use Rattle.audit_settings.specs.Overriding.{overridden};
 ghost use Rattle.audit_settings.specs.Overriding as spec;
@@ -12,7 +12,7 @@ use audit_advisory::{DenyOption, OutputConfig, OutputFormat, texts_copied};
 use std::alloc::Global;
 use tame_names::{Items, NoMemory, Text};
 
-/// A text that is given, else the one of the settings.
+/// The string on the command line, else the one of the settings.
 fn given_or(
     alloc: Global,
     given: &Option<Text>,
@@ -26,7 +26,7 @@ fn given_or(
     }
 }
 
-/// Targets that are given, else those of the settings.
+/// The targets on the command line, else those of the settings.
 fn filter_or(
     alloc: Global,
     given: &[Text],
@@ -128,11 +128,10 @@ impl AuditCommand {
         }
     }
 
-    /// The settings under the options of this command: `db`, `url`, targets and the format that are
-    /// given replace those of the settings, `ignore` is appended, and so is each `deny`, but that
-    /// `warnings` puts all four in place of the list. `no_fetch` and
-    /// `no_yanked` only switch off, `stale` and `quiet` only on, and `quiet` shows no trees. The
-    /// settings are spent.
+    /// The settings with the options of this command applied. `db`, `url`, targets and the format,
+    /// if given, replace those of the settings. `ignore` is appended, and so is each `deny`, but
+    /// `warnings` replaces the list by all four. `no_fetch` and `no_yanked` only switch off,
+    /// `stale` and `quiet` only on, and `quiet` shows no trees. The settings are consumed.
     pub fn override_config(
         &self,
         alloc: Global,

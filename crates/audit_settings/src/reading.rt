@@ -166,7 +166,7 @@ fn yanked_of(table: Option<&Table>) -> Result<YankedConfig, SettingsFault>
     })
 }
 
-/// A table by its name, or that it isn't written.
+/// A table by its name, or that it is absent.
 fn written<'a>(table: &'a Table, name: &'static str) -> Result<Option<&'a Table>, SettingsFault>
     ensures ok { IfOk result (λ t.
         spec.written name.now (table_view table.now) ≡ Ok (option_map (λ x. table_view x.now) t)) }
@@ -206,9 +206,9 @@ fn settings_in(alloc: Global, table: &Table) -> Result<AuditConfig, SettingsFaul
 
 impl AuditConfig {
     /// The settings that a text is, or the first rule that it breaks: it is TOML (`Toml`), without
-    /// floats (`Float`), without unknown keys (`Unknown`, with the first of them in byte order),
-    /// and then table by table and key by key, as the types list them, a written table that has to
-    /// have a key has it (`Missing`), and each value is of its form (`Value`).
+    /// floats (`Float`), without unknown keys (`Unknown`, with the first of them in byte order);
+    /// then, table by table and key by key as the types list them, a written table has each key
+    /// that it must have (`Missing`), and each value is of its form (`Value`).
     pub fn from_toml(alloc: Global, text: &str) -> Result<AuditConfig, SettingsFault>
         ensures ok { IfOk result (λ config. settings text.now ≡ Ok config) }
         ensures refused { Refuses result (settings text.now) }

@@ -8,7 +8,7 @@ use audit_advisory::{DenyOption, Informational, Settings, kinds_copied, texts_co
 use std::alloc::Global;
 use tame_names::{Items, NoMemory, Text};
 
-/// Adds copies of texts at the end.
+/// Adds copies of strings at the end.
 pub fn add_texts(alloc: Global, list: &mut Items<Text>, texts: &[Text]) -> Result<(), NoMemory>
     ensures { OnOk result (list.new ≡ list.old ++ texts.now) }
 {
@@ -31,14 +31,14 @@ fn filter_texts(alloc: Global, filter: &Option<FilterList>) -> Result<Items<Text
 }
 
 impl TargetConfig {
-    /// The architectures that count; all, where there is none.
+    /// The architectures that count; all, if the list is empty.
     pub fn arch(&self, alloc: Global) -> Result<Items<Text>, NoMemory>
         ensures { IfOk result (λ texts. texts ≡ spec.filter_texts self.now.arch) }
     {
         filter_texts(alloc, &self.arch)
     }
 
-    /// The systems that count; all, where there is none.
+    /// The systems that count; all, if the list is empty.
     pub fn os(&self, alloc: Global) -> Result<Items<Text>, NoMemory>
         ensures { IfOk result (λ texts. texts ≡ spec.filter_texts self.now.os) }
     {
@@ -117,8 +117,8 @@ fn add_denied(kinds: &mut Items<Informational>, options: &[DenyOption]) -> Resul
 }
 
 impl AuditConfig {
-    /// What the settings ask of advisories. What is warned of is what is stated, else each kind,
-    /// and what is denied besides.
+    /// What the settings ask of advisories. Warned about are the kinds that are stated, else all
+    /// kinds, and also those that are denied.
     pub fn report_settings(&self, alloc: Global) -> Result<Settings, NoMemory>
         ensures { IfOk result (λ settings. settings ≡ spec.report_settings self.now) }
     {

@@ -74,7 +74,7 @@ fn is_yanked_key(key: &str) -> bool
 }
 
 impl Section {
-    /// The table of a name, where there is one.
+    /// The table with a name, if there is one.
     pub fn named(name: &str) -> Option<Section>
         ensures { result ≡ section_of name.now }
     {

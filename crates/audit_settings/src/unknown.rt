@@ -10,14 +10,14 @@ use std::alloc::Global;
 use tame_names::{NoMemory, Text};
 use toml::{Table, Value};
 
-/// A table's name and a key of it, with a point between them.
+/// A table's name and one of its keys, with a dot between them.
 fn dotted(alloc: Global, name: &str, key: &str) -> Result<Text, NoMemory>
     ensures { IfOk result (λ text. text ≡ spec.dotted name.now key.now) }
 {
     Ok(Text::from_string(format!(in alloc; "{name}.{key}")?))
 }
 
-/// One more text: what is kept is the first in byte order.
+/// Takes one more string: the first in byte order is kept.
 fn keep_first(first: &mut Option<Text>, text: Text)
     ensures { first.new ≡ Some (earlier first.old text) }
 {
@@ -30,7 +30,7 @@ fn keep_first(first: &mut Option<Text>, text: Text)
     }
 }
 
-/// The keys of a table that the section hasn't.
+/// Notes the keys of a table that the section doesn't have.
 fn note_unknown(
     alloc: Global,
     first: &mut Option<Text>,
@@ -48,7 +48,7 @@ fn note_unknown(
     Ok(())
 }
 
-/// What is unknown at a name: the name, or keys of the table that it names.
+/// Notes what is unknown at a name: the name, or keys of the table that it names.
 fn note_below(
     alloc: Global,
     first: &mut Option<Text>,
@@ -66,7 +66,7 @@ fn note_below(
     Ok(())
 }
 
-/// The first in byte order of all unknown keys, where there is one.
+/// The first in byte order of all unknown keys, if there is one.
 #[tactic(auto, using(crate::proofs::Noted::noted_append))]
 pub fn first_unknown(alloc: Global, table: &Table) -> Result<Option<Text>, NoMemory>
     ensures { IfOk result (λ first.
