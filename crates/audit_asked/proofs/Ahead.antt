@@ -7,25 +7,25 @@ use Rattle.audit_asked.specs.Advisories.{advisories_from, advisory_at}
 use Rattle.audit_asked.specs.Refusals.{Refused}
 use Rattle.audit_asked.specs.Texts.{go_on}
 
--- what is done, in front of what is left
+-- what is done, before what is left
 abbrev pub before : {A E : Type 0} → List A → Result (List A) E → Result (List A) E
 before done (Ok left) = Ok (done ++ left)
 before done (Err e) = Err e
 
--- an item more is done
+-- one more item is done
 pub ahead : {A : Type 0} (done : List A) (a : A) (left : Result (List A) Refused)
     → before done (go_on left (λ more. Ok (a ∷ more))) ≡ before (done ++ a ∷ []) left
 ahead done a (Ok left) = rw append_assoc
 ahead done a (Err e) = refl
 
--- the advisory that is next is read
+-- the next advisory is read
 pub next : (host : Host) (n : ℕ) (paths : List (List ℕ)) (path : List ℕ) (done : List Advisory) (read : Advisory)
     → n < length paths → path ≡ get_or paths n path → advisory_at host n path ≡ Ok read
     → before done (advisories_from host n (drop n paths)) ≡ before (done ++ read ∷ []) (advisories_from host (suc n) (drop (suc n) paths))
 next host n paths path done read within is e =
     rw (drop-cons paths n path, ← is, e) (ahead done read (advisories_from host (suc n) (drop (suc n) paths)))
 
--- an item more behind the others is read behind them
+-- one more item after the others is read after them
 read_behind : (a : Result Advisory Refused) (front : Result (List Advisory) Refused) (last : Result Advisory Refused)
     → go_on a (λ read. go_on (go_on front (λ items. go_on last (λ item. Ok (items ++ item ∷ [])))) (λ more. Ok (read ∷ more)))
     ≡ go_on (go_on a (λ read. go_on front (λ more. Ok (read ∷ more)))) (λ items. go_on last (λ item. Ok (items ++ item ∷ [])))
@@ -43,7 +43,7 @@ from_behind host n (first ∷ paths) path =
     let e : n + suc (length paths) ≡ suc n + length paths = omega arith in
     rw (e, from_behind host (suc n) paths path) (read_behind (advisory_at host n first) (advisories_from host (suc n) paths) (advisory_at host (suc n + length paths) path))
 
--- those in front of the next were read, and so is the next
+-- those before the next were read, and so is the next
 pub front_read : (host : Host) (n : ℕ) (paths : List (List ℕ)) (path : List ℕ) (done : List Advisory) (read : Advisory)
     → n < length paths → path ≡ get_or paths n path → advisories_from host 0 (take n paths) ≡ Ok done → advisory_at host n path ≡ Ok read
     → advisories_from host 0 (take (n + 1) paths) ≡ Ok (done ++ read ∷ [])

@@ -1,4 +1,4 @@
--- What a fault says of the starts.
+-- What a fault says about the starts.
 use Rattle.std.proofs.Common.{◌≡◌, ◌≤◌, ℕ, Bool, true, false, IsTrue, List, Option, Result, Ok, Err, IfErr, refl, inl, inr}
 use Rattle.audit_asked.specs.Refusals.{IsReadFault, IsTextsFault, is_told}
 use Rattle.audit_asked.specs.Starts.{HasRunStartCause, IsPlaced, RunStartsWhere}
@@ -24,7 +24,7 @@ pub early : {T : Type 0} (b : Bool) (xs : List Started) (r : Result T AskFault) 
     → (IsTrue (is_told e) → b ≡ false) → RunStartsWhere b xs xs r
 early {T} b xs r e is k f = rw is (early_by T b xs e k f)
 
--- a fault of reading after the start that succeeded, where there was one
+-- a fault of reading comes after the successful start, if there was one
 pub late : {T S : Type 0} (named : Option (List ℕ)) (b : Bool) (before now : List Started) (s : S) (r : Result T AskFault) → IfErr r (IsTextsFault named)
     → RunStartsWhere b before now (Ok s) → RunStartsWhere b before now r
 late named false before now s r k h = h
@@ -40,13 +40,13 @@ late named true before now s (Err (fault.Generate status)) k h = absurd k
 late named true before now s (Err fault.Start) k h = absurd k
 late named true before now s (Err fault.NoMemory) k h = inr h
 
--- the place is known once the start succeeded
+-- the path is known once the start succeeded
 pub placed : {S : Type 0} (b : Bool) (before now : List Started) (s : S)
     → RunStartsWhere b before now (Ok s) → IsPlaced b before now
 placed true before now s h = h
 placed false before now s h = h
 
--- it is no failed start
+-- a fault of reading is no failed start
 unstarted : (e : AskFault) → IsReadFault e → e ≡ fault.Start → ⊥
 unstarted (fault.Settings reason) k is = cc
 unstarted (fault.Missing path) k is = cc

@@ -1,4 +1,4 @@
--- A call that may fail for one reason may fail for a wider one.
+-- If a call may fail for one reason, it may fail for a wider one.
 use Rattle.std.proofs.Common.{◌≡◌, ℕ, List, codes, bytes_eq, true, false, Result, Ok, Err, refl}
 use Rattle.tame_names.specs.declared.host.FailedCall.{FailedCall}
 use Rattle.tame_names.specs.declared.host.FileCall.TheVariants.{Read}
@@ -19,7 +19,7 @@ widen_by one wider before now (fault.Generate status) w h = h
 widen_by one wider before now fault.Start w h = h
 widen_by one wider before now fault.NoMemory w h = h
 
--- a call that failed, with what holds where one did
+-- a call that failed, with what holds if one did
 pub beside : (S : Type 0) (one : List ℕ → FailedCall → Type 0) (before now : List FailedCall) (e : AskFault)
     → ((path : List ℕ) → e ≡ fault.File path → S) → AddsBy one before now e → AddsBy (λ path call. one path call × S) before now e
 beside S one before now (fault.Settings reason) s h = h
@@ -45,7 +45,7 @@ input_call path told call e h = (h.0, rw e h.1)
 pub read_call : (path told : List ℕ) (call : FailedCall) → bytes_eq path (codes "-") ≡ false → IsCallOn Read path told call → IsLockfileCall path told call
 read_call path told call e h = (h.0, rw e h.1)
 
--- the same of an answer that is this fault
+-- the same for an answer that is this fault
 pub widen_err : {T : Type 0} (one wider : List ℕ → FailedCall → Type 0) (before now : List FailedCall) (r : Result T AskFault) (e : AskFault)
     → r ≡ Err e → ((path : List ℕ) (call : FailedCall) → one path call → wider path call) → AddsBy one before now e → AddsFailed wider before now r
 widen_err one wider before now r e is w h = rw is (widen_by one wider before now e w h)

@@ -25,13 +25,13 @@ abbrev pub advisory_name : Option (List ℕ) → Option (List ℕ)
 advisory_name None = None
 advisory_name (Some name) = if is_advisory_name name then Some name else None
 
--- the name of an entry that is wanted: what is no file, or a file ending with `.md`; a name that
--- isn't UTF-8 is passed over
+-- the name of a wanted entry: one that is no file, or a file whose name ends with `.md`; a name
+-- that isn't UTF-8 is skipped
 abbrev pub wanted_name : Wanted → Listed → Option (List ℕ)
 wanted_name wanted.Folders entry = if entry.file then None else entry.name
 wanted_name wanted.Advisories entry = if entry.file then advisory_name entry.name else None
 
--- a name at its place in byte order
+-- a name, inserted in byte order
 abbrev pub with_name : List (List ℕ) → Option (List ℕ) → List (List ℕ)
 with_name names None = names
 with_name names (Some name) = insert_key (slice_cmp nat_cmp) names name
@@ -41,7 +41,7 @@ names_with kind names [] = names
 names_with kind names (entry ∷ entries) =
     names_with kind (with_name names (wanted_name kind entry)) entries
 
--- the wanted names in a folder, in byte order; none where there is no folder
+-- the wanted names in a folder, in byte order; none if there is no folder
 abbrev pub names_in : Wanted → Option (List Listed) → List (List ℕ)
 names_in kind None = []
 names_in kind (Some entries) = names_with kind [] entries
@@ -80,12 +80,12 @@ abbrev pub numbered : ℕ → Result Advisory AdvisoryFault → Result Advisory 
 numbered n (Ok read) = Ok read
 numbered n (Err reason) = Err (advisory n reason)
 
--- the advisory at a path, the n-th
+-- the advisory at a path, which is the n-th
 abbrev pub advisory_at : Host → ℕ → List ℕ → Result Advisory Refused
 advisory_at host n path =
     go_on (file_text path (host.stands path)) (λ text. numbered n (advisory_of text))
 
--- the advisories at these paths, the first of them the n-th, each read whole before the next
+-- the advisories at these paths, the first is the n-th; each is read fully before the next
 abbrev pub advisories_from : Host → ℕ → List (List ℕ) → Result (List Advisory) Refused
 advisories_from host n [] = Ok []
 advisories_from host n (path ∷ paths) =

@@ -21,7 +21,7 @@ use Rattle.audit_asked.specs.declared.faults.AskFault.{AskFault}
 use Rattle.audit_asked.specs.declared.faults.AskFault.TheVariants as fault
 use Rattle.audit_asked.specs.declared.runners.Started.{Started}
 
--- what was found under these settings, with the lockfile at this place
+-- what was found with these settings, and the lockfile at this path
 abbrev pub asked_by : AuditConfig → List ℕ → Found → Asked
 asked_by config place found = record {
   config = config;
@@ -32,8 +32,8 @@ asked_by config place found = record {
   text = found.text;
 }
 
--- under these settings, with the lockfile at this place: the database, the advisories, the
--- baseline, where one is named, and the lockfile's text, or the first refusal
+-- with these settings, and the lockfile at this path: the database, the advisories, the baseline
+-- if one is named, and the lockfile's text; or the first refusal
 abbrev pub texts_asked : Host → AuditConfig → Option (List ℕ) → List ℕ → Result Asked Refused
 texts_asked host config named place =
     go_on (database_asked config.database.path host) (λ database.
@@ -49,16 +49,16 @@ texts_asked host config named place =
       text = text;
     })))))
 
--- the settings, the lockfile's place, the database, the advisories, the baseline, where one is
--- named, and the lockfile's text, or the first refusal; a lockfile that has to be generated is
--- generated with this status
+-- the settings, the lockfile's path, the database, the advisories, the baseline if one is named,
+-- and the lockfile's text; or the first refusal. If a lockfile must be generated, that start ends
+-- with this status
 abbrev pub asked : AuditCommand → Option (List ℕ) → Host → ℤ → Result Asked Refused
 asked command named host status =
     go_on (settled command host) (λ config.
     go_on (place_asked command.file host status) (λ place.
     texts_asked host config named place))
 
--- the status that a generating start ended with, by what was answered: 0, or the one that is told
+-- the status of the start that generates, from the answer: 0, or the one that is reported
 abbrev pub status_of : AskFault → ℤ
 status_of (fault.Generate status) = status
 status_of _ = pos 0
@@ -67,7 +67,7 @@ abbrev pub status_told : {T : Type 0} → Result T AskFault → ℤ
 status_told (Ok a) = pos 0
 status_told (Err e) = status_of e
 
--- a lockfile is generated: the settings are accepted, and one has to be
+-- a lockfile is generated: the settings are accepted, and one must be generated
 abbrev pub generates : AuditCommand → Host → Result AuditConfig Refused → Bool
 generates command host (Ok config) = is_to_generate command.file host
 generates command host (Err reason) = false
@@ -96,7 +96,7 @@ IsKnownCall host database named place told call =
     ⊎ ((advisories : List Advisory) × (advisories_asked host database ≡ Ok advisories)
     × IsLastCall host named place told call)
 
--- a call once the settings and the lockfile's place are known
+-- a call once the settings and the lockfile's path are known
 abbrev pub IsTextsCall : Host → AuditConfig → Option (List ℕ) → List ℕ → List ℕ → FailedCall
     → Type 0
 IsTextsCall host config named place told call =
@@ -117,8 +117,8 @@ IsAskedCall command named host told call =
     ⊎ ((config : AuditConfig) × (settled command host ≡ Ok config)
     × IsLaterCall command named host config told call)
 
--- a call that failed, and what was started until then: nothing before the lockfile's place is
--- known, and behind it the start that generates a lockfile, where one has to be generated
+-- a call that failed, and what was started until then: nothing before the lockfile's path is
+-- known; after that the start that generates a lockfile, if one must be generated
 abbrev pub IsOrderedCall : AuditCommand → Option (List ℕ) → Host → List Started → List Started
     → List ℕ → FailedCall → Type 0
 IsOrderedCall command named host before now told call =

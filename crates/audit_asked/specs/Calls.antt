@@ -1,4 +1,4 @@
--- The calls on a host's files that may fail, and what a failed one ends (this project).
+-- The calls on a host's files that may fail, and what a failed one causes (this project).
 use Rattle.std.specs.Prelude.{◌≡◌, ◌≤◌, ◌⊎◌, ℕ, codes, List, [], ◌∷◌, ◌++◌, take, false, Option, Some, None, Result, Ok, Err, IfErr}
 use Rattle.std.specs.List.{Contains, slice_get}
 use Rattle.tame_names.specs.Counts.{CountRose}
@@ -20,8 +20,8 @@ use Rattle.audit_asked.specs.declared.places.LocateError.TheVariants as locate
 
 -- ---- what a failed call does
 
--- a fault of the files added one call to the failed ones, which may end a run with its path; any
--- other fault none
+-- a fault of the files added one call to the failed ones, and it may end a run with its path; any
+-- other fault added none
 abbrev pub AddsBy : (List ℕ → FailedCall → Type 0) → List FailedCall → List FailedCall → AskFault
     → Type 0
 AddsBy may before now (fault.File path) =
@@ -38,7 +38,7 @@ pub record HasFileCause {T : Type 0} (before now : ℕ) (result : Result T AskFa
   pub later : before ≤ now
   pub rose : (path : List ℕ) → result ≡ Err (fault.File path) → CountRose before now
 
--- a failed look at one of two files by name added it to the failed ones
+-- a failed look at one of the two named files is added to the failed calls
 abbrev pub AddsLook : {T : Type 0} → List FailedCall → List FailedCall → Result T LocateError
     → Type 0
 AddsLook before now (Err (locate.File path)) =
@@ -49,7 +49,7 @@ abbrev pub IsLookError : LocateError → Type 0
 IsLookError (locate.File path) = Unit {0}
 IsLookError _ = ⊥
 
--- the path of a look for a lockfile, where none is named: `Cargo.lock`, or where it isn't there
+-- the path of a look for a lockfile if none is named: `Cargo.lock`, or if that isn't there,
 -- `Cargo.toml`
 abbrev pub IsLookedAt : Option (List ℕ) → Host → List ℕ → Type 0
 IsLookedAt (Some path) host told = ⊥
@@ -57,7 +57,7 @@ IsLookedAt None host told =
     (told ≡ lockfile_name)
     ⊎ ((is_there (host.stands lockfile_name) ≡ false) × (told ≡ manifest_name))
 
--- an error of a look tells such a path
+-- an error of a look reports such a path
 abbrev pub LookedAt : Option (List ℕ) → Host → LocateError → Type 0
 LookedAt named host (locate.File path) = IsLookedAt named host path.now
 LookedAt named host _ = Unit {0}
@@ -67,13 +67,13 @@ pub record HasLookCause {T : Type 0} (before now : ℕ) (result : Result T Locat
   pub later : before ≤ now
   pub rose : IfErr result (λ e. IsLookError e → CountRose before now)
 
--- ---- which calls may fail, with the path that is told
+-- ---- which calls may fail, with the path that is reported
 
--- a call on this path, which is told
+-- a call on this path, which is reported
 abbrev pub IsCallOn : FileCall → List ℕ → List ℕ → FailedCall → Type 0
 IsCallOn name path told call = (told ≡ path) × (call ≡ record { call = name; path = Some path })
 
--- the reading of standard input, which is told as this path
+-- the reading of standard input, which is reported as this path
 abbrev pub IsInputCall : List ℕ → List ℕ → FailedCall → Type 0
 IsInputCall path told call =
     (told ≡ path) × (call ≡ record { call = file_call.ReadStdin; path = None })
@@ -89,7 +89,7 @@ IsHomeConfigCall host told call =
     ⊎ ((home : List ℕ) × (known_home host ≡ Some home)
     × IsCallOn file_call.Read (home_file home) told call)
 
--- the reading of settings: a file's, or where it isn't there those in cargo's home
+-- the reading of settings: those of a file, or if it isn't there, those in cargo's home
 abbrev pub IsSettingsFrom : Host → List ℕ → List ℕ → FailedCall → Type 0
 IsSettingsFrom host path told call =
     IsCallOn file_call.Read path told call
@@ -98,7 +98,7 @@ IsSettingsFrom host path told call =
 abbrev pub IsSettingsCall : Host → List ℕ → FailedCall → Type 0
 IsSettingsCall host told call = IsSettingsFrom host folder_file told call
 
--- a look for a lockfile, at the path that is told
+-- a look for a lockfile, at the path that is reported
 abbrev pub IsPlaceCall : Option (List ℕ) → Host → List ℕ → FailedCall → Type 0
 IsPlaceCall named host told call =
     IsLookedAt named host told × IsCallOn file_call.Kind told told call
@@ -120,7 +120,7 @@ IsListingCall host database told call =
     ⊎ IsListingBelow (crates_folder database)
     (names_at wanted.Folders host (crates_folder database)) told call
 
--- the reading of one of these advisories, once all in front of it were accepted
+-- the reading of one of these advisories, once all before it were accepted
 abbrev pub IsReadingCall : Host → List (List ℕ) → List ℕ → FailedCall → Type 0
 IsReadingCall host paths told call =
     (n : ℕ) × (slice_get paths n ≡ Some told)
@@ -131,7 +131,7 @@ IsReadingCall host paths told call =
 abbrev pub IsLockfileCall : List ℕ → List ℕ → FailedCall → Type 0
 IsLockfileCall place told call = (told ≡ place) × (call ≡ reading_call place)
 
--- the reading of a baseline, where one is named
+-- the reading of a baseline, if one is named
 abbrev pub IsBaselineCall : Option (List ℕ) → List ℕ → FailedCall → Type 0
 IsBaselineCall None told call = ⊥
 IsBaselineCall (Some path) told call = IsCallOn file_call.Read path told call

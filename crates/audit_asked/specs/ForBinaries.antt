@@ -13,7 +13,7 @@ use Rattle.audit_asked.specs.Settings.{settled}
 use Rattle.audit_asked.specs.Texts.{go_on}
 use Rattle.audit_asked.specs.declared.binaries.AskedForBinaries.{AskedForBinaries}
 
--- under these settings: the database and the advisories, or the first refusal
+-- with these settings: the database and the advisories, or the first refusal
 abbrev pub advised : Host → AuditConfig → Result AskedForBinaries Refused
 advised host config =
     go_on (database_asked config.database.path host) (λ database.

@@ -15,7 +15,7 @@ findings_read (Ok findings) = Ok (Some findings)
 findings_read (Err (baseline_fault.Line n)) = Err (baseline n)
 findings_read (Err baseline_fault.NoMemory) = Err untold
 
--- those of the file at a path, where one is named; it has to be there
+-- those of the file at a path, if one is named; the file must be there
 abbrev pub baseline_asked : Option (List ℕ) → Host → Result (Option (List Finding)) Refused
 baseline_asked None host = Ok None
 baseline_asked (Some path) host =

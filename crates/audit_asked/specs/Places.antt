@@ -1,4 +1,4 @@
--- The lockfile's place (this project, after cargo-audit).
+-- The lockfile's path (this project, after cargo-audit).
 use Rattle.std.specs.Prelude.{ℕ, ℤ, pos, codes, List, Bool, true, false, Option, Some, None, if◌then◌else◌, Result, Ok, Err}
 use Rattle.std.specs.Ordering.{int_eq}
 use Rattle.tame_names.specs.Standing.{Host, Standing, Nothing}
@@ -20,18 +20,18 @@ abbrev pub place_of : Option (List ℕ) → List ℕ
 place_of None = lockfile_name
 place_of (Some path) = path
 
--- a lockfile has to be generated: none was named, `Cargo.lock` isn't there, and `Cargo.toml` is
+-- a lockfile must be generated: none was named, `Cargo.lock` isn't there, and `Cargo.toml` is
 abbrev pub is_to_generate : Option (List ℕ) → Host → Bool
 is_to_generate (Some path) host = false
 is_to_generate None host =
     if is_there (host.stands lockfile_name) then false
     else is_there (host.stands manifest_name)
 
--- a lockfile is generated exactly where cargo ends with 0
+-- a lockfile is generated if and only if cargo ends with 0
 abbrev pub generated : ℤ → Result (List ℕ) Refused
 generated status = if int_eq status (pos 0) then Ok lockfile_name else Err (generate status)
 
--- the lockfile's place, where a lockfile that has to be generated is generated with this status
+-- the lockfile's path; if a lockfile must be generated, that start ends with this status
 abbrev pub place_asked : Option (List ℕ) → Host → ℤ → Result (List ℕ) Refused
 place_asked named host status =
     if is_to_generate named host then generated status

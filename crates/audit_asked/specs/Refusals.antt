@@ -13,7 +13,7 @@ limit = 67108864
 
 -- the settings are refused; nothing is at a path; what is there isn't UTF-8, has too many bytes, or
 -- is no file; the n-th advisory is refused; a line of the baseline is no finding; cargo ended with
--- another status than 0; the last one is told by no host
+-- a status other than 0; no host causes the last one
 pub data Refused : Type 0 where
   settings : (reason : Refusal) → Refused
   missing : (path : List ℕ) → Refused
@@ -25,7 +25,7 @@ pub data Refused : Type 0 where
   generate : (status : ℤ) → Refused
   untold : Refused
 
--- the refusal that a fault tells
+-- the refusal that a fault reports
 abbrev pub refused : AskFault → Refused
 refused (fault.Settings reason) = settings (refusal reason)
 refused (fault.Missing path) = missing path
@@ -36,15 +36,15 @@ refused (fault.Baseline line) = baseline line
 refused (fault.Generate status) = generate status
 refused _ = untold
 
--- what a host has decides this fault: no call failed, and memory didn't run out
+-- what a host has decides this fault: no call failed, and it isn't out of memory
 abbrev pub is_told : AskFault → Bool
 is_told (fault.File path) = false
 is_told fault.Start = false
 is_told fault.NoMemory = false
 is_told _ = true
 
--- the faults that reading may end with, but for a baseline's: a text is too large only above the
--- limit, and want of memory is a fault of its own
+-- the faults that reading may end with, except a baseline's: a text is too large only above the
+-- limit, and out of memory is a fault of its own
 abbrev pub IsReadFault : AskFault → Type 0
 IsReadFault (fault.Settings reason) = reason ≢ settings_fault.NoMemory
 IsReadFault (fault.Missing path) = Unit {0}
@@ -55,25 +55,25 @@ IsReadFault (fault.Advisory n reason) = reason ≢ advisory_fault.NoMemory
 IsReadFault fault.NoMemory = Unit {0}
 IsReadFault _ = ⊥
 
--- the same where a baseline is read too: a line of it is told only where one is named
+-- the same if a baseline is read too: a line of it is reported only if one is named
 abbrev pub IsTextsFault : Option (List ℕ) → AskFault → Type 0
 IsTextsFault named (fault.Baseline line) = IsSome named
 IsTextsFault named e = IsReadFault e
 
--- the faults that asking may end with: besides, a start ended with another status than 0, or failed
+-- the faults that asking may end with: also, a start ended with a status other than 0, or failed
 abbrev pub IsAskFault : Option (List ℕ) → AskFault → Type 0
 IsAskFault named (fault.Generate status) = status ≢ pos 0
 IsAskFault named fault.Start = Unit {0}
 IsAskFault named e = IsTextsFault named e
 
--- a call on the files failed, or memory ran out
+-- a call on the files failed, or out of memory
 abbrev pub IsCallFault : AskFault → Type 0
 IsCallFault (fault.File path) = Unit {0}
 IsCallFault fault.NoMemory = Unit {0}
 IsCallFault _ = ⊥
 
 -- what the parts give, and what was answered: an answer is theirs, and so is a refusal that the
--- host tells
+-- host decides
 pub record Gives {A : Type 0} (part : Result A Refused) (result : Result A AskFault) : Type 0 where
   pub ok : IfOk result (λ a. part ≡ Ok a)
   pub refused : IfErr result (λ e. IsTrue (is_told e) → part ≡ Err (refused e))

@@ -22,7 +22,7 @@ folder_file = codes ".cargo/audit.toml"
 abbrev pub home_file : List ℕ → List ℕ
 home_file home = join home (codes "audit.toml")
 
--- cargo's home, where it can be told; the slashes at its end don't count
+-- cargo's home, if it is known; slashes at its end don't count
 abbrev pub home_told : Result (List ℕ) Error → Option (List ℕ)
 home_told (Ok home) = Some (plain_path home)
 home_told (Err reason) = None
@@ -43,7 +43,7 @@ config_in (Some text) = go_on (or_refused (settings text)) (λ config. Ok (Some 
 abbrev pub config_at : Host → List ℕ → Result (Option AuditConfig) Refused
 config_at host path = go_on (text_there path (host.stands path)) config_in
 
--- those in cargo's home, if there is such a file
+-- the settings in cargo's home, if there is such a file
 abbrev pub config_in_home : Host → Option (List ℕ) → Result (Option AuditConfig) Refused
 config_in_home host None = Ok None
 config_in_home host (Some home) = config_at host (home_file home)
@@ -52,7 +52,7 @@ abbrev pub or_default : Option AuditConfig → AuditConfig
 or_default None = default_settings
 or_default (Some config) = config
 
--- those that were found, else those in cargo's home, else the defaults
+-- the settings that were found, else those in cargo's home, else the defaults
 abbrev pub or_home : Host → Option AuditConfig → Result AuditConfig Refused
 or_home host (Some config) = Ok config
 or_home host None = go_on (config_in_home host (known_home host)) (λ config. Ok (or_default config))
@@ -61,10 +61,10 @@ or_home host None = go_on (config_in_home host (known_home host)) (λ config. Ok
 abbrev pub settings_from : Host → List ℕ → Result AuditConfig Refused
 settings_from host path = go_on (config_at host path) (or_home host)
 
--- the settings, where those of the current folder come first
+-- the settings; those of the current folder come first
 abbrev pub settings_file : Host → Result AuditConfig Refused
 settings_file host = settings_from host folder_file
 
--- the settings under the options of a command
+-- the settings with the options of a command applied
 abbrev pub settled : AuditCommand → Host → Result AuditConfig Refused
 settled command host = go_on (settings_file host) (λ config. Ok (overridden command config))

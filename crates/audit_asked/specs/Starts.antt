@@ -12,7 +12,7 @@ use Rattle.audit_asked.specs.declared.runners.Started.{Started}
 
 -- ---- one start
 
--- a start more, of these words, a failed one too; none for want of memory
+-- one more start, with these arguments, also a failed one; none if out of memory
 abbrev pub with_start : List Started → List (List ℕ) → Result ℤ StartFault → List Started
 with_start before words (Ok status) = before ++ record { words = words; status = Some status } ∷ []
 with_start before words (Err start_fault.Failed) =
@@ -31,8 +31,8 @@ generating status = record { words = generating_words; status = status }
 abbrev pub AddsStart : Option ℤ → List Started → List Started → Type 0
 AddsStart status before now = now ≡ before ++ generating status ∷ []
 
--- a start that ended with 0 where the call succeeded, with the status that it tells, or failed;
--- none where memory ran out or a look at the files failed
+-- if the call succeeded, a start that ended with 0; else one with the reported status or one that
+-- failed; none if out of memory or if a look at the files failed
 abbrev pub Generates : {T : Type 0} → List Started → List Started → Result T LocateError → Type 0
 Generates before now (Ok done) = AddsStart (Some (pos 0)) before now
 Generates before now (Err (locate.Generate status)) = AddsStart (Some status) before now
@@ -40,7 +40,7 @@ Generates before now (Err locate.Start) = AddsStart None before now
 Generates before now (Err (locate.File path)) = now ≡ before
 Generates before now (Err locate.NoMemory) = now ≡ before
 
--- the same where a lockfile has to be generated, and no start otherwise
+-- the same if a lockfile must be generated, else no start
 abbrev pub GeneratesWhere : {T : Type 0} → Bool → List Started → List Started → Result T LocateError
     → Type 0
 GeneratesWhere true before now result = Generates before now result
@@ -56,13 +56,13 @@ pub record HasStartCause {T : Type 0} (before now : ℕ)
   pub later : before ≤ now
   pub rose : result ≡ Err locate.Start → CountRose before now
 
--- a start failed, or ended with another status than 0
+-- a start failed, or ended with a status other than 0
 abbrev pub IsStartError : LocateError → Type 0
 IsStartError locate.Start = Unit {0}
 IsStartError (locate.Generate status) = Unit {0}
 IsStartError _ = ⊥
 
--- a look that failed was one at `Cargo.lock` or at `Cargo.toml`, and a status that is told isn't 0
+-- a failed look was at `Cargo.lock` or at `Cargo.toml`, and a reported status isn't 0
 abbrev pub IsLocateError : LocateError → Type 0
 IsLocateError (locate.File path) = (path.now ≡ lockfile_name) ⊎ (path.now ≡ manifest_name)
 IsLocateError (locate.Generate status) = status ≢ pos 0
@@ -70,8 +70,8 @@ IsLocateError _ = Unit {0}
 
 -- ---- the starts of a run
 
--- by a fault: the start as it ended; where a call on the files failed or memory ran out, it may
--- have been made or not
+-- after a fault: the start as it ended; if a call on the files failed or out of memory, it may have
+-- been made or not
 abbrev pub StartsBy : List Started → List Started → AskFault → Type 0
 StartsBy before now (fault.Generate status) = AddsStart (Some status) before now
 StartsBy before now fault.Start = AddsStart None before now
@@ -79,7 +79,7 @@ StartsBy before now (fault.File path) = (now ≡ before) ⊎ AddsStart (Some (po
 StartsBy before now fault.NoMemory = (now ≡ before) ⊎ AddsStart (Some (pos 0)) before now
 StartsBy before now _ = AddsStart (Some (pos 0)) before now
 
--- where a lockfile has to be generated
+-- if a lockfile must be generated
 abbrev pub RunStarts : {T : Type 0} → List Started → List Started → Result T AskFault → Type 0
 RunStarts before now (Ok a) = AddsStart (Some (pos 0)) before now
 RunStarts before now (Err e) = StartsBy before now e
@@ -89,8 +89,8 @@ abbrev pub RunStartsWhere : {T : Type 0} → Bool → List Started → List Star
 RunStartsWhere true before now result = RunStarts before now result
 RunStartsWhere false before now result = now ≡ before
 
--- the lockfile's place is known: the start that generates a lockfile ended with 0, where one has to
--- be generated
+-- the lockfile's path is known: the start that generates a lockfile ended with 0, if one must be
+-- generated
 abbrev pub IsPlaced : Bool → List Started → List Started → Type 0
 IsPlaced true before now = AddsStart (Some (pos 0)) before now
 IsPlaced false before now = now ≡ before

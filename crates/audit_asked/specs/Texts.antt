@@ -5,7 +5,7 @@ use Rattle.tame_names.specs.Standing.{Host, IsInput, Standing, Nothing, File, Fo
 use Rattle.tame_names.specs.Utf8.{utf8_text}
 use Rattle.audit_asked.specs.Refusals.{Refused, limit, missing, no_file, not_utf8, too_large}
 
--- the text of these bytes, which are no more than the limit, and UTF-8
+-- the text of these bytes, which must be UTF-8 and within the limit
 abbrev pub limited_text : List ℕ → List ℕ → Result (List ℕ) Refused
 limited_text path bytes =
     if nat_lt limit (length bytes) then Err (too_large path (length bytes))
@@ -22,16 +22,16 @@ text_there path (File bytes) = go_on (limited_text path bytes) (λ text. Ok (Som
 text_there path (Folder entries) = Err (no_file path)
 text_there path Other = Err (no_file path)
 
--- the text of a file that has to be there
+-- the text of a file that must be there
 abbrev pub file_text : List ℕ → Standing → Result (List ℕ) Refused
 file_text path standing = go_on (text_there path standing) (or_fault (missing path))
 
--- the text at a path, where `-` is standard input
+-- the text at a path; `-` is standard input
 abbrev pub input_or_text : Host → List ℕ → Result (List ℕ) Refused
 input_or_text host path =
     if bytes_eq path (codes "-") then limited_text path host.input
     else file_text path (host.stands path)
 
--- if this path is that of standard input, nothing is left of it
+-- if this path is standard input, nothing is left of it
 abbrev pub IsUsedUp : List ℕ → Host → Type 0
 IsUsedUp path host = IsInput path → host.input ≡ []

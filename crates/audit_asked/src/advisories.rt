@@ -92,7 +92,7 @@ fn database_paths<F: Files>(
     paths_in(alloc, files, crates.as_str(), &names)
 }
 
-/// The advisory at a path, which has this number.
+/// The advisory at a path, with this number.
 fn advisory_at<F: Files>(
     alloc: Global,
     files: &mut F,
@@ -117,7 +117,7 @@ fn advisory_at<F: Files>(
     }
 }
 
-/// The advisories at these paths, each read whole before the next.
+/// The advisories at these paths, each read fully before the next.
 fn advisories_at<F: Files>(
     alloc: Global,
     files: &mut F,
@@ -141,7 +141,7 @@ fn advisories_at<F: Files>(
     Ok(advisories)
 }
 
-/// The advisories of a database; none where there is none.
+/// The advisories of a database; none if there is no database.
 pub(crate) fn advisories<F: Files>(
     alloc: Global,
     files: &mut F,

@@ -26,21 +26,21 @@ use tame_names::{Files, Items, Text};
 /// What a run asked of its host.
 #[derive(Debug, Drop)]
 pub struct Asked {
-    /// The settings under the command's options.
+    /// The settings with the command's options applied.
     pub config: AuditConfig,
     /// The lockfile's path; `-` is standard input.
     pub place: Text,
-    /// The path of the database; `advisory-db` where cargo's home can't be told.
+    /// The path of the database; `advisory-db` if cargo's home isn't known.
     pub database: Text,
     /// The advisories, in the byte order of their folders and files.
     pub advisories: Items<Advisory>,
-    /// The baseline, where one is named.
+    /// The baseline, if one is named.
     pub baseline: Option<Baseline>,
     /// The lockfile's text.
     pub text: Text,
 }
 
-/// The path of a text that may be absent.
+/// A path that may be absent, as `&str`.
 fn path_of(text: &Option<Text>) -> Option<&str>
     ensures { option_map (λ path. path.now) result ≡ text.now }
 {
@@ -50,7 +50,7 @@ fn path_of(text: &Option<Text>) -> Option<&str>
     }
 }
 
-/// What the host has under some settings, for a lockfile at some place.
+/// What the host has for some settings and a lockfile at some path.
 #[derive(Drop)]
 struct Found {
     database: Text,
@@ -59,8 +59,8 @@ struct Found {
     text: Text,
 }
 
-/// Asks the host for the advisories, for a baseline, where one is named, and for the lockfile's
-/// text, under these settings.
+/// Asks the host for the advisories, for a baseline if one is named, and for the lockfile's
+/// text, with these settings.
 fn look<F: Files>(
     alloc: Global,
     files: &mut F,
@@ -96,7 +96,7 @@ fn look<F: Files>(
     })
 }
 
-/// The same with the settings and the place.
+/// The same, with the settings and the path in the answer.
 fn texts<F: Files>(
     alloc: Global,
     files: &mut F,
@@ -135,9 +135,9 @@ fn texts<F: Files>(
     })
 }
 
-/// Asks the host for the settings, for the lockfile's place, for the advisories one after the
-/// other, for the baseline at a path, where one is named, and for the lockfile's text. The first
-/// that is refused ends it.
+/// Asks the host for the settings, for the lockfile's path, for the advisories one after the
+/// other, for the baseline if its path is named, and for the lockfile's text. The first
+/// refusal ends it.
 pub fn ask<F: Files, R: Runner>(
     alloc: Global,
     command: &AuditCommand,

@@ -17,15 +17,15 @@ use tame_names::{Files, Items, Text};
 /// What audits of binaries asked of the host.
 #[derive(Debug, Drop)]
 pub struct AskedForBinaries {
-    /// The settings under the command's options.
+    /// The settings with the command's options applied.
     pub config: AuditConfig,
-    /// The path of the database; `advisory-db` where cargo's home can't be told.
+    /// The path of the database; `advisory-db` if cargo's home isn't known.
     pub database: Text,
     /// The advisories, in the byte order of their folders and files.
     pub advisories: Items<Advisory>,
 }
 
-/// Asks the host for the advisories, under these settings.
+/// Asks the host for the advisories, with these settings.
 fn advised<F: Files>(
     alloc: Global,
     files: &mut F,
@@ -51,8 +51,8 @@ fn advised<F: Files>(
     })
 }
 
-/// Asks the host for the settings, and for the advisories one after the other. The first that is
-/// refused ends it. No lockfile is asked for.
+/// Asks the host for the settings, and for the advisories one after the other. The first refusal
+/// ends it. No lockfile is asked for.
 pub fn ask_for_binaries<F: Files>(
     alloc: Global,
     command: &AuditCommand,

@@ -11,10 +11,10 @@ use crate::homes::known_home;
 use std::alloc::Global;
 use tame_names::{FileFault, Files, NoMemory, PathKind, Text, join, plain_path};
 
-/// The folder of advisories in cargo's home, and the path that is told where there is none.
+/// The folder of advisories in cargo's home, and the path that is reported if there is none.
 const DATABASE_NAME: &str = "advisory-db";
 
-/// A database that was named, which has to be there.
+/// A database that was named, which must be there.
 fn named_database<F: Files>(
     alloc: Global,
     files: &mut F,
@@ -57,8 +57,8 @@ fn home_database<F: Files>(alloc: Global, files: &mut F) -> Result<Option<Text>,
     }
 }
 
-/// The database: the one that was named, which has to be there, else the one in cargo's home, where
-/// that can be told.
+/// The database: the one that was named, which must be there; else the one in cargo's home, if
+/// that is known.
 pub(crate) fn database<F: Files>(
     alloc: Global,
     files: &mut F,
@@ -80,7 +80,7 @@ pub(crate) fn database<F: Files>(
     }
 }
 
-/// The path that is told of a database.
+/// The path that is reported for a database.
 pub(crate) fn database_path(alloc: Global, database: Option<Text>) -> Result<Text, NoMemory>
     ensures { IfOk result (λ path. path ≡ spec.database_path database) }
 {

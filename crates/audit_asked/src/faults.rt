@@ -1,14 +1,14 @@
-//! Why what is asked of the host isn't given.
+//! Why the host doesn't give what is asked.
 ghost use Rattle.std.specs.Prelude.{◌≡◌};
 
 use audit_advisory::AdvisoryFault;
 use audit_settings::SettingsFault;
 use tame_names::{NoMemory, Text};
 
-/// Why a host doesn't give what is asked of it. No reason that a fault holds is want of memory.
+/// Why a host doesn't give what is asked. No reason that a fault holds is `NoMemory`.
 #[derive(Debug, Drop)]
 pub enum AskFault {
-    /// The file of settings is refused, for this reason.
+    /// The settings file is refused, for this reason.
     Settings(SettingsFault),
     /// Nothing is at the path.
     Missing { path: Text },
@@ -16,17 +16,17 @@ pub enum AskFault {
     NotUtf8 { path: Text },
     /// The file has this number of bytes, which is too many.
     TooLarge { path: Text, len: u64 },
-    /// A call on the path failed; `cargo home` where the folder of cargo's home was asked for.
+    /// A call on the path failed; it is `cargo home` if the folder of cargo's home was asked for.
     File { path: Text },
     /// The advisory with this number, counted from 0, is refused, for this reason.
     Advisory { n: usize, fault: AdvisoryFault },
     /// This line of the baseline, counted from 0, is no finding.
     Baseline { line: u64 },
-    /// The start that should generate a lockfile ended with this status, which isn't 0.
+    /// The start to generate a lockfile ended with this status, which isn't 0.
     Generate { status: i32 },
-    /// The program that should generate a lockfile couldn't be started.
+    /// The program to generate a lockfile couldn't be started.
     Start,
-    /// Memory ran out.
+    /// Out of memory.
     NoMemory,
 }
 

@@ -1,4 +1,4 @@
-//! The folder of cargo's home, where it can be told.
+//! The folder of cargo's home, if it is known.
 ghost use Rattle.std.specs.Prelude.{◌≡◌, Ok, Err, IfOk, IfErr};
 ghost use Rattle.audit_asked.specs.Calls.{AddsFailed, AsksHome, HasFileCause};
 ghost use Rattle.audit_asked.specs.Settings as spec;
@@ -9,7 +9,7 @@ use std::alloc::Global;
 use tame_location::cargo_home;
 use tame_names::{Error, Files, IoKind, Text, plain_path};
 
-/// The folder of cargo's home, without slashes at its end; nothing where a variable isn't UTF-8 or
+/// The folder of cargo's home, without slashes at its end; nothing if a variable isn't UTF-8 or
 /// none names it.
 pub(crate) fn known_home<F: Files>(alloc: Global, files: &mut F) -> Result<Option<Text>, AskFault>
     ensures ok { F.tells → IfOk result (λ home. home ≡ spec.known_home (F.host files.old)) }

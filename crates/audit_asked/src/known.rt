@@ -26,7 +26,7 @@ fn baseline_in(alloc: Global, text: &str) -> Result<Baseline, AskFault>
     }
 }
 
-/// The baseline in the file at a path, where one is named; the file has to be there.
+/// The baseline in the file at a path, if one is named; the file must be there.
 pub fn baseline<F: Files>(
     alloc: Global,
     files: &mut F,

@@ -1,10 +1,10 @@
-//! What a run asks of its host before it audits: the settings, the lockfile's place, the
+//! What a run asks of its host before it audits: the settings, the lockfile's path, the
 //! advisories, a baseline and the lockfile's text; for audits of binaries the settings and the
 //! advisories.
 //!
-//! Promises: an answer or a refusal is that of the definition over what the host has; one call
-//! failed at most, and it is one that may end a run so.
-//! Stands on the host `Files` of `tame_names`, the home of `tame_location`, the readers of
+//! Promises: an answer or a refusal is that of the definition over what the host has; at most one
+//! call failed, and it is one that may end a run in this way.
+//! Depends on the host `Files` of `tame_names`, the home of `tame_location`, the readers of
 //! `audit_lock`, `audit_advisory`, `audit_settings` and `known_findings`.
 //!
 //! ```ignore

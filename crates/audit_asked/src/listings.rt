@@ -26,7 +26,7 @@ fn is_advisory_name(name: &str) -> bool
     name.as_bytes().ends_with(b".md")
 }
 
-/// The name of an entry, where it is wanted and UTF-8.
+/// The name of an entry, if it is wanted and UTF-8.
 fn wanted_name(wanted: Wanted, entry: &Listed) -> Option<&Text>
     ensures { option_map (λ name. name.now) result ≡ spec.wanted_name wanted entry.now }
 {
@@ -51,7 +51,7 @@ fn names_of(alloc: Global, wanted: Wanted, entries: &[Listed]) -> Result<BTreeSe
     Ok(names)
 }
 
-/// The wanted names in the folder at a path, in byte order; none where no folder is there.
+/// The wanted names in the folder at a path, in byte order; none if no folder is there.
 pub(crate) fn names_at<F: Files>(
     alloc: Global,
     files: &mut F,

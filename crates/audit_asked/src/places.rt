@@ -1,4 +1,4 @@
-//! The lockfile's place.
+//! The lockfile's path.
 ghost use Rattle.std.specs.Prelude.{◌≡◌, ◌⊎◌, ℕ, List, pos, Option, true, false, Ok, Err, Some, None, IfOk, IfErr, IsTrue, option_map};
 ghost use Rattle.audit_asked.specs.Calls.{AddsFailed, AddsLook, HasFileCause, HasLookCause, IsLookError, IsPlaceCall, LookedAt};
 ghost use Rattle.audit_asked.specs.Places.{place_asked, place_of};
@@ -13,7 +13,7 @@ use crate::runners::{Runner, StartFault};
 use std::alloc::Global;
 use tame_names::{FileFault, Files, Items, NoMemory, PathKind, Text};
 
-/// Why there is no place of a lockfile.
+/// Why there is no path of a lockfile.
 #[derive(Clone, Copy, Debug, PartialEq, Eq)]
 pub enum LocateError {
     /// A look at this path failed.
@@ -22,7 +22,7 @@ pub enum LocateError {
     Start,
     /// Cargo ended with this status, which isn't 0.
     Generate { status: i32 },
-    /// Memory ran out.
+    /// Out of memory.
     NoMemory,
 }
 
@@ -36,10 +36,10 @@ impl From<NoMemory> for LocateError {
     }
 }
 
-/// The lockfile where none is named.
+/// The lockfile if none is named.
 const LOCKFILE_NAME: &str = "Cargo.lock";
 
-/// The file of a package, from which a lockfile can be generated.
+/// The manifest of a package, from which a lockfile can be generated.
 const MANIFEST_NAME: &str = "Cargo.toml";
 
 /// Whether something is at a path.
@@ -60,7 +60,7 @@ fn is_there<F: Files>(files: &mut F, path: &'static str) -> Result<bool, LocateE
     }
 }
 
-/// Whether a lockfile that isn't named has to be generated.
+/// Whether a lockfile must be generated, if none is named.
 fn is_to_generate<F: Files>(files: &mut F) -> Result<bool, LocateError>
     ensures ok { F.tells → IfOk result
         (λ wanted. wanted ≡ spec.is_to_generate None (F.host files.old)) }
@@ -77,7 +77,7 @@ fn is_to_generate<F: Files>(files: &mut F) -> Result<bool, LocateError>
     is_there(files, MANIFEST_NAME)
 }
 
-/// The words that generate a lockfile.
+/// The arguments that generate a lockfile.
 fn generating_words(alloc: Global) -> Result<Items<Text>, NoMemory>
     ensures { IfOk result (λ words. words ≡ starts_spec.generating_words) }
 {
@@ -87,8 +87,8 @@ fn generating_words(alloc: Global) -> Result<Items<Text>, NoMemory>
     Ok(words)
 }
 
-/// Starts `cargo update --workspace`. `Generate` where it ends with another status than 0, `Start`
-/// where it can't be started.
+/// Starts `cargo update --workspace`. `Generate` if it ends with a status other than 0, `Start`
+/// if it can't be started.
 pub fn generate<R: Runner>(alloc: Global, runner: &mut R) -> Result<(), LocateError>
     ensures started { R.tells → Generates (R.starts runner.old) (R.starts runner.new) result }
     ensures only { IfErr result IsLocateError }
@@ -104,8 +104,8 @@ pub fn generate<R: Runner>(alloc: Global, runner: &mut R) -> Result<(), LocateEr
     }
 }
 
-/// The path that is given; without one `Cargo.lock`, which is generated where it isn't there and
-/// `Cargo.toml` is. `File` where a look at one of the two failed, else as `generate`.
+/// The path that is given; without one `Cargo.lock`, which is generated if it isn't there and
+/// `Cargo.toml` is. `File` if a look at one of the two failed, else as `generate`.
 pub fn locate_or_generate<F: Files, R: Runner>(
     alloc: Global,
     files: &mut F,
@@ -115,7 +115,7 @@ pub fn locate_or_generate<F: Files, R: Runner>(
     ensures ok { IfOk result (λ place. place ≡ place_of (option_map (λ p. p.now) path.entry)) }
     ensures only { IfErr result IsLocateError }
 
-    // a program is started exactly where a lockfile has to be generated
+    // a program is started if and only if a lockfile must be generated
     ensures started { F.tells → R.tells
         → GeneratesWhere (spec.is_to_generate (option_map (λ p. p.now) path.entry)
         (F.host files.old))
@@ -142,7 +142,7 @@ pub fn locate_or_generate<F: Files, R: Runner>(
     Ok(place)
 }
 
-/// The one of two texts that is this path.
+/// The one of two strings that is this path.
 fn same_path(path: &str, one: Text, other: Text) -> Text
     requires { (path.now ≡ one) ⊎ (path.now ≡ other) }
     ensures { result ≡ path.now }
@@ -150,7 +150,7 @@ fn same_path(path: &str, one: Text, other: Text) -> Text
     if path == one.as_str() { one } else { other }
 }
 
-/// The lockfile's place, where the command may name one.
+/// The lockfile's path; the command may name one.
 pub(crate) fn place<F: Files, R: Runner>(
     alloc: Global,
     files: &mut F,

@@ -11,9 +11,9 @@ use tame_names::{Items, NoMemory, Text};
 /// Why a program wasn't started.
 #[derive(Clone, Copy, Debug, PartialEq, Eq)]
 pub enum StartFault {
-    /// It couldn't be; the call was counted.
+    /// It couldn't be started; the call was counted.
     Failed,
-    /// Memory ran out.
+    /// Out of memory.
     NoMemory,
 }
 
@@ -30,9 +30,9 @@ impl From<NoMemory> for StartFault {
 /// A start that was asked for.
 #[derive(Debug, Drop, PartialEq, Eq)]
 pub struct Started {
-    /// The words that cargo was to be given.
+    /// The arguments for cargo.
     pub words: Items<Text>,
-    /// The status that it ended with; none where it couldn't be started.
+    /// The status that it ended with; none if it couldn't be started.
     pub status: Option<i32>,
 }
 
@@ -43,7 +43,7 @@ pub trait Runner {
     /// That it tells which starts were made.
     ghost tells: { Type 0 };
 
-    /// The starts so far, the first in front, where they are told.
+    /// The starts so far, in order, if they are told.
     ghost starts: { Self → List Started };
 
     /// How often a start has failed.
@@ -53,14 +53,14 @@ pub trait Runner {
     fn start_faults(&self) -> u64
         ensures { result ≡ faults self.now };
 
-    /// Starts cargo with these words, and answers the status that it ends with.
+    /// Starts cargo with these arguments, and returns the status that it ends with.
     fn start(&mut self, alloc: Global, words: &Items<Text>) -> Result<i32, StartFault>
         ensures cause { HasCause StartFault.NoMemory (faults self.old) (faults self.new) result }
         ensures started { tells → starts self.new ≡ with_start (starts self.old) words.now result };
 }
 
-/// A runner in memory: the statuses of its starts, one after the other. A start without a status,
-/// and one past the end of the list, fails.
+/// A runner in memory: the statuses of its starts, one after the other. A start without a status
+/// fails, and so does one past the end of the list.
 #[derive(Drop)]
 pub struct MemRunner {
     statuses: Items<Option<i32>>,
@@ -69,7 +69,7 @@ pub struct MemRunner {
 }
 
 impl MemRunner {
-    /// No start yet; those to come end with these statuses.
+    /// A runner without starts; the coming ones end with these statuses.
     pub fn new(alloc: Global, statuses: Items<Option<i32>>) -> MemRunner
         ensures statuses { result.statuses ≡ statuses }
         ensures starts { result.starts ≡ [] }
@@ -82,7 +82,7 @@ impl MemRunner {
         }
     }
 
-    /// The starts so far, the first in front.
+    /// The starts so far, in order.
     pub fn starts(&self) -> &[Started]
         ensures { result.now ≡ self.now.starts }
     {

@@ -13,7 +13,7 @@ use audit_settings::{AuditCommand, AuditConfig, CONFIG_FILE, SettingsFault};
 use std::alloc::Global;
 use tame_names::{Files, join};
 
-/// The file of settings in the current folder.
+/// The settings file in the current folder.
 const FOLDER_FILE: &str = ".cargo/audit.toml";
 
 /// The settings of the file at a path, if it is there.
@@ -87,7 +87,7 @@ fn settings_from<F: Files>(
     }
 }
 
-/// The settings, where those of the current folder come first.
+/// The settings; those of the current folder come first.
 fn settings_file<F: Files>(alloc: Global, files: &mut F) -> Result<AuditConfig, AskFault>
     ensures ok { F.tells → IfOk result
         (λ config. spec.settings_file (F.host files.old) ≡ Ok config) }
@@ -102,7 +102,7 @@ fn settings_file<F: Files>(alloc: Global, files: &mut F) -> Result<AuditConfig, 
     settings_from(alloc, files, FOLDER_FILE)
 }
 
-/// The settings under the options of a command.
+/// The settings with the options of a command applied.
 pub(crate) fn settled<F: Files>(
     alloc: Global,
     command: &AuditCommand,

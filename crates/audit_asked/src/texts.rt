@@ -12,10 +12,10 @@ use crate::faults::AskFault;
 use std::alloc::Global;
 use tame_names::{FileFault, Files, ReadAnswer, Text, utf8_text};
 
-/// The largest file of settings, advisory and lockfile that is read, in bytes: 64 MiB.
+/// The largest settings file, advisory and lockfile that is read, in bytes: 64 MiB.
 pub const TEXT_LIMIT: u64 = 67108864;
 
-/// The text of a file that was read whole.
+/// The text of a file that was fully read.
 fn whole_text(alloc: Global, path: Text, bytes: &[u8]) -> Result<Text, AskFault>
     ensures ok { IfOk result (λ text. utf8_text bytes.now ≡ Some text) }
     ensures refused { IfErr result (λ e. (e ≡ AskFault.NoMemory)
@@ -76,7 +76,7 @@ pub(crate) fn file_text<F: Files>(
     }
 }
 
-/// The text of standard input, whose path is told as `-`.
+/// The text of standard input, whose path is reported as `-`.
 fn input_text<F: Files>(alloc: Global, files: &mut F, path: &str) -> Result<Text, AskFault>
     ensures ok { F.tells → IfOk result (λ text.
         limited_text path.now (F.host files.old).input ≡ Ok text) }
@@ -99,7 +99,7 @@ fn input_text<F: Files>(alloc: Global, files: &mut F, path: &str) -> Result<Text
     }
 }
 
-/// The text of the file at a path, where `-` is standard input.
+/// The text of the file at a path; `-` is standard input.
 pub(crate) fn input_or_text<F: Files>(
     alloc: Global,
     files: &mut F,

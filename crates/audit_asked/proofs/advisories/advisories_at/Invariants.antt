@@ -3,7 +3,7 @@ use Rattle.audit_asked.specs.Advisories.{advisories_from}
 use Rattle.audit_asked.proofs.Ahead.{before}
 use Rattle.audit_asked.proofs.advisories.advisories_at.Given as goal
 
--- the host as it was, and the advisories so far, in front of those of what is left
+-- the host as it was, and the advisories so far, before those of what is left
 abbrev pub invariant-loop-n : goal.invariant-loop-n
 invariant-loop-n g l = record {
   later : g.F.Files.faults l.fn.files ≤ g.F.Files.faults l.files;

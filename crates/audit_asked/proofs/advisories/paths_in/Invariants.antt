@@ -2,7 +2,7 @@ use Rattle.std.proofs.Common.{◌≡◌, ◌≤◌, ◌++◌, ℕ, List, Contain
 use Rattle.audit_asked.specs.Advisories.{paths_in}
 use Rattle.audit_asked.proofs.advisories.paths_in.Given as goal
 
--- the host as it was, and the paths so far, in front of those of what is left
+-- the host as it was, and the paths so far, before those of what is left
 abbrev pub invariant-loop-name : goal.invariant-loop-name
 invariant-loop-name g l = record {
   later : g.F.Files.faults l.fn.files ≤ g.F.Files.faults l.files;
