@@ -1,4 +1,4 @@
--- The records by a file of the cache are those of a body.
+-- The records from a cache file are those of a body.
 use Rattle.std.proofs.Common.{◌≡◌, ℕ, List, [], true, Some, None, Result, Ok, Err, refl, sym, ap, ◌∙◌, subst}
 use Rattle.tame_names.specs.declared.errors.CacheError.{CacheError}
 use Rattle.tame_records.specs.Krates.{records_of}

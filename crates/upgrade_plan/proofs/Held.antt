@@ -1,4 +1,4 @@
--- What a quiet turn leaves of its file has the records of the body that the server held.
+-- The file that a quiet turn leaves has the records of the body that the server held.
 use Rattle.std.proofs.Common.{◌≡◌, ◌⊎◌, inl, inr, ℕ, List, true, Option, Some, None, IsTrue, refl, sym, ap, ◌∙◌, subst, arith}
 use Rattle.std.specs.Prelude.{IfSome, IsSomeAnd}
 use Rattle.tame_names.specs.Counts.{CountStayed}
@@ -25,7 +25,7 @@ use Rattle.upgrade_plan.proofs.Bodies.{formed, good_records, of_entry, text_whol
 abbrev pub HasHeldRecords : File → Option Representation → Type 0
 HasHeldRecords file held = IsSomeAnd held (λ h. file_records crates_io_index file ≡ body_records h.body)
 
--- no zero byte stands in the url of the index
+-- the url of the index has no zero byte
 index_whole : NoZero crates_io_index
 index_whole = refl
 
@@ -44,7 +44,7 @@ confirmed m p file n (Some h) good names mapped is = confirmed_under m p file n 
 
 -- ---- the body was sent
 
--- under a held revision an entry can be stored
+-- an entry can be stored under a held revision
 revision_whole : (m : ServerMap) (p : List ℕ) (h : Representation) (o : Option OwnedRevision) → IfSome o (λ r. IsTrue (is_honest_text (revision_text r)) × (body_at m p r ≡ Some h.body))
     → IsRevision (stored_under o) × NoZero (entry_text (stored_under o))
 revision_whole m p h None mapped = (tt, refl)

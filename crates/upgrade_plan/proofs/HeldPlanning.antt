@@ -1,4 +1,4 @@
--- Each item of a plan over an honest server is by what the server held.
+-- Each item of a plan over an honest server follows from what the server held.
 use Rattle.std.proofs.Common.{◌≡◌, ◌⊎◌, inl, inr, ◌≤◌, ◌<◌, ◌^◌, ◌-◌, ℕ, zero, suc, ◌+◌, List, [], ◌∷◌, ◌++◌, Bool, true, false, cond, Option, Some, None, option_map, refl, sym, ap, ◌∙◌, subst, arith, rules}
 use Rattle.std.specs.Prelude.{IfSome, IsSomeAnd, bytes_eq, slice_get}
 use Rattle.std.specs.List.{AllByRecursion, enumerate_from, filter}

@@ -69,7 +69,7 @@ own_has test p (a ∷ advs) j =
     ap (λ (vs : List Vulnerability). has_vulnerability vs j) (mapped_case (test p.item a.item) (pair_of p a) rest)
     ∙ own_step (p.place == j) (test p.item a.item) _ (map vulnerability_of rest) (vulnerability_of (pair_of p a)) j refl (own_has test p advs j)
 
--- ---- one package more in front
+-- ---- one more package at the front
 
 found_parts : (test : Test) (i : ℕ) (p : Package) (ps : List Package) (advs : List (Placed Advisory))
     → found test i (p ∷ ps) advs ≡ own test (record { place = i; item = p }) advs ++ found test (suc i) ps advs
@@ -83,7 +83,7 @@ found_has test i p ps advs j =
     ∙ list_any-append (λ (v : Vulnerability). v.«package» == j) (own test (record { place = i; item = p }) advs) (found test (suc i) ps advs)
     ∙ ap (λ b. b || has_vulnerability (found test (suc i) ps advs) j) (own_has test (record { place = i; item = p }) advs j)
 
--- none is of a package in front
+-- none is of an earlier package
 none_before : (test : Test) (i : ℕ) (ps : List Package) (advs : List (Placed Advisory)) (j : ℕ) → j < i → has_vulnerability (found test i ps advs) j ≡ false
 none_before test i [] advs j low = refl
 none_before test i (p ∷ ps) advs j low =
@@ -112,7 +112,7 @@ found_later test i p ps advs j low =
 
 -- ---- all packages
 
--- a test that says of each place from i on whether it has a vulnerability
+-- a test that says for each place from i on whether it has a vulnerability
 abbrev Tells : (ℕ → Bool) → ℕ → List Vulnerability → Type 0
 Tells said i vs = (j : ℕ) → i ≤ j → said j ≡ has_vulnerability vs j
 

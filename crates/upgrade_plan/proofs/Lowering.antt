@@ -1,4 +1,4 @@
--- Going through texts with the lowest so far gives the lowest of all.
+-- Going through strings with the lowest so far gives the lowest of all.
 use Rattle.std.proofs.Common.{◌≡◌, ℕ, List, [], ◌∷◌, ◌++◌, Bool, true, false, cond, Option, Some, None, refl, sym, ap, subst, ◌∙◌, append_assoc, append-nil}
 use Rattle.std.specs.List.{AllByRecursion}
 use Rattle.std.specs.Option.{option_cmp}
@@ -59,7 +59,7 @@ not_itself a = not_lower a (is_lower a a) refl
 lower_below : (a b c : List ℕ) → is_lower a b ≡ true → is_lower c b ≡ false → is_lower a c ≡ true
 lower_below a b c h k = below_others places a b c (option_cmp precedence (place_of c) (place_of b)) (places.antisymm b c) refl h k
 
--- ---- facts of all items
+-- ---- facts about all items
 
 weaker : {A : Type 0} (P Q : A → Type 0) → ((x : A) → P x → Q x) → (xs : List A) → AllByRecursion P xs → AllByRecursion Q xs
 weaker P Q f [] h = tt
@@ -69,13 +69,13 @@ pub both : {A : Type 0} (P : A → Type 0) (xs ys : List A) → AllByRecursion P
 both P [] ys h k = k
 both P (x ∷ xs) ys h k = (h.0, both P xs ys h.1 k)
 
--- ---- one text more
+-- ---- one more string
 
--- the text, where it passes
+-- the string, if it passes
 abbrev pub picked : (List ℕ → Bool) → List ℕ → Option (List ℕ)
 picked test t = cond (test t) (Some t) None
 
--- a text behind the others that isn't both: it passes, and it is lower
+-- a string after the others that doesn't pass or isn't lower
 behind_others : (test : List ℕ → Bool) (done : List (List ℕ)) (w t : List ℕ) → IsFirstLowest test done w → (test t ≡ true → is_lower t w ≡ false)
     → IsFirstLowest test (done ++ t ∷ []) w
 behind_others test done w t f h = record {
@@ -87,7 +87,7 @@ behind_others test done w t f h = record {
   first = f.first;
 }
 
--- one that passes, where all in front that pass are higher
+-- one that passes, if all earlier ones that pass are higher
 last_one : (test : List ℕ → Bool) (done : List (List ℕ)) (t : List ℕ) → test t ≡ true → AllByRecursion (λ u. test u ≡ true → is_lower t u ≡ true) done
     → IsFirstLowest test (done ++ t ∷ []) t
 last_one test done t h higher =
@@ -129,7 +129,7 @@ step test done (Some w) t h false e = behind_others test done w t h (λ p. absur
 
 -- ---- all of them
 
--- the lowest of what was found and of those that pass
+-- the lowest of what was found and those that pass
 abbrev pub lowest_from : (List ℕ → Bool) → Option (List ℕ) → List (List ℕ) → Option (List ℕ)
 lowest_from test least [] = least
 lowest_from test least (t ∷ ts) = lowest_from test (lower_of least (picked test t)) ts

@@ -1,4 +1,4 @@
--- One package more in a plan.
+-- One more package in a plan.
 use Rattle.std.proofs.Common.{◌≡◌, ◌≢◌, ◌⊎◌, inl, inr, ℕ, suc, ◌+◌, ◌≤◌, List, [], ◌∷◌, ◌++◌, Bool, true, false, cond, Option, Some, None, refl, sym, ap, subst, ◌∙◌, append_assoc, append-nil, drop, length, arith}
 use Rattle.std.specs.List.{filter}
 use Rattle.std.specs.Prelude.{IsSomeAnd, slice_get}
@@ -56,7 +56,7 @@ of_file told settings advisories cache files p q o h there is =
     subst (λ b. IsSourceOutcome told settings advisories cache files p b o) (sym h)
     (subst (λ r. IsPathOutcome told settings advisories cache.index files p r o) (sym there) is)
 
--- records of the cache don't speak of sources and names
+-- records from the cache don't speak of sources and names
 cache_kinds : (settings : Settings) (advisories : List Advisory) (p : Package) (r : Recorded) (o : PlanOutcome) → is_of_cache r ≡ true → IsOutcome settings advisories p r o
     → (o ≢ outcome.NoRecord why.Source) × (o ≢ outcome.NoRecord why.Name)
 cache_kinds settings advisories p (Missing why.Source) o of h = absurd (cc)
@@ -84,7 +84,7 @@ by_records told settings advisories index p file r o of from h =
 
 -- ---- the file of a package
 
--- a plan says that the file couldn't be read where the records do
+-- a plan says that the file couldn't be read if the records do
 pub outcome_store : (settings : Settings) (advisories : List Advisory) (p : Package) (r : Recorded) (o : PlanOutcome) → IsOutcome settings advisories p r o → o ≡ outcome.NoRecord why.Store → r ≡ Missing why.Store
 outcome_store settings advisories p (Missing cause) o h is = cc (h, is)
 outcome_store settings advisories p (Versions krate) (outcome.To w) h is = cc

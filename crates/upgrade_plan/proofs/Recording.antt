@@ -1,4 +1,4 @@
--- What a read of the cache handed out has the records of the file.
+-- What a read of the cache returned has the records of the file.
 use Rattle.std.proofs.Common.{◌≡◌, ◌≢◌, ◌⊎◌, inl, inr, ℕ, List, [], ◌∷◌, map, true, Option, Some, None, Result, Ok, Err, refl, sym, ap, ◌∙◌}
 use Rattle.std.specs.Prelude.{IfOk, IfErr}
 use Rattle.tame_names.specs.declared.errors.CacheError.{CacheError}
@@ -56,7 +56,7 @@ store_failed (Ok None) r h store failed = absurd (cc)
 store_failed (Ok (Some entry)) r h store failed = absurd (not_refused (iterated entry) (sym h ∙ store))
 store_failed (Err e) r h store failed = failed (λ memory. failed_is_no_memory (sym h.0 ∙ memory))
 
--- that the file couldn't be read is said where its read failed, and no other call did
+-- that the file couldn't be read is said if its read failed, and no other call did
 pub store_read : (q : List ℕ) (before now : FailedDiskCalls) (taken : Result (Option IndexEntry) Error) (r : Recorded) → AddsFailedBut error.NoMemory (FailedReading q) before now taken → IsRecordedAs taken r
     → r ≡ Missing why.Store → FailedReading q before now
 store_read q before now (Ok None) r adds h store = absurd (cc)

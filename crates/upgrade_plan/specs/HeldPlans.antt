@@ -1,4 +1,4 @@
--- What is planned by what the server held when an audit asked it (this project).
+-- What is planned from what the server held when an audit asked it (this project).
 use Rattle.std.specs.Prelude.{◌≡◌, ◌⊎◌, ℕ, List, [], ◌++◌, Bool, true, false, IsTrue, Option, Some, None, IsSomeAnd}
 use Rattle.std.specs.List.{AllByRecursion}
 use Rattle.tame_names.specs.Counts.{CountStayed}
@@ -30,7 +30,7 @@ use Rattle.upgrade_plan.specs.declared.plans.PlanOutcome.TheVariants as outcome
 
 -- ---- of a path
 
--- the answer says that the held body is the one that is kept, or it sends a plain one
+-- the answer says that the kept body is the held one, or it sends a plain one
 abbrev pub ConfirmsOrSends : WireAnswer → Type 0
 ConfirmsOrSends a = (a.status ≡ 304) ⊎ ((a.status ≡ 200) × IsTrue (plain a.body))
 
@@ -42,15 +42,15 @@ pub record LeavesHeld (e : Exchange) (t : Turn) : Type 0 where
 
 -- ---- of a package
 
--- by the records of the held body's lines; or the cache entry couldn't be read for the plan
+-- it follows from the records of the held body's lines, or the cache entry couldn't be read
 abbrev pub IsHeldOutcome : Settings → List Advisory → Package → Option Representation
     → PlanOutcome → Type 0
 IsHeldOutcome settings advisories p held o =
     IsSomeAnd held (λ h. IsOutcome settings advisories p (body_records h.body) o)
     ⊎ (o ≡ outcome.NoRecord why.Store)
 
--- its name has no path; else the path has an exchange and a turn, and where that leaves what the
--- server held, it is by what was held
+-- its name has no path; else the path has an exchange and a turn; if that leaves what the server
+-- held, the outcome follows from what was held
 abbrev pub IsPathHeldPlan : Settings → List Advisory → List Exchange → List Turn → Package
     → Option (List ℕ) → PlanOutcome → Type 0
 IsPathHeldPlan settings advisories exchanges turns p None o = o ≡ outcome.NoRecord why.Name
@@ -58,14 +58,14 @@ IsPathHeldPlan settings advisories exchanges turns p (Some q) o =
     IsSomeAnd (exchange_of q exchanges) (λ e. IsSomeAnd (turn_of q turns)
     (λ t. LeavesHeld e t → IsHeldOutcome settings advisories p e.held o))
 
--- it isn't of the default registry, or by its name
+-- it isn't from the default registry, or the outcome is by its name
 abbrev pub IsSourceHeldPlan : Settings → List Advisory → List Exchange → List Turn → Package
     → Bool → PlanOutcome → Type 0
 IsSourceHeldPlan settings advisories exchanges turns p false o = o ≡ outcome.NoRecord why.Source
 IsSourceHeldPlan settings advisories exchanges turns p true o =
     IsPathHeldPlan settings advisories exchanges turns p (path p.name) o
 
--- what is planned for a package, by what was held in these exchanges
+-- what is planned for a package, from what was held in these exchanges
 abbrev pub IsHeldPlan : Settings → List Advisory → List Exchange → List Turn → Package
     → PlanOutcome → Type 0
 IsHeldPlan settings advisories exchanges turns p o =
@@ -86,13 +86,13 @@ pub record IsHonestAudit (auditor : Auditor) (wire disk : Type 0) (began left : 
   pub honest : AreHonest server added
   pub kept : IsKept server crates_io_index [] began.files
 
--- each item of a plan is by what was held in the exchanges of the audit
+-- each item of a plan follows from what was held in the exchanges of the audit
 abbrev pub ArePlannedByHeld : List Advisory → Audited → List Exchange → List PlanItem → Type 0
 ArePlannedByHeld advisories audited exchanges items =
     AllByRecursion (IsPlannedAt (IsHeldPlan audited.report.settings advisories exchanges
     audited.turns) audited.lockfile) items
 
--- exchanges over an honest server, from a moment at which the disk was kept for what it held; the
+-- exchanges over an honest server, from a moment when the disk was kept for what it held; the
 -- wire and the disk tell it
 pub record IsHonestServing (wire disk : Type 0) (began : Moment) (added : List Exchange)
     : Type 0 where

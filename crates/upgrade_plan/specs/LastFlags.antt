@@ -1,4 +1,4 @@
--- For each version the flag of the last line that has it (this project).
+-- For each version, the flag of the last line that has it (this project).
 use Rattle.std.specs.Prelude.{◌≡◌, List, ℕ, Bool, map, String}
 use Rattle.std.specs.BTreeMap.{BTreeMap, get_by_text}
 use Rattle.std.specs.declared.alloc.Global.{Global}

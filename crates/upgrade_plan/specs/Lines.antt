@@ -23,12 +23,12 @@ outcome_words (outcome.To w) = codes "to " ++ w
 outcome_words outcome.NoneSafe = codes "no safe version"
 outcome_words (outcome.NoRecord cause) = codes "no record " ++ cause_word cause
 
--- the name as JSON text, the locked version, and what is planned, parted by single spaces
+-- the name as JSON text, the locked version, and what is planned, separated by single spaces
 abbrev pub item_line : List ℕ → List ℕ → PlanOutcome → List ℕ
 item_line name version o =
     quoted name ++ codes " " ++ version ++ codes " " ++ outcome_words o ++ codes "\n"
 
--- a place that no package has gives nothing
+-- a place without a package gives nothing
 abbrev pub line_at : Option Package → PlanOutcome → List ℕ
 line_at None o = []
 line_at (Some p) o = item_line p.name p.version o
@@ -47,6 +47,6 @@ is_to (outcome.To w) = true
 is_to outcome.NoneSafe = false
 is_to (outcome.NoRecord cause) = false
 
--- 0 where there is one for each item, else 1
+-- 0 if there is one for each item, else 1
 abbrev pub plan_status : List PlanItem → ℕ
 plan_status items = if list_all (λ item. is_to item.outcome) items then 0 else 1

@@ -1,4 +1,4 @@
--- The records of a crate by its file in the cache (this project).
+-- The records of a crate from its file in the cache (this project).
 use Rattle.std.specs.Prelude.{◌≡◌, ℕ, List, map, Bool, true, false, Option, Some, None, Result, Ok, Err}
 use Rattle.tame_names.specs.declared.errors.CacheError.{CacheError}
 use Rattle.tame_names.specs.declared.errors.Error.{Error}
@@ -15,12 +15,12 @@ use Rattle.upgrade_plan.specs.declared.records.NoRecord.TheVariants as why
 use Rattle.upgrade_plan.specs.declared.records.Recorded.{Recorded}
 use Rattle.upgrade_plan.specs.declared.records.Recorded.TheVariants.{Versions, Missing}
 
--- the records of lines, where each has one
+-- the records of lines, if each has one
 abbrev pub if_recorded : Option (List IndexVersion) → Recorded
 if_recorded None = Missing why.Record
 if_recorded (Some versions) = Versions (record { versions = versions })
 
--- by the lines of a body
+-- from the lines of a body
 abbrev pub body_records : List ℕ → Recorded
 body_records body = if_recorded (records_of (lines body))
 
@@ -28,12 +28,12 @@ abbrev pub read_records : Result ReadEntry CacheError → Recorded
 read_records (Ok e) = if_recorded (records_of (lines_in e.versions))
 read_records (Err f) = Missing why.Absent
 
--- by the file of the cache of the index at a url; a refused one is as good as none
+-- from the cache file of the index at a url; a refused file is treated as none
 abbrev pub file_records : List ℕ → File → Recorded
 file_records index None = Missing why.Absent
 file_records index (Some bytes) = read_records (read_entry index bytes)
 
--- a read of the cache says it: it speaks of neither source nor name
+-- it is from a read of the cache: neither source nor name is the cause
 abbrev pub is_of_cache : Recorded → Bool
 is_of_cache (Versions krate) = true
 is_of_cache (Missing why.Source) = false
@@ -42,7 +42,7 @@ is_of_cache (Missing why.Store) = true
 is_of_cache (Missing why.Absent) = true
 is_of_cache (Missing why.Record) = true
 
--- ---- by the lines of an index entry
+-- ---- from the lines of an index entry
 
 abbrev pub items_records : Result (List Item) CacheError → Recorded
 items_records (Ok items) = if_recorded (records_of (map (λ i. i.1) items))
@@ -51,7 +51,7 @@ items_records (Err f) = Missing why.Absent
 abbrev pub entry_records : IndexEntry → Recorded
 entry_records entry = items_records (iterated entry)
 
--- by what a read of the cache handed out
+-- from what a read of the cache returned
 abbrev pub IsRecordedAs : Result (Option IndexEntry) Error → Recorded → Type 0
 IsRecordedAs (Ok (Some entry)) r = r ≡ entry_records entry
 IsRecordedAs (Ok None) r = r ≡ Missing why.Absent

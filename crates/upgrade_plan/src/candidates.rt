@@ -1,4 +1,4 @@
-//! The versions that may take the place of a package's own.
+//! The versions that may replace a package's own.
 ghost use Rattle.std.specs.Prelude.{◌≡◌, Some, None, Ok, IfOk, if◌then◌else◌};
 ghost use Rattle.semver.specs.Identifiers.{parts_of};
 ghost use Rattle.semver.specs.Parse.{version_parts};
@@ -16,7 +16,7 @@ use std::cmp::Ordering;
 use std::marker::Model;
 use tame_names::{NoMemory, Text};
 
-/// A text that is a version. Contracts see the text.
+/// A string that is a version. Contracts see the string.
 #[derive(Drop)]
 pub struct Candidate {
     text: Text,
@@ -44,7 +44,7 @@ fn is_upgrade(locked: &Version, version: &Version) -> bool
         && compatible(locked, version)
 }
 
-/// Whether no advisory counts as a vulnerability of a package with this version in place of its
+/// Whether no advisory counts as a vulnerability of a package with this version instead of its
 /// own.
 fn is_unhit(
     database: &Database,
@@ -60,8 +60,8 @@ fn is_unhit(
 }
 
 impl Candidate {
-    /// The candidate that the text of a line is, by what the lines say; `locked` is the package's
-    /// own version.
+    /// The candidate that the version of a line is, by what the lines say; `locked` is the
+    /// package's own version.
     pub fn read(
         alloc: Global,
         database: &Database,
@@ -96,7 +96,7 @@ impl Candidate {
         self.version.cmp_precedence(&than.version) == Ordering::Less
     }
 
-    /// The version's text.
+    /// The version as written.
     pub fn into_text(self) -> Text
         ensures { result ≡ self }
     {

@@ -1,5 +1,5 @@
-//! What holds of the records of lines, of files and bodies, of every report, and of plans over an
-//! honest server.
+//! What holds for the records of lines, of files and bodies, for every report, and for plans over
+//! an honest server.
 ghost use Rattle.std.specs.Prelude.{◌≡◌, ℕ, List, Some, IsTrue};
 ghost use Rattle.tame_records.specs.Krates.{records_of};
 ghost use Rattle.tame_records.specs.declared.versions.IndexVersion.{IndexVersion};
@@ -29,15 +29,15 @@ ghost use Rattle.upgrade_plan.specs.declared.plans.PlanItem.{PlanItem};
 use tame_cache::CacheDisk;
 use tame_sparse::Wire;
 
-/// What the records of lines say of a version is what an audit reads in the lines.
+/// What the records of lines say about a version is what an audit reads in the lines.
 pub fn records_say_what_lines_say()
     ensures { (lines : List (List ℕ)) (versions : List IndexVersion) (text : List ℕ)
         → records_of lines ≡ Some versions → says versions text ≡ version_status lines text }
 {}
 
-/// The records by a file of the cache are those of a body: by the entry that was stored of a plain
-/// one; and by a file that is good for what a server held, where its revision may be named and the
-/// server held a body under it.
+/// The records from a cache file are those of a body: if the file is the entry stored for a plain
+/// body; or if it is good for what a server held, its revision may be named and the server held a
+/// body under it.
 pub fn files_have_the_records_of_bodies()
     ensures stored { (index : List ℕ) (r : EntryRevision) (body : List ℕ)
         → IsTrue (has_no_zero index) → IsRevision r
@@ -50,19 +50,19 @@ pub fn files_have_the_records_of_bodies()
 {}
 
 /// The packages that have a vulnerability in a report are those that some advisory of its database
-/// hits and counts as one.
+/// hits, counted as a vulnerability.
 pub fn vulnerable_packages_are_hit()
     ensures { (settings : Settings) (advisories : List Advisory) (packages : List Package)
         → vulnerable_places (report_of settings advisories packages).vulnerabilities packages
         ≡ hit_places settings advisories packages }
 {}
 
-/// A plan tells what the server held when the audit asked it. Behind an online audit over an honest
-/// server, on a disk that was kept for what it held, each item is by the records of the lines of
-/// the body that was held in the exchange of its path: the least safe version, or that there is
-/// none, or that some line has no record. So it is where no call on the disk failed in the path's
-/// turn, and the answer was 304, or 200 with a plain body; besides it may be that the entry
-/// couldn't be read for the plan.
+/// A plan follows from what the server held when the audit asked it. After an online audit over an
+/// honest server, on a disk that was kept for what it held: if no call on the disk failed in the
+/// path's turn, and the answer was 304, or 200 with a plain body, then each item is by the records
+/// of the lines of the body that was held in the exchange of its path: the least safe version, or
+/// that there is none, or that some line has no record. It may also be that the entry couldn't be
+/// read for the plan.
 pub fn plans_tell_what_the_server_held<W: Wire, D: CacheDisk>()
     ensures { (auditor : Auditor) (began left : Moment) (added : List Exchange) (text : List ℕ)
         (audited : Audited) (advisories : List Advisory) (faults : ℕ) (items : List PlanItem)

@@ -1,9 +1,9 @@
-//! For a vulnerable package the least safe version, by what the cache keeps of its crate.
+//! For a vulnerable package, the least safe version, from what the cache keeps of its crate.
 //!
-//! Promises: the version is the lowest of the candidates, or there is none, or the cause for which
-//! a package has no records is named; nothing is asked, and no file changes. Behind an audit over
-//! an honest server it is by what the server held.
-//! Stands on the index of a registry (`tame_names` to `tame_sparse`), the lockfiles of
+//! Promises: the version is the lowest of the candidates, or there is none, or the reason why a
+//! package has no records is given; nothing is asked, and no file changes. After an audit over an
+//! honest server, the version follows from what the server held.
+//! Depends on the index of a registry (`tame_names` to `tame_sparse`), the lockfiles of
 //! `audit_lock`, the advisories of `audit_advisory`, the audits of `audit_core`, and `serde_json`
 //! and `semver`.
 //!

@@ -96,7 +96,7 @@ fn is_to(outcome: &PlanOutcome) -> bool
     }
 }
 
-/// The status that a plan ends with: 0 where each item has a version to go to, else 1.
+/// The status that a plan ends with: 0 if each item has a version to go to, else 1.
 pub fn plan_status(items: &[PlanItem]) -> u8
     ensures { result ≡ spec.plan_status items.now }
 {

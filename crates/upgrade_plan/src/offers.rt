@@ -1,4 +1,4 @@
-//! What the lines of a crate say of its versions.
+//! What the lines of a crate say about its versions.
 ghost use Rattle.std.specs.Prelude.{◌≡◌, IfOk};
 ghost use Rattle.upgrade_plan.specs.Candidates as spec;
 ghost use Rattle.upgrade_plan.specs.LastFlags.{AreLastFlags};
@@ -9,11 +9,11 @@ use std::marker::Model;
 use tame_names::NoMemory;
 use tame_records::IndexVersion;
 
-/// The versions of a crate, and what its lines say of each. Contracts see the versions.
+/// The versions of a crate, and what its lines say about each. Contracts see the versions.
 #[derive(Drop)]
 pub struct Offers<'k> {
     versions: &'k [IndexVersion],
-    /// For each version the flag of the last line that has it.
+    /// For each version, the flag of the last line that has it.
     flags: BTreeMap<String, bool>,
 }
 
@@ -29,7 +29,7 @@ impl<'k> Model for Offers<'k> {
     ghost invariant = { λ o. AreLastFlags o.flags o.versions.now };
 }
 
-/// For each of these versions the flag of the last that has its text, found in one pass.
+/// For each of these versions, the flag of the last one with its text, found in one pass.
 fn last_flags(alloc: Global, versions: &[IndexVersion]) -> Result<BTreeMap<String, bool>, NoMemory>
     ensures { IfOk result (λ flags. AreLastFlags flags versions.now) }
 {
@@ -42,7 +42,7 @@ fn last_flags(alloc: Global, versions: &[IndexVersion]) -> Result<BTreeMap<Strin
 }
 
 impl<'k> Offers<'k> {
-    /// The versions of a crate, with what its lines say of them.
+    /// The versions of a crate, with what its lines say about them.
     pub fn of(alloc: Global, versions: &'k [IndexVersion]) -> Result<Offers<'k>, NoMemory>
         ensures { IfOk result (λ offers. offers ≡ versions.now) }
     {

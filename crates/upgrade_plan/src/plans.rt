@@ -40,7 +40,7 @@ pub struct PlanItem {
     pub outcome: PlanOutcome,
 }
 
-/// What is planned by the records of a package's crate.
+/// What is planned from the records of a package's crate.
 fn outcome_by(
     alloc: Global,
     database: &Database,
@@ -61,7 +61,7 @@ fn outcome_by(
     }
 }
 
-/// What is planned for a package by the cache.
+/// What is planned for a package from the cache.
 fn outcome_of<D: CacheDisk>(
     alloc: Global,
     database: &Database,
@@ -92,8 +92,8 @@ fn outcome_of<D: CacheDisk>(
 }
 
 /// What is planned for each package of an audit that has a vulnerability, in the lockfile's order,
-/// by the cache of an index. The settings are those of the audit's report. Nothing is asked, and no
-/// file changes. A package that the cache has nothing for says why.
+/// from the cache of an index. The settings are those of the audit's report. Nothing is asked, and
+/// no file changes. If the cache has nothing for a package, its item says why.
 pub fn plan<D: CacheDisk>(
     alloc: Global,
     audited: &Audited,
@@ -107,7 +107,7 @@ pub fn plan<D: CacheDisk>(
     ensures planned { IfOk result (AllByRecursion (IsPlannedAt (IsPlanOf D.tells
         audited.now.report.settings database.now index.now.cache
         (λ q. reads (D.past disk.old q))) audited.now.lockfile)) }
-    // where the report is that of the database, these are the packages that its advisories hit
+    // if the report is that of the database, these are the packages that its advisories hit
     ensures hit { (yanked : List ℕ) → audited.now.report
         ≡ with_yanked (report_of audited.now.report.settings database.now audited.now.lockfile)
         yanked
@@ -115,7 +115,7 @@ pub fn plan<D: CacheDisk>(
         ≡ hit_places audited.now.report.settings database.now audited.now.lockfile) }
     ensures stores { IfOk result
         (λ items. CountRoseBy (stores items) (D.faults disk.old) (D.faults disk.new)) }
-    // the calls on the disk that failed are the reads of the items' own files that couldn't be read,
+    // the failed calls on the disk are the reads of the items' own files that couldn't be read,
     // in the order of the items
     ensures reads { IfOk result (λ items. InSteps
         (ReadsOwn index.now.cache audited.now.lockfile) (D.failed disk.old) items

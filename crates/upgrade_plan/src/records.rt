@@ -19,7 +19,7 @@ use tame_sparse::SparseIndex;
 /// Why a package has no records.
 #[derive(Clone, Copy, Debug, PartialEq, Eq)]
 pub enum NoRecord {
-    /// It isn't of the default registry.
+    /// It isn't from the default registry.
     Source,
     /// Its name has no path in an index.
     Name,
@@ -40,7 +40,7 @@ pub enum Recorded {
     Missing(NoRecord),
 }
 
-/// The record of each line; nothing where some line has none.
+/// The record of each line; nothing if some line has none.
 fn item_records(
     alloc: Global,
     items: IndexEntryIter<'_>,
@@ -59,7 +59,7 @@ fn item_records(
     Ok(Some(versions))
 }
 
-/// The records of a cache entry; a file that is refused is as good as none.
+/// The records of a cache entry; a refused file is treated as none.
 fn entry_records(alloc: Global, entry: &IndexEntry<'_, '_>) -> Result<Recorded, NoMemory>
     ensures { IfOk result (λ r. r ≡ spec.entry_records entry.now) }
 {
@@ -72,7 +72,7 @@ fn entry_records(alloc: Global, entry: &IndexEntry<'_, '_>) -> Result<Recorded, 
     }
 }
 
-/// The records by what a read of the cache handed out.
+/// The records from what a read of the cache returned.
 fn taken_records(
     alloc: Global,
     taken: Result<Option<IndexEntry<'_, '_>>, Error>,

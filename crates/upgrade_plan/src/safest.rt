@@ -11,7 +11,7 @@ use std::alloc::Global;
 use tame_names::{NoMemory, Text};
 use tame_records::IndexKrate;
 
-/// The lower of what was found so far and a further candidate; the earlier where they are as low.
+/// The lower of what was found so far and a further candidate; the earlier if they are equally low.
 fn lower_of(least: Option<Candidate>, found: Option<Candidate>) -> Option<Candidate>
     ensures { result ≡ spec.lower_of least found }
 {
@@ -29,10 +29,10 @@ fn lower_of(least: Option<Candidate>, found: Option<Candidate>) -> Option<Candid
 }
 
 /// The lowest version in the lines of a crate that is safe for a package: without pre-release, not
-/// yanked by what the lines say of it, above the package's own and compatible with it, and no
-/// advisory of the database counts as a vulnerability of it. Of several of one precedence it is
-/// the first. None where there is no such version, and where the package's own isn't SemVer. The
-/// lines are gone through once, with a look-up among their versions for each.
+/// yanked by what the lines say, above the package's own and compatible with it, and no advisory of
+/// the database counts as a vulnerability of it. Of several of equal precedence it is the first.
+/// None if there is no such version, or if the package's own isn't SemVer. The lines are gone
+/// through once, with a look-up among their versions for each.
 pub fn least_safe(
     alloc: Global,
     database: &Database,

@@ -6,7 +6,7 @@ use audit_advisory::Vulnerability;
 use std::alloc::Global;
 use tame_names::NoMemory;
 
-/// For each of so many packages whether some vulnerability is of it, found in one pass.
+/// For each of this many packages, whether some vulnerability is of it, found in one pass.
 pub fn vulnerable_flags(
     alloc: Global,
     vulnerabilities: &[Vulnerability],

@@ -4,7 +4,7 @@ use Rattle.tame_entry.specs.VersionStatuses.{flags_of_version, last_flag, last_f
 use Rattle.tame_records.specs.Record.{version_flag}
 use Rattle.upgrade_plan.proofs.offers.last_flags.Given as goal
 
--- the last flag of what is left, or the one that was put last
+-- the last flag of what is left, or the last one so far
 abbrev pub invariant-loop-version : goal.invariant-loop-version
 invariant-loop-version l =
     (text : List ℕ) →
