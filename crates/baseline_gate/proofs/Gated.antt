@@ -19,7 +19,7 @@ pub nothing : (fs : List Finding) → gate_status fs ≡ 0 → fs ≡ []
 nothing [] h = refl
 nothing (f ∷ fs) h = let same : 1 ≡ 0 = h in absurd (omega (arith, same))
 
--- the first is known, and so are the others
+-- if the first is known, so are the others
 first_known : (b : Bool) (g : Finding) (left : List Finding) → cond (not b) (g ∷ left) left ≡ [] → (b ≡ true) × (left ≡ [])
 first_known true g left h = (refl, h)
 first_known false g left h = cc
@@ -75,7 +75,7 @@ failed baseline (g ∷ gs) h = go (is_among g baseline) refl h (failed baseline 
     go true e k more = new_behind baseline g gs (more k)
     go false e k more = new_here baseline g gs e
 
--- a new one that stands among these stands behind a known first one
+-- if the first is known, a new one among these comes after it
 not_first : (baseline : List Finding) (g : Finding) (gs : List Finding) → is_among g baseline ≡ true
     → HasNew baseline (g ∷ gs) → HasNew baseline gs
 not_first baseline g gs known h = go (is_same h.new g) refl h.found

@@ -1,4 +1,4 @@
--- Words of the laws on the findings of audits (this project).
+-- Definitions for the laws on the findings of audits (this project).
 use Rattle.std.specs.Prelude.{◌≡◌, ℕ, List, [], ◌∷◌, ◌++◌, IsSome, Some, false, true, slice_get}
 use Rattle.audit_lock.specs.declared.resolving.Package.{Package}
 use Rattle.audit_advisory.specs.declared.advisories.Advisory.{Advisory}
@@ -38,7 +38,7 @@ AreEach P [] (f ∷ fs) = ⊥
 AreEach P (x ∷ xs) [] = ⊥
 AreEach P (x ∷ xs) (f ∷ fs) = P x f × AreEach P xs fs
 
--- those of a report's vulnerabilities, and behind them those of its warnings
+-- those of a report's vulnerabilities, then those of its warnings
 pub record AreOfReport (advisories : List Advisory) (packages : List Package) (report : Report)
     (findings : List Finding) : Type 0 where
   pub hits : List Finding

@@ -20,11 +20,11 @@ warning_kind told.Unmaintained = kind.Unmaintained
 warning_kind told.Unsound = kind.Unsound
 warning_kind told.Yanked = kind.Yanked
 
--- the advisory's id, empty where there is none
+-- the advisory's id, empty if there is none
 abbrev pub id_of : Option Advisory → List ℕ
 id_of advisory = option_map_or (λ a. a.metadata.id) advisory []
 
--- the package's source, empty where it has none
+-- the package's source, empty if it has none
 abbrev pub source_of : Package → List ℕ
 source_of p = unwrap_or p.source []
 
@@ -32,7 +32,7 @@ abbrev pub finding : FindingKind → List ℕ → Package → Finding
 finding k id p =
     record { kind = k; id = id; name = p.name; version = p.version; source = source_of p }
 
--- ---- a place that nothing has gives none
+-- ---- a place without an item gives none
 
 abbrev pub hit_finding : Option Package → Option Advisory → List Finding
 hit_finding (Some p) (Some a) = finding kind.Vulnerability a.metadata.id p ∷ []

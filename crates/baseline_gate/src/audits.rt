@@ -13,7 +13,7 @@ use known_findings::{Baseline, Finding};
 use std::alloc::Global;
 use tame_names::{Items, NoMemory};
 
-/// The findings of an audit: its vulnerabilities, and then its warnings.
+/// The findings of an audit: its vulnerabilities, then its warnings.
 fn findings_of(
     alloc: Global,
     audited: &Audited,
@@ -25,9 +25,9 @@ fn findings_of(
     report_findings(alloc, &audited.report, database.advisories(), packages)
 }
 
-/// What baselines are to audits. An audit is meant to be one of the database that is given with it.
+/// Baselines of audits. The database that is given with an audit should be the one it used.
 pub trait AuditBaseline {
-    /// The findings that it lists.
+    /// The findings that a baseline lists.
     ghost lists: { Self → List Finding };
 
     /// The findings of an audit, as a baseline.

@@ -6,7 +6,7 @@ use known_findings::{Baseline, Finding};
 use std::alloc::Global;
 use tame_names::{Items, NoMemory};
 
-/// Those of these findings that aren't in the baseline, in their order; repeats are kept.
+/// The findings that aren't in the baseline, in their order; repeats are kept.
 pub fn unlisted_of(
     alloc: Global,
     baseline: &Baseline,
@@ -23,7 +23,7 @@ pub fn unlisted_of(
     Ok(unlisted)
 }
 
-/// The status of a gate by the findings that aren't listed: 0 where there is none, else 1.
+/// The status of a gate from the findings that aren't listed: 0 if there are none, else 1.
 pub fn gate_status(unlisted: &[Finding]) -> u8
     ensures { result ≡ spec.gate_status unlisted.now }
 {

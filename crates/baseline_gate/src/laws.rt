@@ -11,7 +11,7 @@ ghost use Rattle.known_findings.specs.Findings.{is_among};
 ghost use Rattle.known_findings.specs.declared.findings.Finding.{Finding};
 
 /// An audit by these advisories has one finding for each vulnerability of its report, in their
-/// order, and behind them one for each warning.
+/// order, and then one for each warning.
 pub fn each_entry_is_one_finding()
     ensures each { (advisories : List Advisory) (audited : Audited) → IsReportOf advisories audited
         → AreOfReport advisories audited.lockfile audited.report
@@ -21,8 +21,8 @@ pub fn each_entry_is_one_finding()
         ≡ length audited.report.vulnerabilities + length audited.report.warnings }
 {}
 
-/// A gate fails exactly where one of the findings is new, and that is where it prints something;
-/// else its status is 0. What isn't found any more changes nothing. Under their own baseline
+/// A gate fails if and only if one of the findings is new, and only then it prints something; else
+/// its status is 0. Listed findings that are gone change nothing. With their own baseline,
 /// findings never fail.
 pub fn gates_fail_on_new_findings_alone()
     ensures fails { (baseline findings : List Finding)

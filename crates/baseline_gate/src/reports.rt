@@ -23,7 +23,7 @@ fn warning_kind(kind: WarningKind) -> FindingKind
     }
 }
 
-/// The package's source; empty where it has none.
+/// The package's source; empty if it has none.
 fn source_of(locked: &Package) -> &str
     ensures { result.now ≡ source_of locked.now }
 {
@@ -33,7 +33,7 @@ fn source_of(locked: &Package) -> &str
     }
 }
 
-/// The advisory's id; empty where there is none.
+/// The advisory's id; empty if there is none.
 fn id_of<'a>(advisory: Option<&'a Advisory>) -> &'a str
     ensures { result.now ≡ spec.id_of (option_copied advisory.entry) }
 {
@@ -156,7 +156,7 @@ fn add_warnings(
     Ok(())
 }
 
-/// The findings of a report: each vulnerability, and then each warning, in the report's order.
+/// The findings of a report: each vulnerability, then each warning, in the report's order.
 pub fn report_findings(
     alloc: Global,
     report: &Report,

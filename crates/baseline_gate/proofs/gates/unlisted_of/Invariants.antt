@@ -3,7 +3,7 @@ use Rattle.std.specs.Vec.Iter.{into_iter_items}
 use Rattle.baseline_gate.specs.Gates.{unlisted}
 use Rattle.baseline_gate.proofs.gates.unlisted_of.Given as goal
 
--- those so far, in front of those of what is left
+-- those so far, before those of what is left
 abbrev pub invariant-loop-finding : goal.invariant-loop-finding
 invariant-loop-finding l =
     unlisted l.baseline l.fn.found
