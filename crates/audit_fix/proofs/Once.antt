@@ -6,7 +6,7 @@ use Rattle.audit_advisory.specs.declared.advisories.Advisory.{Advisory}
 use Rattle.audit_advisory.specs.declared.reports.Vulnerability.{Vulnerability}
 use Rattle.audit_fix.specs.Plans.{each_once, is_among, unpatched_place, with_each, with_new}
 
--- those that aren't among the places that were seen
+-- those that aren't among the places already seen
 abbrev pub unseen : List ℕ → List ℕ → List ℕ
 unseen seen places = filter (λ p. not (is_among p seen)) places
 
@@ -23,13 +23,13 @@ joined : (p q r : ℕ → Bool) → ((x : ℕ) → r x ≡ (q x && p x)) → (xs
 joined p q r h [] = refl
 joined p q r h (x ∷ xs) = kept p x (filter q xs) (filter r xs) (q x) (p x) (r x) refl (h x) (joined p q r h xs)
 
--- ---- one place more
+-- ---- one more place
 
 and_none : (b : Bool) → false ≡ (b && false)
 and_none true = refl
 and_none false = refl
 
--- a place that was seen is left out anyway
+-- a place already seen is left out anyway
 seen_before : (seen : List ℕ) (place : ℕ) → is_among place seen ≡ true → (x : ℕ)
     → not (is_among x seen) ≡ (not (nat_eq place x) && not (is_among x seen))
 seen_before seen place h x =
@@ -42,7 +42,7 @@ or_not : (b c d : Bool) → not c ≡ (not d && not b) → (e : Bool) → not (e
 or_not b c d h true = and_none (not d)
 or_not b c d h false = h
 
--- one that wasn't is seen now
+-- one that wasn't seen is seen now
 seen_now : (seen : List ℕ) (place x : ℕ) → not (is_among x (seen ++ place ∷ [])) ≡ (not (nat_eq place x) && not (is_among x seen))
 seen_now [] place x =
     elim (nat_eq place x) as (λ b. not (b || false) ≡ (not b && true)) [

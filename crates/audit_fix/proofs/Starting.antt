@@ -15,7 +15,7 @@ zip_more [] (b ∷ ys) x y h = cc
 zip_more (a ∷ xs) [] x y h = cc
 zip_more (a ∷ xs) (b ∷ ys) x y h = let same : length ys ≡ length xs = omega (arith, h) in rw (zip_more xs ys x y same) refl
 
--- one step more was started
+-- one more step was started
 pub step_more : (steps : List FixStep) (i : ℕ) (step : FixStep) (statuses : List (Option ℤ)) (status : Option ℤ) (before mid now : List Started)
     → i < length steps → step ≡ get_or steps i step → StartsEach (take i steps) statuses before mid
     → now ≡ mid ++ started (step, status) ∷ []

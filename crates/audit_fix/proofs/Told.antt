@@ -11,13 +11,13 @@ use Rattle.audit_core.specs.declared.auditing.Audited.{Audited}
 use Rattle.audit_fix.specs.Plans.{LeavesNoneOut, is_patched, step_of, unpatched_place, update_words}
 use Rattle.audit_fix.specs.declared.plans.FixStep.{FixStep}
 
--- at a place below the length something stands
+-- at a place below the length there is an item
 there : {A : Type 0} (xs : List A) (i : ℕ) → i < length xs → (x : A) × (slice_get xs i ≡ Some x)
 there [] i low = absurd (omega (arith, low))
 there (x ∷ xs) zero low = (x, refl)
 there (x ∷ xs) (suc i) low = there xs i (omega (arith, low))
 
--- the one or the other
+-- either a step or a place is added
 either : {A P S : Type 0} (b : Bool) (step : P → S) (p : P) (place : ℕ) (a : A) (steps : List S) (places : List ℕ)
     → length (cons_option (option_map step (cond b (Some p) None)) steps) + length (cons_option (option_map (λ x. place) (cond b None (Some a))) places)
     ≡ suc (length steps + length places)
@@ -43,7 +43,7 @@ each_told dry_run advisories packages (v ∷ vs) h =
     let one = one_told dry_run advisories packages v (filter_map (step_of dry_run advisories packages) vs) (filter_map (unpatched_place advisories) vs) (h 0 v (omega arith)) in
     omega (arith, one, more)
 
--- of an audit of these advisories
+-- for an audit of these advisories
 pub tells_each : (dry_run : Bool) (advisories : List Advisory) (audited : Audited) (steps : List FixStep) (places : List ℕ) → IsReportOf advisories audited
     → steps ≡ filter_map (step_of dry_run advisories audited.lockfile) audited.report.vulnerabilities
     → LeavesNoneOut advisories audited.report.vulnerabilities (record { steps = steps; unpatchable = places })

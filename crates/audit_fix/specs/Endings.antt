@@ -2,7 +2,7 @@
 use Rattle.std.specs.Prelude.{ℕ, List, length, Bool, not, ◌&&◌, ◌==◌, if◌then◌else◌}
 use Rattle.audit_advisory.specs.declared.reports.Vulnerability.{Vulnerability}
 
--- by the vulnerabilities, the advisories without a patch, and how many steps couldn't be started
+-- from the vulnerabilities, the advisories without a patch, and how many steps couldn't be started
 abbrev pub fix_status : Bool → List Vulnerability → List ℕ → ℕ → ℕ
 fix_status dry_run vulnerabilities unpatchable failed =
     if length vulnerabilities == 0 then 0

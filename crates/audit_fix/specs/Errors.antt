@@ -11,6 +11,6 @@ kind_text kind.Parse = codes "parse error"
 kind_text kind.Version = codes "version error"
 kind_text kind.Other = codes "other error"
 
--- the kind, and what was told
+-- the kind, and what is reported
 abbrev pub error_text : Error → List ℕ
 error_text e = kind_text e.kind ++ codes ": " ++ e.text

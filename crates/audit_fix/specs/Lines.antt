@@ -1,4 +1,4 @@
--- The lines that `fix` puts on err (this project, after cargo-audit).
+-- The lines that `fix` prints on standard error (this project, after cargo-audit).
 use Rattle.std.specs.Prelude.{ℕ, ℤ, codes, List, [], ◌∷◌, ◌++◌, Bool, true, false, Option, Some, None, slice_get, if◌then◌else◌}
 use Rattle.std.specs.Option.{option_map_or}
 use Rattle.audit_lock.specs.declared.resolving.Package.{Package}
@@ -29,16 +29,16 @@ is_failed [] = false
 is_failed (None ∷ statuses) = true
 is_failed (Some status ∷ statuses) = false
 
--- what is left behind the next status
+-- what is left after the next status
 abbrev pub behind_one : List (Option ℤ) → List (Option ℤ)
 behind_one [] = []
 behind_one (status ∷ statuses) = statuses
 
--- of a step
+-- the line of a step
 abbrev pub step_line : List (Option ℤ) → Package → List ℕ
 step_line statuses p = if is_failed statuses then failed_line p.name else []
 
--- of an advisory without a patch
+-- the line of an advisory without a patch
 abbrev pub advisory_line : List Package → ℕ → Advisory → List ℕ
 advisory_line packages place a =
     option_map_or (λ p. unpatched_line a.metadata.id p.name) (slice_get packages place) []
@@ -50,7 +50,7 @@ line_of advisories packages v statuses =
     option_map_or (step_line statuses) (patchable advisories packages v)
     (option_map_or (advisory_line packages v.«package») (unpatched advisories v) [])
 
--- the statuses that are left behind it
+-- the statuses that are left after a vulnerability
 abbrev pub behind : List Advisory → List Package → Vulnerability → List (Option ℤ)
     → List (Option ℤ)
 behind advisories packages v statuses =
@@ -58,7 +58,7 @@ behind advisories packages v statuses =
 
 -- ---- the list
 
--- of each vulnerability, in order
+-- the lines of each vulnerability, in order
 abbrev pub lines_of : List Advisory → List Package → List Vulnerability → List (Option ℤ)
     → List ℕ
 lines_of advisories packages [] statuses = []
@@ -66,7 +66,7 @@ lines_of advisories packages (v ∷ vs) statuses =
     line_of advisories packages v statuses
     ++ lines_of advisories packages vs (behind advisories packages v statuses)
 
--- nothing without a vulnerability; in a dry run first that it is one
+-- nothing without vulnerabilities; in a dry run, first the line that says so
 abbrev pub fix_lines : Bool → List Advisory → List Package → List Vulnerability
     → List (Option ℤ) → List ℕ
 fix_lines dry_run advisories packages [] statuses = []

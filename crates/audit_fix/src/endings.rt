@@ -5,8 +5,8 @@ ghost use Rattle.audit_fix.specs.Endings as spec;
 use crate::plans::FixPlan;
 use audit_core::Audited;
 
-/// The status that `fix` ends with, where so many of its steps couldn't be started: 0 without
-/// vulnerabilities; 2 where a start failed; 1 in a dry run where an advisory has no patched
+/// The status that `fix` ends with, if this many of its steps couldn't be started: 0 without
+/// vulnerabilities; else 2 if a start failed; else 1 in a dry run if an advisory has no patched
 /// version; else 0.
 pub fn fix_status(audited: &Audited, plan: &FixPlan, dry_run: bool, failed: u64) -> u8
     ensures { result

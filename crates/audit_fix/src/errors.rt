@@ -1,4 +1,4 @@
-//! Errors as cargo-audit tells them: a kind and a text.
+//! Errors as cargo-audit reports them: a kind and a text.
 ghost use Rattle.std.specs.Prelude.{◌≡◌, IfOk};
 ghost use Rattle.audit_fix.specs.Errors.{error_text, kind_text};
 
@@ -12,16 +12,16 @@ pub enum ErrorKind {
     Config,
     /// In reading or writing.
     Io,
-    /// A text that isn't what it has to be.
+    /// A text that isn't what it must be.
     Parse,
-    /// A version of a form that isn't known.
+    /// A version of an unknown form.
     Version,
     /// Any other.
     Other,
 }
 
 impl ErrorKind {
-    /// An error of this kind, with what is told of it.
+    /// An error of this kind, with this text.
     pub fn context(self, text: Text) -> Error
         ensures kind { result.kind ≡ self }
         ensures text { result.text ≡ text }
@@ -43,7 +43,7 @@ impl ErrorKind {
     }
 }
 
-/// An error: its kind, and what is told of it.
+/// An error: its kind, and its text.
 #[derive(Debug, Drop, PartialEq, Eq)]
 pub struct Error {
     kind: ErrorKind,
@@ -58,7 +58,7 @@ impl Error {
         self.kind
     }
 
-    /// What is told of the error.
+    /// The text of the error.
     pub fn text(&self) -> &str
         ensures { result.now ≡ self.now.text }
     {
@@ -66,7 +66,7 @@ impl Error {
     }
 }
 
-/// The text of an error: its kind, `: `, and what is told of it.
+/// An error as printed: its kind, `: `, and its text.
 pub fn display_err_with_source(alloc: Global, error: &Error) -> Result<Text, NoMemory>
     ensures { IfOk result (λ text. text ≡ error_text error.now) }
 {

@@ -1,9 +1,9 @@
-//! What `cargo audit fix` plans for the vulnerabilities of an audit, starts and prints, and the
-//! status that it ends with; and errors as cargo-audit tells them.
+//! What `cargo audit fix` plans, starts and prints for the vulnerabilities of an audit, and the
+//! status that it ends with; and errors as cargo-audit reports them.
 //!
 //! Promises: plan, lines and status are those of the definitions; each step is started once, in
 //! order, and each failed start is counted.
-//! Stands on the audits of `audit_core` and the trait `Runner` of `audit_asked`.
+//! Depends on the audits of `audit_core` and the trait `Runner` of `audit_asked`.
 //!
 //! ```ignore
 //! let plan = FixPlan::of(alloc, &audited, &database, false)?;

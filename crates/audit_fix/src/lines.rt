@@ -1,4 +1,4 @@
-//! The lines that `fix` puts on err.
+//! The lines that `fix` prints on standard error.
 ghost use Rattle.std.specs.Prelude.{◌≡◌, ◌++◌, IfOk, OnOk, string_bytes};
 ghost use Rattle.audit_fix.specs.Lines.{advisory_line, dry_run_line, failed_line, line_of, lines_of, step_line, unpatched_line, unpatched_title};
 ghost use Rattle.audit_fix.specs.Lines as spec;
@@ -55,7 +55,7 @@ fn is_failed(statuses: &[Option<i32>]) -> bool
     }
 }
 
-/// What is left behind the next status.
+/// What is left after the next status.
 fn behind_one(statuses: &[Option<i32>]) -> &[Option<i32>]
     ensures { result.now ≡ spec.behind_one statuses.now }
 {
@@ -65,7 +65,7 @@ fn behind_one(statuses: &[Option<i32>]) -> &[Option<i32>]
     }
 }
 
-/// The statuses that are left behind a vulnerability: its step takes one, if it has a step.
+/// The statuses that are left after a vulnerability: its step takes one, if it has a step.
 fn behind<'a>(
     advisories: &[Advisory],
     packages: &[Package],
@@ -154,10 +154,10 @@ fn push_lines(
     Ok(())
 }
 
-/// The lines that `fix` puts on err for the vulnerabilities of an audit of this database, where
-/// the steps of its plan ended with these statuses, none where a step couldn't be started: in a
-/// dry run that it is one; then, vulnerability by vulnerability, that nothing is patched, or that
-/// the start failed. Nothing without a vulnerability.
+/// The lines that `fix` prints on standard error for the vulnerabilities of an audit of this
+/// database. The steps of its plan ended with these statuses, none for a step that couldn't be
+/// started. In a dry run a line says so first; then, vulnerability by vulnerability, lines say that
+/// nothing is patched, or that the start failed. Nothing without vulnerabilities.
 pub fn fix_lines(
     alloc: Global,
     audited: &Audited,

@@ -12,12 +12,12 @@ use audit_lock::Package;
 use std::alloc::Global;
 use tame_names::{Items, NoMemory, Text};
 
-/// A start of cargo that is planned, which updates a package.
+/// A planned start of cargo that updates a package.
 #[derive(Debug, Drop, PartialEq, Eq)]
 pub struct FixStep {
     /// The place of the package in the lockfile.
     pub package: usize,
-    /// The words that cargo is to be given.
+    /// The arguments for cargo.
     pub words: Items<Text>,
 }
 
@@ -30,7 +30,7 @@ pub struct FixPlan {
     pub unpatchable: Items<usize>,
 }
 
-/// The words that update a package.
+/// The arguments that update a package.
 fn plain_words(alloc: Global, package: &Package) -> Result<Items<Text>, NoMemory>
     ensures { IfOk result (λ words. words ≡ spec.plain_words «package».now) }
 {
@@ -42,7 +42,7 @@ fn plain_words(alloc: Global, package: &Package) -> Result<Items<Text>, NoMemory
     Ok(words)
 }
 
-/// The words of a step that updates a package.
+/// The arguments of a step that updates a package.
 fn update_words(alloc: Global, package: &Package, dry_run: bool) -> Result<Items<Text>, NoMemory>
     ensures { IfOk result (λ words. words ≡ spec.update_words dry_run «package».now) }
 {
@@ -109,7 +109,7 @@ fn add_new(places: &mut Items<usize>, place: usize) -> Result<(), NoMemory>
     places.add(place)
 }
 
-/// Adds a place, where there is one that isn't there.
+/// Adds a place, if there is one and it isn't there.
 fn add_each(places: &mut Items<usize>, place: Option<usize>) -> Result<(), NoMemory>
     ensures { OnOk result (places.new ≡ with_each places.old place) }
 {
@@ -136,9 +136,9 @@ fn unpatchable_of(
 }
 
 impl FixPlan {
-    /// The plan for the vulnerabilities of an audit of this database, in their order: where the
+    /// The plan for the vulnerabilities of an audit of this database, in their order: if the
     /// advisory has a patched requirement, a step that updates the package, in a dry run with the
-    /// further word `--dry-run`; where nothing is patched, its advisory is unpatchable.
+    /// further argument `--dry-run`; if nothing is patched, its advisory is unpatchable.
     pub fn of(
         alloc: Global,
         audited: &Audited,
@@ -148,7 +148,7 @@ impl FixPlan {
         ensures plan { IfOk result (λ plan. plan ≡ fix_plan dry_run database.now
             audited.now.lockfile audited.now.report.vulnerabilities) }
 
-        // of an audit of this database no vulnerability is left out
+        // for an audit of this database, no vulnerability is left out
         ensures each { IsReportOf database.now audited.now → IfOk result (λ plan.
             LeavesNoneOut database.now audited.now.report.vulnerabilities plan) }
     {

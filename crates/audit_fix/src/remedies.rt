@@ -12,7 +12,7 @@ fn is_patched(advisory: &Advisory) -> bool
     !advisory.versions.patched().is_empty()
 }
 
-/// The package that can be updated: that of the vulnerability, where its advisory is patched.
+/// The package that can be updated: that of the vulnerability, if its advisory is patched.
 pub fn patchable<'a>(
     advisories: &[Advisory],
     packages: &'a [Package],
@@ -33,7 +33,7 @@ pub fn patchable<'a>(
     }
 }
 
-/// The advisory of a vulnerability, where nothing is patched.
+/// The advisory of a vulnerability, if nothing is patched.
 pub fn unpatched<'a>(
     advisories: &'a [Advisory],
     vulnerability: Vulnerability,

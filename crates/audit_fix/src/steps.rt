@@ -9,7 +9,7 @@ use audit_asked::{Runner, StartFault};
 use std::alloc::Global;
 use tame_names::{Items, NoMemory};
 
-/// Starts a step, and answers the status that it ends with; none where it couldn't be started.
+/// Starts a step, and returns the status that it ends with; none if it couldn't be started.
 fn start_step<R: Runner>(
     alloc: Global,
     step: &FixStep,
@@ -30,9 +30,9 @@ fn start_step<R: Runner>(
     }
 }
 
-/// Starts the steps of a plan one after the other, each once, in a dry run too, and answers the
-/// status that each ended with; none where it couldn't be started. Where memory runs out a part of
-/// the steps was started, from the front.
+/// Starts the steps of a plan one after the other, each once, also in a dry run, and returns the
+/// status that each ended with; none if it couldn't be started. If out of memory, only the first
+/// steps were started.
 pub fn start_steps<R: Runner>(
     alloc: Global,
     plan: &FixPlan,
@@ -59,7 +59,7 @@ pub fn start_steps<R: Runner>(
     Ok(statuses)
 }
 
-/// How many of these starts failed, by the statuses that they ended with.
+/// How many of these starts failed, from the statuses that they ended with.
 pub fn failed_starts(statuses: &[Option<i32>]) -> u64
     ensures { result ≡ spec.failed_starts statuses.now }
 {

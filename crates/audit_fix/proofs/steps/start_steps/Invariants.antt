@@ -3,7 +3,7 @@ use Rattle.tame_names.specs.Counts.{CountRoseBy}
 use Rattle.audit_fix.specs.Steps.{StartsEach, failed_starts}
 use Rattle.audit_fix.proofs.steps.start_steps.Given as goal
 
--- the steps so far were started, each once, and what failed was counted
+-- the steps so far were started, each once, and each failure was counted
 abbrev pub invariant-loop-step : goal.invariant-loop-step
 invariant-loop-step g l = record {
   one_each : length l.statuses ≡ l.step-index;
