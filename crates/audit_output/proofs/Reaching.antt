@@ -1,11 +1,11 @@
--- Texts that are put one after the other in a loop.
+-- Texts that a loop puts one after the other.
 use Rattle.std.proofs.Common.{◌≡◌, ℕ, List, [], ◌++◌, Result, sym, ap, ◌∙◌, subst, append_assoc, append-nil}
 use Rattle.std.specs.Prelude.{IsErr}
 use Rattle.tame_names.specs.Output.{AddsPrefix}
 use Rattle.report_parts.specs.Outputs.{IsPut}
 use Rattle.report_parts.proofs.Puts.{if_err, part_first, part_then, put_none, put_then}
 
--- what was put so far, and what is left, make the whole text
+-- what was put so far and what is left are the whole text
 pub record IsReached (before whole now left : List ℕ) : Type 0 where
   pub put : List ℕ
   pub so_far : now ≡ before ++ put

@@ -1,4 +1,4 @@
--- What is printed of the audits of binaries (this project, after cargo-audit).
+-- What is printed for the audits of binaries (this project, after cargo-audit).
 use Rattle.std.specs.Prelude.{ℕ, codes, decimal, List, [], ◌∷◌, ◌++◌, length, Bool, true, false, Some, if◌then◌else◌}
 use Rattle.audit_advisory.specs.declared.advisories.Advisory.{Advisory}
 use Rattle.audit_advisory.specs.declared.outputs.OutputConfig.{OutputConfig}
@@ -32,7 +32,7 @@ abbrev pub IsAnswerOf : List Advisory → BinaryAnswer → Type 0
 IsAnswerOf advisories (answer.Audited found audited) = IsReportOf advisories audited
 IsAnswerOf advisories (answer.Refused f) = Unit {0}
 
--- and so for each of the answers
+-- the same for each of the answers
 abbrev pub AreReportsOf : List Advisory → List BinaryAnswer → Type 0
 AreReportsOf advisories [] = Unit {0}
 AreReportsOf advisories (a ∷ answers) = IsAnswerOf advisories a × AreReportsOf advisories answers
@@ -57,12 +57,12 @@ abbrev pub found_of : PackagesFound → Found
 found_of Complete = found.Complete
 found_of Incomplete = found.Incomplete
 
--- that the binary says nothing; a binary that is refused otherwise has no status line
+-- the line that the binary has no information; a binary refused otherwise has no status line
 abbrev pub refused_status_line : OutputConfig → List ℕ → BinaryFault → List ℕ
 refused_status_line config path fault.NoInformation = binary_line_in config found.Nothing 0 path
 refused_status_line config path _ = []
 
--- how much the binary says, and of which of its packages it isn't known whether they are yanked
+-- how much the binary says, and for which of its packages it isn't known whether they are yanked
 abbrev pub binary_status_lines : OutputConfig → List ℕ → BinaryAnswer → List ℕ
 binary_status_lines config path (answer.Audited found audited) =
     binary_line_in config (found_of found) (length audited.lockfile) path
@@ -71,7 +71,7 @@ binary_status_lines config path (answer.Refused f) = refused_status_line config 
 
 -- ---- one binary
 
--- the line that tells why there is no audit
+-- the line that says why there is no audit
 abbrev pub refused_output : List ℕ → BinaryFault → Output
 refused_output path f = record { out = []; err = refused_line path f }
 
@@ -80,7 +80,7 @@ abbrev pub binary_verdicts : List ℕ → BinaryAnswer → Output
 binary_verdicts path (answer.Audited found audited) = verdict_output audited
 binary_verdicts path (answer.Refused f) = refused_output path f
 
--- an output by which no tree is shown
+-- an output that shows no tree
 abbrev pub without_trees : Presenter → Output → Printed
 without_trees presenter output =
     record { out = output.out; err = output.err; trees = presenter.trees }
@@ -92,7 +92,7 @@ binary_report advisories presenter path (answer.Audited found audited) =
 binary_report advisories presenter path (answer.Refused f) =
     without_trees presenter (refused_output path f)
 
--- with lines in front on err
+-- with lines before it on standard error
 abbrev pub behind_lines : List ℕ → Printed → Printed
 behind_lines lines p = record { out = p.out; err = lines ++ p.err; trees = p.trees }
 
@@ -102,7 +102,7 @@ answer_printed shown presenter path a =
     behind_lines (binary_status_lines shown.config path a)
     (binary_report shown.advisories presenter path a)
 
--- the verdicts, or those
+-- the verdicts, or the status lines and the report
 abbrev pub binary_printed : Bool → Shown → Presenter → List ℕ → BinaryAnswer → Printed
 binary_printed verdicts shown presenter path a =
     if verdicts then without_trees presenter (binary_verdicts path a)
@@ -114,12 +114,12 @@ binary_printed verdicts shown presenter path a =
 abbrev pub with_trees : Presenter → List ShownTree → Presenter
 with_trees presenter trees = record presenter { trees = trees }
 
--- an output in front of another one
+-- an output before another one
 abbrev pub in_front : Printed → Output → Output
 in_front p output = record { out = p.out ++ output.out; err = p.err ++ output.err }
 
--- each binary by the presenter that the ones before left; a path without an answer, and an answer
--- without a path, print nothing
+-- each binary is printed by the presenter that the earlier ones left; a path without an answer
+-- prints nothing, nor does an answer without a path
 abbrev pub binaries_printed : Bool → Shown → Presenter → List (List ℕ) → List BinaryAnswer
     → Output
 binaries_printed verdicts shown presenter [] answers = record { out = []; err = [] }
@@ -136,14 +136,14 @@ abbrev pub answers_output : Bool → Shown → List (List ℕ) → List BinaryAn
 answers_output verdicts shown paths answers =
     binaries_printed verdicts shown (presenter_of shown.config) paths answers
 
--- between the status lines in front of all and what advisories on the auditor itself say
+-- between the status lines before all and what advisories on the auditor itself say
 abbrev pub reports_output : Shown → Output → Output
 reports_output shown output = record {
   out = output.out ++ (self_output shown).out;
   err = loaded_by shown ++ output.err ++ (self_output shown).err;
 }
 
--- the verdicts alone, or all of that
+-- the verdicts alone, or the full output
 abbrev pub binaries_output : Bool → Shown → List (List ℕ) → List BinaryAnswer → Output
 binaries_output verdicts shown paths answers =
     if verdicts then answers_output true shown paths answers

@@ -5,7 +5,7 @@ use Rattle.audit_lock.specs.declared.listed.LockRule.TheVariants as rule
 use Rattle.audit_lock.specs.declared.lockfiles.LockfileFault.{LockfileFault}
 use Rattle.audit_lock.specs.declared.lockfiles.LockfileFault.TheVariants as lockfile_fault
 
--- a rule by its name, in lower case
+-- the name of a rule, in lower case
 abbrev pub rule_word : LockRule → List ℕ
 rule_word rule.Version = codes "version"
 rule_word rule.Packages = codes "packages"

@@ -1,4 +1,4 @@
--- What is printed of the audit of a lockfile (this project, after cargo-audit).
+-- What is printed for the audit of a lockfile (this project, after cargo-audit).
 use Rattle.std.specs.Prelude.{ℕ, List, [], ◌∷◌, ◌++◌, length, Bool, true, false, slice_get, Option, Some, None, if◌then◌else◌}
 use Rattle.audit_lock.specs.declared.resolving.Package.{Package}
 use Rattle.audit_advisory.specs.Outputs.{is_quiet}
@@ -19,7 +19,7 @@ use Rattle.audit_report.specs.declared.presenters.Presenter.{Presenter}
 use Rattle.audit_output.specs.Printed.{cause_word, verdict_lines}
 use Rattle.audit_output.specs.declared.printing.AuditSheet.{AuditSheet}
 
--- the text for out, and the text for err
+-- the text for standard output, and the text for standard error
 pub record Output : Type 0 where
   pub out : List ℕ
   pub err : List ℕ
@@ -31,7 +31,7 @@ is_online Online = true
 is_online Offline = false
 is_online Off = false
 
--- how many advisories there are; and, online, that the index is asked
+-- how many advisories there are; and if online, that the index is asked
 abbrev pub loaded_lines : ℕ → List ℕ → Checks → List ℕ
 loaded_lines count database checks =
     loaded_line count database ++ (if is_online checks then updating_line else [])
@@ -41,7 +41,7 @@ abbrev pub loaded_lines_in : OutputConfig → ℕ → List ℕ → Checks → Li
 loaded_lines_in config count database checks =
     if is_quiet config then [] else loaded_lines count database checks
 
--- a line where it isn't known whether the package is yanked
+-- a line, if it isn't known whether the package is yanked
 abbrev pub unchecked_at : Option Package → Verdict → List ℕ
 unchecked_at (Some p) (Unchecked c) = unchecked_line p.name p.version (cause_word c)
 unchecked_at _ _ = []
@@ -71,7 +71,7 @@ shown_on sheet = record {
 
 -- ---- the parts of an output
 
--- the status lines in front of all audits
+-- the status lines before all audits
 abbrev pub loaded_by : Shown → List ℕ
 loaded_by shown =
     loaded_lines_in shown.config (length shown.advisories) shown.database shown.checks
@@ -95,13 +95,13 @@ status_lines shown place audited =
     loaded_by shown ++ scanning_line_in shown.config place (length audited.lockfile)
     ++ unchecked_lines audited.lockfile audited.verdicts
 
--- what is printed of the report itself
+-- what is printed for the report itself
 abbrev pub report_printed : Shown → Audited → Printed
 report_printed shown audited =
     printed (presenter_of shown.config) None shown.advisories audited.lockfile audited.report
 
--- the report, and what advisories on the auditor itself say; on err the status lines, the lines
--- that sum up the report, and that there are such advisories
+-- the report, and what advisories on the auditor itself say; on standard error the status lines,
+-- the summary of the report, and that there are such advisories
 abbrev pub report_output : Shown → List ℕ → Audited → Output
 report_output shown place audited = record {
   out = (report_printed shown audited).out ++ (self_output shown).out;

@@ -1,5 +1,5 @@
 -- The printed verdicts: a line for each, with the name as JSON text, the version, and the verdict,
--- parted by single spaces.
+-- separated by single spaces.
 use Rattle.std.specs.Prelude.{ℕ, codes, decimal, List, [], ◌∷◌, ◌++◌, slice_get, Option, Some, None}
 use Rattle.json.specs.Print.{quoted}
 use Rattle.audit_lock.specs.declared.resolving.Package.{Package}
@@ -28,7 +28,7 @@ abbrev pub verdict_line : List ℕ → List ℕ → Verdict → List ℕ
 verdict_line name version verdict =
     quoted name ++ codes " " ++ version ++ codes " " ++ verdict_word verdict ++ codes "\n"
 
--- the line of a verdict; a place that no package has prints nothing
+-- the line of a verdict; a place without a package prints nothing
 abbrev pub line_at : Option Package → Verdict → List ℕ
 line_at None verdict = []
 line_at (Some p) verdict = verdict_line p.name p.version verdict

@@ -14,7 +14,7 @@ use audit_report::{Found, binary_line_in};
 use report_parts::push_number;
 use std::alloc::{AllocError, Global};
 
-/// A number of bytes behind a text.
+/// Appends a text, and then a number of bytes.
 fn push_bytes(alloc: Global, out: &mut String, text: &str, len: u64) -> Result<(), AllocError>
     ensures { OnOk result (string_bytes out.new
         ≡ string_bytes out.old ++ (text.now ++ decimal len ++ codes " bytes")) }
@@ -39,7 +39,7 @@ fn push_binary_words(alloc: Global, out: &mut String, fault: BinaryFault) -> Res
     }
 }
 
-/// The line that tells why there is no audit of the binary at a path.
+/// The line that says why there is no audit of the binary at a path.
 pub fn refused_line(alloc: Global, path: &str, fault: BinaryFault) -> Result<String, AllocError>
     ensures { IfOk result (λ line. string_bytes line ≡ spec.refused_line path.now fault) }
 {

@@ -17,7 +17,7 @@ use audit_report::Presenter;
 use std::alloc::Global;
 use tame_names::{Sink, Text};
 
-/// What is printed of the audits of binaries, and how.
+/// What is printed for the audits of binaries, and how.
 #[derive(Clone, Copy)]
 pub struct BinarySheet<'a> {
     /// What is denied, and how reports are shown.
@@ -32,7 +32,7 @@ pub struct BinarySheet<'a> {
     pub answers: &'a [BinaryAnswer],
 }
 
-/// Puts the status lines in front of all audits.
+/// Puts the status lines before all audits.
 fn print_loaded<E: Sink>(
     alloc: Global,
     sheet: &BinarySheet<'_>,
@@ -70,7 +70,7 @@ fn print_status<E: Sink>(
     }
 }
 
-/// Puts the line that tells why there is no audit of a binary.
+/// Puts the line that says why there is no audit of a binary.
 fn print_refused<E: Sink>(
     alloc: Global,
     path: &str,
@@ -111,7 +111,7 @@ fn print_binary_verdicts<O: Sink, E: Sink>(
     }
 }
 
-/// Puts the report on a binary and what sums it up, or why there is none.
+/// Puts the report on a binary and its summary, or why there is none.
 fn print_binary_report<O: Sink, E: Sink>(
     alloc: Global,
     auditor: &Auditor,
@@ -171,7 +171,7 @@ fn print_answer<O: Sink, E: Sink>(
     print_binary_report(alloc, sheet.auditor, path, answer, presenter, out, err)
 }
 
-/// Puts what is printed of a binary: the verdicts, or the status lines and the report.
+/// Puts what is printed for a binary: the verdicts, or the status lines and the report.
 fn print_binary<O: Sink, E: Sink>(
     alloc: Global,
     verdicts: bool,
@@ -204,7 +204,7 @@ fn print_binary<O: Sink, E: Sink>(
     }
 }
 
-/// Puts what is printed of each binary, one after the other.
+/// Puts what is printed for each binary, one after the other.
 fn print_each<O: Sink, E: Sink>(
     alloc: Global,
     verdicts: bool,
@@ -246,7 +246,7 @@ fn print_each<O: Sink, E: Sink>(
     Ok(())
 }
 
-/// Puts the status lines in front of all, what is printed of each binary, and what advisories on
+/// Puts the status lines before all, what is printed for each binary, and what advisories on
 /// the auditor itself say.
 fn print_reports<O: Sink, E: Sink>(
     alloc: Global,
@@ -275,8 +275,8 @@ fn print_reports<O: Sink, E: Sink>(
     print_self(alloc, sheet.auditor, presenter, out, err)
 }
 
-/// Puts the output of the audits of binaries: the verdicts alone, or all of the reports; and of
-/// each binary without an audit why there is none. One presenter prints all reports, so a tree
+/// Puts the output of the audits of binaries: the verdicts alone, or the full reports; and for
+/// each binary without an audit, why there is none. One presenter prints all reports, so a tree
 /// that was shown for one binary isn't shown again for another.
 pub fn print_binaries<O: Sink, E: Sink>(
     alloc: Global,

@@ -8,7 +8,7 @@ use audit_lock::{Package, package_at};
 use report_parts::push_quoted;
 use std::alloc::{AllocError, Global};
 
-/// Adds the word for a cause at the end of a text; an error only where memory runs out.
+/// Adds the word for a cause at the end of a text; an error means out of memory.
 pub fn push_cause(alloc: Global, out: &mut String, cause: Cause) -> Result<(), AllocError>
     ensures { OnOk result (string_bytes out.new ≡ string_bytes out.old ++ cause_word cause) }
 {

@@ -1,9 +1,9 @@
-//! What a run prints: the output of the audit of a lockfile and of those of binaries, on `out` and
-//! on `err`, and the lines of verdicts.
+//! What a run prints: the output of the audits of a lockfile and of binaries, on standard output
+//! (`out`) and standard error (`err`), and the lines of verdicts.
 //!
-//! Promises: out and err gain exactly the text that the definition makes of what is shown and how,
-//! or a part of it from the front where a put failed.
-//! Stands on the presenter of `audit_report` and the audits of `audit_core` and `audit_binaries`.
+//! Promises: `out` and `err` gain exactly the text that the definition gives for what is shown and
+//! how; if a put failed, the first part of it.
+//! Depends on the presenter of `audit_report` and the audits of `audit_core` and `audit_binaries`.
 //!
 //! ```ignore
 //! print(alloc, verdicts, &sheet, &mut out, &mut err)?; // or a PrintFault

@@ -7,7 +7,7 @@ use audit_lock::{LockRule, LockfileFault};
 use report_parts::push_number;
 use std::alloc::{AllocError, Global};
 
-/// Appends two texts.
+/// Appends two strings.
 pub fn push_two(out: &mut String, first: &str, second: &str) -> Result<(), AllocError>
     ensures { OnOk result (string_bytes out.new
         ≡ string_bytes out.old ++ (first.now ++ second.now)) }
@@ -16,7 +16,7 @@ pub fn push_two(out: &mut String, first: &str, second: &str) -> Result<(), Alloc
     out.push_str(second)
 }
 
-/// Appends a text with a number behind it.
+/// Appends a string, and then a number.
 pub fn push_numbered(
     alloc: Global,
     out: &mut String,
@@ -47,7 +47,7 @@ fn rule_word(rule: LockRule) -> &'static str
     }
 }
 
-/// Appends which package something is of, by its place in the lockfile, where it is known.
+/// Appends which package something is about, by its place in the lockfile, if it is known.
 pub fn push_package(
     alloc: Global,
     out: &mut String,

@@ -46,7 +46,7 @@ pub fn loaded_lines_in(
     Ok(out)
 }
 
-/// The text of a cause.
+/// The word for a cause.
 fn cause_text(alloc: Global, cause: Cause) -> Result<String, AllocError>
     ensures { IfOk result (λ text. string_bytes text ≡ cause_word cause) }
 {
@@ -79,7 +79,7 @@ fn push_unchecked_at(
     }
 }
 
-/// Adds a line for each package of which it isn't known whether it is yanked.
+/// Adds a line for each package for which it isn't known whether it is yanked.
 pub fn push_unchecked_lines(
     alloc: Global,
     out: &mut String,

@@ -1,4 +1,4 @@
-//! What a presenter puts of an audit.
+//! What a presenter puts for an audit.
 ghost use Rattle.std.specs.Prelude.{◌≡◌, ◌≢◌, ◌≤◌, ◌⊎◌, Err, IfOk, IfErr, OnOk, option_map};
 ghost use Rattle.tame_names.specs.Counts.{CountRose};
 ghost use Rattle.audit_core.specs.Auditors.{IsReportOf, self_advisories};
@@ -23,7 +23,7 @@ pub fn new_presenter(alloc: Global, config: &OutputConfig) -> Result<Presenter, 
     Presenter::new(alloc, config)
 }
 
-/// The fault of a run whose report can't be printed. No place of its report is to blame.
+/// The fault of a run whose report can't be printed; the error is never `Tree`.
 fn print_fault(error: PrintError) -> PrintFault
     requires { error ≢ PrintError.Tree }
     ensures print { result ≡ PrintFault.Put → error ≡ PrintError.Io }
@@ -35,7 +35,7 @@ fn print_fault(error: PrintError) -> PrintFault
     }
 }
 
-/// Puts the report of an audit and what sums it up; the path is that of a binary, if there is one.
+/// Puts the report of an audit and its summary; the path is that of a binary, if there is one.
 pub fn print_report<O: Sink, E: Sink>(
     alloc: Global,
     auditor: &Auditor,

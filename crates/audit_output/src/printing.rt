@@ -17,7 +17,7 @@ use audit_report::scanning_line_in;
 use std::alloc::{AllocError, Global};
 use tame_names::Sink;
 
-/// What is printed of the audit of a lockfile, and how.
+/// What is printed for the audit of a lockfile, and how.
 #[derive(Clone, Copy)]
 pub struct AuditSheet<'a> {
     /// What is denied, and how the report is shown.
@@ -66,7 +66,7 @@ fn print_status<E: Sink>(
     }
 }
 
-/// Puts the status lines, the report with what sums it up, and what advisories on the auditor
+/// Puts the status lines, the report with its summary, and what advisories on the auditor
 /// itself say.
 fn print_all<O: Sink, E: Sink>(
     alloc: Global,
@@ -121,7 +121,7 @@ pub fn print_verdicts<O: Sink>(
     }
 }
 
-/// Puts the output of an audit: the lines of the verdicts alone, or all of a report.
+/// Puts the output of an audit: the lines of the verdicts alone, or the full report.
 pub fn print<O: Sink, E: Sink>(
     alloc: Global,
     verdicts: bool,

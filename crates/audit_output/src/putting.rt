@@ -1,4 +1,4 @@
-//! Putting texts.
+//! Putting text.
 ghost use Rattle.std.specs.Prelude.{◌≡◌, ◌≤◌, ◌++◌, codes, [], Err, IfOk, IfErr, IsOk, string_bytes};
 ghost use Rattle.tame_names.specs.Counts.{CountRose};
 ghost use Rattle.report_parts.specs.Outputs.{IsPut};
@@ -11,7 +11,7 @@ use tame_names::{NoMemory, Sink, put_counted};
 pub enum PrintFault {
     /// An output failed, and counted it.
     Put,
-    /// Memory ran out.
+    /// Out of memory.
     NoMemory,
 }
 
@@ -25,7 +25,7 @@ impl From<NoMemory> for PrintFault {
     }
 }
 
-/// Puts a text. A text without bytes isn't put.
+/// Puts a text. An empty text isn't put.
 pub fn put_text<S: Sink>(sink: &mut S, text: &[u8]) -> Result<(), PrintFault>
     ensures put { S.tells → IsPut (S.holds sink.old) text.now (S.holds sink.new) result }
     ensures later { S.faults sink.old ≤ S.faults sink.new }
