@@ -1,4 +1,4 @@
--- How deep the report's object nests.
+-- The nesting depth of the report's object.
 use Rattle.std.proofs.Common.{◌≤◌, max, ◌+◌, ℕ, suc, List, [], ◌∷◌, ◌++◌, map, Bool, true, false, Option, Some, None, cond, option_map, slice_get, arith}
 use Rattle.std.specs.List.{flat_map}
 use Rattle.json.specs.Json.{Json, string, max_depth}
@@ -113,7 +113,7 @@ settings_within s = up (settings_object s) 2 5 (omega arith) (le_suc _ 1 (both _
     (both _ _ _ (texts_within (map informational_word s.informational_warnings))
     (zero_le 1)))))))
 
--- far below what a reader takes
+-- far below the depth that a reader accepts
 pub report_within : (xs : List Advisory) (ps : List Package) (r : Report) → depth (report_object xs ps r) ≤ max_depth
 report_within xs ps r = up (report_object xs ps r) 6 max_depth (omega arith) (le_suc _ 5 (both _ _ _ one_le
     (both _ _ _ one_le

@@ -1,4 +1,4 @@
--- A path is kept where it is a symbol, or what is left of one.
+-- A path is kept if it is a symbol, or what is left of one.
 use Rattle.std.proofs.Common.{◌≡◌, inl, inr, ℕ, List, [], ◌∷◌, ◌++◌, map, Bool, true, false, cond, ◌&&◌, ◌↔◌, Some, rules, refl, ap, ◌∙◌}
 use Rattle.std.specs.Prelude.{bytes_eq}
 use Rattle.std.specs.List.{Any}
@@ -21,7 +21,7 @@ either : (b x y : Bool) → x ≡ true → y ≡ true → cond b x y ≡ true
 either true x y h k = h
 either false x y h k = k
 
--- one segment more in front
+-- one more segment at the front
 more_in_front : (ts : Segments) → ((s : List ℕ) (ss : Segments) → is_subsequence (s ∷ ss) ts ≡ true → is_subsequence ss ts ≡ true)
     → (ss : Segments) (t : List ℕ) → is_subsequence ss ts ≡ true → is_subsequence ss (t ∷ ts) ≡ true
 more_in_front ts fewer [] t h = refl
@@ -43,7 +43,7 @@ chosen_stands (true ∷ flags) (t ∷ ts) =
     ∙ chosen_stands flags ts
 chosen_stands (false ∷ flags) (t ∷ ts) = more_in_front ts (fewer ts) (chosen flags ts) t (chosen_stands flags ts)
 
--- these segments are what stays of those
+-- these segments are what remains of those
 abbrev Flags : Segments → Segments → Type 0
 Flags ss ts = (flags : List Bool) × (ss ≡ chosen flags ts)
 
@@ -80,7 +80,7 @@ together : (t : List ℕ) (ts : Segments) → t ∷ ts ≡ front t ts ++ last t 
 together t [] = refl
 together t (u ∷ us) = ap (λ xs. t ∷ xs) (together u us)
 
--- two paths of two segments at least
+-- two paths, each of at least two segments
 pub names-longer : (a : List ℕ) (xs : Segments) (l b : List ℕ) (ys : Segments) (m : List ℕ)
     → names (a ∷ (xs ++ l ∷ [])) (b ∷ (ys ++ m ∷ [])) ≡ names_between (Some (a, xs, l)) (Some (b, ys, m))
 names-longer a [] l b ys m = ap (names_between (Some (a, [], l))) (ends_of-ends b ys m)

@@ -17,7 +17,7 @@ or-false : (b : Bool) → (b || false) ≡ b
 or-false true = refl
 or-false false = refl
 
--- ---- where a package has the name, version and source of another, its tree was shown where that one's was
+-- ---- packages of equal name, version and source: if the tree of one was shown, so was the other's
 
 pub bytes_same : (xs ys : List ℕ) → bytes_eq xs ys ≡ true → xs ≡ ys
 bytes_same xs ys h = search (rules, bytes_eq-Decides)
@@ -36,7 +36,7 @@ pub right : (a b : Bool) → (a && b) ≡ true → b ≡ true
 right true b h = h
 right false b h = absurd (false≢true h)
 
--- a package as far as trees tell it
+-- the parts of a package that trees compare
 abbrev key_shown : List ShownTree → List ℕ → List ℕ → Option (List ℕ) → Bool
 key_shown shown name version source =
     list_any (λ t. bytes_eq t.name name && bytes_eq t.version version && option_eq bytes_eq t.source source) shown
@@ -53,9 +53,9 @@ shown_same shown p q h =
     ∙ ap (λ v. key_shown shown q.name v p.source) (sym version)
     ∙ ap (λ s. key_shown shown q.name q.version s) (sym source)
 
--- ---- one block more
+-- ---- one more block
 
--- `is` tells whether the tree of q was shown, `same` whether p has the key of q
+-- `is`: whether the tree of q was shown; `same`: whether p has the key of q
 known : (shown : List ShownTree) (p q : Package) (same : Bool) → is_tree_of p (tree_key q) ≡ same
     → was_shown shown q ≡ true → was_shown shown p ≡ (was_shown shown p || same)
 known shown p q true e h =

@@ -11,7 +11,7 @@ use Rattle.audit_report.specs.declared.shown_trees.ShownTree.{ShownTree}
 use Rattle.report_parts.proofs.Puts.{part_first, part_then, put_then}
 use Rattle.audit_report.proofs.Showing.{blocks_text-append, flat_map_more, shown_after-append}
 
--- the text of the first items is the front of that of all
+-- the text of the first items is the first part of the text of all
 front_of : {X : Type 0} (g : X → List Block) (wanted : Bool) (xs : List X) (i : ℕ) (s : List ShownTree)
     → blocks_text wanted s (flat_map g xs) ≡ blocks_text wanted s (flat_map g (take i xs)) ++ blocks_text wanted (shown_after wanted s (flat_map g (take i xs))) (flat_map g (drop i xs))
 front_of g wanted xs i s =
@@ -20,7 +20,7 @@ front_of g wanted xs i s =
     ∙ blocks_text-append wanted s (flat_map g (take i xs)) (flat_map g (drop i xs))
 
 module _ {X : Type 0} (g : X → List Block) (wanted : Bool) (xs : List X) (i : ℕ) (item : X) (low : i < length xs) (here : item ≡ get_or xs i item) where
-  -- the text of one item more, behind that of the first ones
+  -- the text of one more item, after that of the first ones
   text_more : (s t : List ShownTree) → t ≡ shown_after wanted s (flat_map g (take i xs))
       → blocks_text wanted s (flat_map g (take i xs)) ++ blocks_text wanted t (g item) ≡ blocks_text wanted s (flat_map g (take (i + 1) xs))
   text_more s t trees =
@@ -42,7 +42,7 @@ module _ {X : Type 0} (g : X → List Block) (wanted : Bool) (xs : List X) (i : 
       more ∙ ap (λ z. shown_after wanted z (g item)) trees ∙ sym (shown_after-append wanted s (flat_map g (take i xs)) (g item))
       ∙ ap (shown_after wanted s) (sym (flat_map_more g xs i item low here))
 
-  -- where the block of one item more was cut off, a part of the whole was put
+  -- if the block of one more item was cut off, a part of the whole was put
   pub poured_cut : (s t : List ShownTree) (before a now : List ℕ) → a ≡ before ++ blocks_text wanted s (flat_map g (take i xs)) → t ≡ shown_after wanted s (flat_map g (take i xs))
       → AddsPrefix a (blocks_text wanted t (g item)) now → AddsPrefix before (blocks_text wanted s (flat_map g xs)) now
   poured_cut s t before a now text trees part =

@@ -19,7 +19,7 @@ pub shown_after-append : (wanted : Bool) (shown : List ShownTree) (xs ys : List 
 shown_after-append wanted shown [] ys = refl
 shown_after-append wanted shown (x ∷ xs) ys = shown_after-append wanted (shown_with wanted shown x.locked) xs ys
 
--- the blocks of one item more
+-- the blocks of one more item
 pub flat_map_more : {X : Type 0} (g : X → List Block) (xs : List X) (i : ℕ) (x : X) → i < length xs → x ≡ get_or xs i x
     → flat_map g (take (i + 1) xs) ≡ flat_map g (take i xs) ++ g x
 flat_map_more g xs i x l here =

@@ -1,4 +1,4 @@
--- A tree put behind the lines of its block.
+-- A tree put after the lines of its block.
 use Rattle.std.proofs.Common.{◌≡◌, ℕ, codes, List, ◌++◌, Result, ap, ◌∙◌, append_assoc, subst}
 use Rattle.tame_names.specs.Output.{AddsPrefix}
 use Rattle.report_parts.specs.Outputs.{IsPut}
@@ -11,7 +11,7 @@ unfolding tree_text tree_title
 pieces lines tree =
     append_assoc (lines ++ codes "Dependency tree:\n") tree (codes "\n") ∙ append_assoc lines (codes "Dependency tree:\n") (tree ++ codes "\n")
 
--- cut off in front of the tree
+-- cut off before the tree
 pub cut_in_lines : (before lines tree now : List ℕ) → AddsPrefix before (lines ++ codes "Dependency tree:\n") now → AddsPrefix before (lines ++ tree_text tree) now
 cut_in_lines before lines tree now part =
     subst (λ (x : List ℕ). AddsPrefix before x now) (pieces lines tree) (part_first before _ (codes "\n") now (part_first before _ tree now part))

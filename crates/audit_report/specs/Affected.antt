@@ -12,12 +12,12 @@ use Rattle.audit_advisory.specs.declared.affected.Function.{Function}
 use Rattle.report_parts.specs.Attributes.{attribute}
 use Rattle.audit_report.specs.Symbols.{Segments, is_kept}
 
--- a version meets one of these requirements; no version meets none
+-- a version meets one of these requirements; without a version, none is met
 abbrev pub is_held : List (List ℕ) → Option Parts → Bool
 is_held requirements None = false
 is_held requirements (Some parts) = meets_any requirements (point_of_parts parts)
 
--- the symbols keep a function's path, and it is affected in a version
+-- the symbols keep a function's path, and the function is affected in a version
 abbrev pub is_affected : List Segments → Option Parts → Function → Bool
 is_affected symbols version f = is_kept symbols f.path && is_held f.versions version
 
@@ -30,12 +30,12 @@ affected_paths symbols version functions =
 unfoldable pub path_text : Segments → List ℕ
 path_text path = join_by (λ segment. segment) (codes "::") path
 
--- no line without a path
+-- without a path, no line
 abbrev pub paths_line : List Segments → List ℕ
 paths_line [] = []
 paths_line (p ∷ ps) = attribute (codes "Affected:") (join_by path_text (codes ", ") (p ∷ ps))
 
--- of a package by an advisory, where symbols are set
+-- the line for a package and an advisory, if symbols are set
 abbrev pub affected_line : Option (List Segments) → Package → Advisory → List ℕ
 affected_line None p advisory = []
 affected_line (Some symbols) p advisory =

@@ -30,7 +30,7 @@ metadata_lines m =
     ++ attribute_if (codes "URL:") (url_of m)
     ++ attribute_if (codes "Severity:") (option_map score m.score_tenths)
 
--- the patched requirements behind the first
+-- the patched requirements after the first
 abbrev pub or_texts : List (List ℕ) → List ℕ
 or_texts texts = flat_map (λ t. codes " OR " ++ t) texts
 
@@ -45,7 +45,7 @@ vulnerability_lines symbols p a =
     ++ attribute (codes "Solution:") (solution a.versions.patched)
     ++ affected_line symbols p a
 
--- what an advisory says of a package that is warned of
+-- what an advisory says in a warning about a package
 unfoldable pub told_lines : Option (List Segments) → Package → Advisory → List ℕ
 told_lines symbols p a = metadata_lines a.metadata ++ affected_line symbols p a
 
@@ -67,7 +67,7 @@ pub record Block : Type 0 where
 unfoldable pub tree_at : List Package → ℕ → List ℕ
 tree_at packages place = rendering packages place
 
--- the block of a vulnerability; a place that nothing has gives none
+-- the block of a vulnerability; a place without an item gives none
 abbrev pub vulnerability_block : Option (List Segments) → List ℕ → Option Package
     → Option Advisory → List Block
 vulnerability_block symbols tree (Some p) (Some a) =
@@ -93,7 +93,7 @@ warning_blocks symbols advisories packages w =
     warning_block symbols (tree_at packages w.«package») w.kind
     (slice_get packages w.«package») (advisory_at advisories w.advisory)
 
--- the symbols are those of a binary, where they are set
+-- the symbols are those of a binary, if they are set
 abbrev pub blocks_of : Option (List Segments) → List Advisory → List Package → Report
     → List Block
 blocks_of symbols advisories packages report =

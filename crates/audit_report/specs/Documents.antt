@@ -19,7 +19,7 @@ use Rattle.audit_advisory.specs.declared.reports.Warning.{Warning}
 use Rattle.audit_advisory.specs.declared.outputs.WarningKind.{WarningKind}
 use Rattle.audit_advisory.specs.declared.outputs.WarningKind.TheVariants as kind
 
--- ---- the vulnerabilities; a place that nothing has gives none
+-- ---- the vulnerabilities; a place without an item gives none
 
 abbrev pub hit_of : Option Package → Option Advisory → List Json
 hit_of (Some p) (Some a) = hit_object p a ∷ []
@@ -36,7 +36,7 @@ found_object advisories packages found = object_of (
     (codes "count", count (length found)) ∷
     (codes "list", array_of (flat_map (hit_at advisories packages) found)) ∷ [])
 
--- ---- the warnings, by those kinds that occur
+-- ---- the warnings, by the kinds that occur
 
 abbrev pub warning_of : WarningKind → Option Package → Option Advisory → List Json
 warning_of kind (Some p) a = warning_object kind p a ∷ []

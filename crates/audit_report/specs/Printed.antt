@@ -1,6 +1,6 @@
--- What a presenter prints of a report: a function of how it shows reports, of the trees that it has
--- shown, of the symbols that are set, of the report, and of the advisories and packages that the
--- report speaks of.
+-- What a presenter prints for a report: a function of how it shows reports, of the trees that it
+-- has shown, of the symbols that are set, of the report, and of the advisories and packages in the
+-- report.
 use Rattle.std.specs.Prelude.{ℕ, List, [], Option}
 use Rattle.audit_lock.specs.declared.resolving.Package.{Package}
 use Rattle.audit_advisory.specs.declared.advisories.Advisory.{Advisory}
@@ -16,13 +16,13 @@ use Rattle.audit_report.specs.Summaries.{summary}
 use Rattle.audit_report.specs.declared.presenters.Presenter.{Presenter}
 use Rattle.audit_report.specs.declared.shown_trees.ShownTree.{ShownTree}
 
--- the text for out, the text for err, and the trees that count as shown afterwards
+-- the text for standard output, the text for standard error, and the trees shown by then
 pub record Printed : Type 0 where
   pub out : List ℕ
   pub err : List ℕ
   pub trees : List ShownTree
 
--- the blocks on out, and on err the lines that sum them up
+-- the blocks on standard output, and their summary on standard error
 abbrev pub terminal_form : Presenter → Option (List ℕ) → List Advisory → List Package → Report
     → Printed
 terminal_form p path advisories packages report = record {
@@ -33,12 +33,12 @@ terminal_form p path advisories packages report = record {
       shown_after p.config.show_tree p.trees (blocks_of p.symbols advisories packages report);
 }
 
--- one line on out
+-- one line on standard output
 abbrev pub json_form : Presenter → List Advisory → List Package → Report → Printed
 json_form p advisories packages report =
     record { out = report_line advisories packages report; err = []; trees = p.trees }
 
--- one line on out
+-- one line on standard output
 abbrev pub sarif_form : Presenter → Option (List ℕ) → List Advisory → List Package → Report
     → Printed
 sarif_form p path advisories packages report = record {

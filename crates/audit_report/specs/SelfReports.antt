@@ -1,4 +1,4 @@
--- What is printed of advisories on the auditor itself (this project, after cargo-audit).
+-- What is printed for advisories on the auditor itself (this project, after cargo-audit).
 use Rattle.std.specs.Prelude.{ℕ, codes, List, [], ◌∷◌, ◌++◌, slice_get, if◌then◌else◌}
 use Rattle.std.specs.List.{flat_map}
 use Rattle.std.specs.Option.{option_map_or}
@@ -13,23 +13,23 @@ self_message =
     ++ codes "Upgrade cargo-audit to the latest version: "
     ++ codes "cargo install --force cargo-audit\n"
 
--- an error where such advisories are denied
+-- an error, if such advisories are denied
 abbrev pub self_level : List DenyOption → List ℕ
 self_level deny = if denies_self deny then codes "error: " else codes "warning: "
 
 unfoldable pub self_line : List DenyOption → List ℕ
 self_line deny = self_level deny ++ self_message
 
--- what the advisory at a place says of itself; a place that nothing has gives none
+-- what the advisory at a place says about itself; a place without an item gives nothing
 abbrev pub metadata_at : List Advisory → ℕ → List ℕ
 metadata_at advisories place =
     option_map_or (λ a. metadata_lines a.metadata) (slice_get advisories place) []
 
--- of each, and an empty line
+-- for each, and then an empty line
 unfoldable pub self_lines : List Advisory → List ℕ → List ℕ
 self_lines advisories places = flat_map (metadata_at advisories) places ++ codes "\n"
 
--- nothing where there is none: the line on err, and the text on out
+-- the line on standard error, and the text on standard output; nothing if there are none
 abbrev pub self_summary : List DenyOption → List ℕ → List ℕ
 self_summary deny [] = []
 self_summary deny (place ∷ places) = self_line deny

@@ -1,4 +1,4 @@
--- The text of blocks, in which a tree stands once for each name, version and source (this project,
+-- The text of blocks, in which each name, version and source has its tree once (this project,
 -- after cargo-audit).
 use Rattle.std.specs.Prelude.{ℕ, codes, List, [], ◌∷◌, ◌++◌, Bool, not, ◌&&◌, bytes_eq, if◌then◌else◌}
 use Rattle.std.specs.List.{list_any}
@@ -19,7 +19,7 @@ was_shown shown p = list_any (is_tree_of p) shown
 abbrev pub tree_key : Package → ShownTree
 tree_key p = record { name = p.name; version = p.version; source = p.source }
 
--- a tree stands where trees are wanted, and this one wasn't shown before
+-- a tree is due if trees are wanted, and this one wasn't shown before
 abbrev pub is_due : Bool → List ShownTree → Package → Bool
 is_due wanted shown p = wanted && not (was_shown shown p)
 
@@ -35,7 +35,7 @@ tree_title = codes "Dependency tree:\n"
 unfoldable pub tree_text : List ℕ → List ℕ
 tree_text tree = tree_title ++ tree ++ codes "\n"
 
--- the tree where it is due, and an empty line
+-- the tree if it is due, and an empty line
 abbrev pub tree_lines : Bool → List ℕ → List ℕ
 tree_lines due tree = if due then tree_text tree else codes "\n"
 

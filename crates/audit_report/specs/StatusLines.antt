@@ -40,7 +40,7 @@ nothing_line path =
     codes "error: No dependency information found in " ++ path
     ++ codes "! Is it a Rust program built with cargo?\n"
 
--- what the binary at a path tells of its packages, and how many of them it names
+-- what the binary at a path reports of its packages, and how many of them it names
 abbrev pub binary_line : Found → ℕ → List ℕ → List ℕ
 binary_line found.Complete count path = complete_line count path
 binary_line found.Incomplete count path = incomplete_line count path
@@ -54,7 +54,7 @@ binary_line_in config found count path =
 unfoldable pub unchecked_title : List ℕ
 unchecked_title = codes "error: couldn't check if the package is yanked: "
 
--- a package of which it isn't known whether it is yanked, and why
+-- a package for which it isn't known whether it is yanked, and why
 unfoldable pub unchecked_line : List ℕ → List ℕ → List ℕ → List ℕ
 unchecked_line name version cause =
     unchecked_title ++ quoted name ++ codes " " ++ version ++ codes ": " ++ cause ++ codes "\n"

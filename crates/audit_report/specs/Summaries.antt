@@ -1,4 +1,4 @@
--- The lines that sum up a report (this project, after cargo-audit).
+-- The summary of a report (this project, after cargo-audit).
 use Rattle.std.specs.Prelude.{ℕ, ◌-◌, codes, decimal, List, [], ◌++◌, length, ◌==◌, Option, if◌then◌else◌}
 use Rattle.std.specs.List.{count_by}
 use Rattle.std.specs.Option.{option_map_or}
@@ -9,15 +9,15 @@ use Rattle.audit_advisory.specs.declared.reports.Warning.{Warning}
 
 -- ---- the lines
 
--- a number with its word, for one or for several
+-- a number with its word, singular or plural
 abbrev pub counted : ℕ → List ℕ → List ℕ → List ℕ
 counted n one several = decimal n ++ codes " " ++ (if n == 1 then one else several)
 
--- where it was found: a binary's path, or what stands without one
+-- where it was found: a binary's path, or the text without one
 abbrev pub ending : List ℕ → Option (List ℕ) → List ℕ
 ending without path = option_map_or (λ p. codes " in " ++ p) path without
 
--- no line for none
+-- without findings, no line
 abbrev pub found_line : List ℕ → ℕ → List ℕ → List ℕ → List ℕ → List ℕ
 found_line level n one several end =
     if n == 0 then []

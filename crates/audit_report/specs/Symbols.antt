@@ -13,7 +13,7 @@ plain segment = before_first (λ c. c == 60) segment
 
 -- ---- first, middle and last
 
--- the segments in front of the last one
+-- the segments before the last one
 abbrev pub front : List ℕ → Segments → Segments
 front s [] = []
 front s (t ∷ ts) = s ∷ front t ts
@@ -22,7 +22,7 @@ abbrev pub last : List ℕ → Segments → List ℕ
 last s [] = s
 last s (t ∷ ts) = last t ts
 
--- the first segment, those in the middle, and the last; nothing where there are fewer than two
+-- the first segment, those in the middle, and the last; nothing if there are fewer than two
 abbrev pub ends_of : Segments → Option (List ℕ × Segments × List ℕ)
 ends_of [] = None
 ends_of (s ∷ []) = None
@@ -30,7 +30,7 @@ ends_of (s ∷ t ∷ ts) = Some (s, front t ts, last t ts)
 
 -- ---- which paths name a symbol
 
--- some segments stand among others, in their order
+-- some segments are among others, in their order
 abbrev pub is_subsequence : Segments → Segments → Bool
 is_subsequence [] others = true
 is_subsequence (s ∷ ss) [] = false
@@ -44,8 +44,8 @@ names_between (Some w) (Some s) =
 names_between (Some w) None = false
 names_between None s = false
 
--- a path of one segment names that symbol alone; a longer one names a symbol with the same first
--- and last segments, in whose middle its own stands; one without segments names none
+-- a path of one segment names only that symbol; a longer one names a symbol with the same first
+-- and last segments, whose middle contains its own; one without segments names none
 abbrev pub names : Segments → Segments → Bool
 names (w ∷ []) (s ∷ []) = bytes_eq w s
 names path symbol = names_between (ends_of path) (ends_of symbol)
@@ -54,15 +54,15 @@ names path symbol = names_between (ends_of path) (ends_of symbol)
 abbrev pub is_kept : List Segments → Segments → Bool
 is_kept symbols path = list_any (names (map plain path)) symbols
 
--- ---- the same by what may be left out
+-- ---- the same, by what may be left out
 
--- what stays of a list by flags
+-- what remains of a list by flags
 abbrev pub chosen : List Bool → Segments → Segments
 chosen [] ss = []
 chosen (stays ∷ flags) [] = []
 chosen (stays ∷ flags) (s ∷ ss) = if stays then s ∷ chosen flags ss else chosen flags ss
 
--- the path is the symbol, or what is left of it where segments between its first and its last are
+-- the path is the symbol, or what is left of it if segments between its first and its last are
 -- left out
 abbrev pub Names : Segments → Segments → Type 0
 Names path symbol =

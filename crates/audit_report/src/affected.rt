@@ -30,7 +30,7 @@ fn is_affected(symbols: &SymbolSet, version: &Option<Version>, function: &Functi
     symbols.keeps(&function.path) && is_held(function.versions.as_slice(), version)
 }
 
-/// The first affected function, and what is left behind it.
+/// The first affected function, and what is left after it.
 fn first_affected<'a>(
     symbols: &SymbolSet,
     version: &Option<Version>,
@@ -98,7 +98,7 @@ fn push_paths(
     Ok(())
 }
 
-/// The paths of a function and of the affected ones behind it.
+/// The paths of a function and of the affected ones after it.
 fn joined(
     alloc: Global,
     symbols: &SymbolSet,
@@ -134,7 +134,7 @@ fn push_line(
     push_attribute(out, "Affected:", content.as_str())
 }
 
-/// Appends the line of a package's affected functions, where symbols are set and there are any.
+/// Appends the line of a package's affected functions, if symbols are set and there are any.
 pub fn push_affected(
     alloc: Global,
     out: &mut String,

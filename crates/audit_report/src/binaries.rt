@@ -1,6 +1,6 @@
-//! What a binary tells of itself.
+//! What a binary reports of itself.
 
-/// What a binary tells of the packages that it was built from.
+/// What a binary reports of the packages that it was built from.
 #[derive(Clone, Copy, Debug, PartialEq, Eq)]
 pub enum Found {
     /// All of them.

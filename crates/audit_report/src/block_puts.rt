@@ -1,5 +1,5 @@
-//! The blocks of a report, each put as soon as it is made: its lines, and then its tree, which is
-//! rendered straight into the output. So one tree at a time is in memory, and no block is.
+//! The blocks of a report, each put as soon as it is made: its lines, then its tree, which is
+//! rendered straight into the output. So one tree at a time is in memory, and never a full block.
 ghost use Rattle.std.specs.Prelude.{◌≡◌, ◌≢◌, ◌≤◌, ◌++◌, [], List, Option, IfErr, IsErrOf, OnOk};
 ghost use Rattle.std.specs.List.{flat_map};
 ghost use Rattle.tame_names.specs.Counts.{CountRose};
@@ -20,12 +20,12 @@ use report_parts::PrintError;
 use std::alloc::Global;
 use tame_names::Sink;
 
-/// What a report tells of a package, in a block.
+/// What a report says about a package, in a block.
 trait Reported {
-    /// The block of each, by the symbols, the advisories and the packages.
+    /// The block, from the symbols, the advisories and the packages.
     ghost blocks: { Option (List Segments) → List Advisory → List Package → Self → List Block };
 
-    /// Puts the block. The page of the sheet has to be empty, and is so then.
+    /// Puts the block. The page of the sheet must be empty, and is empty afterwards.
     fn put<O: Sink>(
         &self,
         alloc: Global,
@@ -91,8 +91,8 @@ impl Reported for Warning {
     }
 }
 
-/// Puts the block of each, one after the other. The page of the sheet has to be empty, and is so
-/// then.
+/// Puts the block of each, one after the other. The page of the sheet must be empty, and is empty
+/// afterwards.
 fn put_each<O: Sink, R: Reported>(
     alloc: Global,
     out: &mut O,
@@ -123,7 +123,7 @@ fn put_each<O: Sink, R: Reported>(
 }
 
 /// Puts the blocks of a report: first its vulnerabilities, then its warnings. The page of the sheet
-/// has to be empty; the trees that are shown are added to those of the sheet.
+/// must be empty; the trees that are shown are added to those of the sheet.
 pub fn put_report<O: Sink>(
     alloc: Global,
     out: &mut O,

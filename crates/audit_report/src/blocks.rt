@@ -19,7 +19,7 @@ fn push_crate(out: &mut String, locked: &Package) -> Result<(), AllocError>
     push_attribute(out, "Version:", locked.version.as_str())
 }
 
-/// Appends what an advisory says of itself.
+/// Appends what an advisory says about itself.
 #[tactic(auto, unfolding(crate::specs::Blocks::metadata_lines))]
 pub fn push_metadata(alloc: Global, out: &mut String, metadata: &Metadata) -> Result<(), AllocError>
     ensures { OnOk result (string_bytes out.new
@@ -56,7 +56,7 @@ fn solution(alloc: Global, patched: &[Requirement]) -> Result<String, AllocError
     Ok(out)
 }
 
-/// The lines of a package that an advisory hits.
+/// The lines for a package that an advisory hits.
 #[tactic(auto, unfolding(crate::specs::Blocks::vulnerability_lines))]
 pub fn vulnerability_lines(
     alloc: Global,
@@ -76,7 +76,7 @@ pub fn vulnerability_lines(
     Ok(out)
 }
 
-/// Appends what an advisory says of a package that is warned of.
+/// Appends what an advisory says in a warning about a package.
 #[tactic(auto, unfolding(crate::specs::Blocks::told_lines))]
 fn push_told(
     alloc: Global,
@@ -92,7 +92,7 @@ fn push_told(
     push_affected(alloc, out, symbols, locked, advisory)
 }
 
-/// The lines of a package that is warned of.
+/// The lines of a warning about a package.
 #[tactic(auto, unfolding(crate::specs::Blocks::warning_lines))]
 pub fn warning_lines(
     alloc: Global,

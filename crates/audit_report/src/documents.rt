@@ -83,7 +83,7 @@ fn report_text(
 ) -> Result<Vec<u8>, AllocError>
     ensures text { IfOk result (λ text. text.items
         ≡ json_text (report_object advisories.now packages.now report.now)) }
-    // the kit's reader gives back the object that is meant
+    // the kit's reader returns the intended object
     ensures reads_back { IfOk result (λ text. document text.items
         ≡ Some (report_object advisories.now packages.now report.now)) }
 {

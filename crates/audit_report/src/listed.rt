@@ -224,7 +224,7 @@ fn write_kind(
     write_kind_if(out, stands, kind, advisories, packages, warnings)
 }
 
-/// Writes the packages that are warned of, by those kinds that occur.
+/// Writes the packages that warnings are about, by the kinds that occur.
 pub fn write_warnings(
     out: &mut Writer,
     advisories: &[Advisory],

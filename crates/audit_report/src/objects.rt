@@ -17,7 +17,7 @@ use report_parts::{
 };
 use std::alloc::AllocError;
 
-/// Writes the member that tells what an informational advisory tells, or null.
+/// Writes the member with the kind of an informational advisory, or null.
 fn write_informational(
     out: &mut Writer,
     informational: &Option<Informational>,
@@ -29,7 +29,7 @@ fn write_informational(
     write_word(out, "informational", stated_informational(informational))
 }
 
-/// Writes what an advisory says of itself.
+/// Writes what an advisory says about itself.
 fn write_metadata(out: &mut Writer, metadata: &Metadata) -> Result<(), AllocError>
     ensures { OnOk result (WritesTokens out.old out.new
         (json_tokens (metadata_object metadata.now))) }
@@ -106,7 +106,7 @@ pub fn write_hit(out: &mut Writer, locked: &Package, advisory: &Advisory) -> Res
     Ok(())
 }
 
-/// Writes what an advisory says of itself, or null.
+/// Writes what an advisory says about itself, or null.
 fn write_stated(out: &mut Writer, advisory: Option<&Advisory>) -> Result<(), AllocError>
     ensures { OnOk result (WritesTokens out.old out.new
         (json_tokens (metadata_or_null (option_map (λ a. a.now) advisory.entry)))) }
@@ -124,7 +124,7 @@ fn write_kind(out: &mut Writer, kind: WarningKind) -> Result<(), AllocError>
     write_str(out, "kind", kind_word(kind))
 }
 
-/// Writes a package that is warned of.
+/// Writes a warning about a package.
 pub fn write_warning(
     out: &mut Writer,
     kind: WarningKind,

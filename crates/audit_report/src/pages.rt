@@ -1,10 +1,10 @@
-//! A text that is made in memory before it is put anywhere.
+//! Text that is built in memory before it is put anywhere.
 ghost use Rattle.std.specs.Prelude.{◌≡◌, ◌++◌, [], OnOk};
 
 use std::alloc::Global;
 use tame_names::NoMemory;
 
-/// A text that is made in memory.
+/// Text that is built in memory.
 #[derive(Drop)]
 pub struct Page {
     bytes: Vec<u8>,

@@ -1,4 +1,4 @@
-//! Prints reports, and each tree once in its life.
+//! Prints reports, and each tree once over its life.
 ghost use Rattle.std.specs.Prelude.{◌≡◌, ◌≢◌, ◌<◌, ◌≤◌, ◌++◌, ◌↔◌, ◌⊎◌, [], None, Some, length, option_map, All, IfOk, IfErr, IsErrOf, IsFalse, OnOk, OnErr};
 ghost use Rattle.tame_names.specs.Counts.{CountRose};
 ghost use Rattle.audit_advisory.specs.Reports.{IsPlaced};
@@ -37,7 +37,7 @@ pub struct Presenter {
     config: OutputConfig,
     /// The trees that it has shown.
     trees: Trees,
-    /// The symbols of a binary, where they are set.
+    /// The symbols of a binary, if they are set.
     symbols: Option<SymbolSet>,
 }
 
@@ -69,9 +69,8 @@ impl Presenter {
         })
     }
 
-    /// Sets the symbols of a binary. From then on the terminal form names, of the functions that
-    /// an advisory names, those that are affected in the package's version and that the symbols
-    /// keep.
+    /// Sets the symbols of a binary. From then on the terminal form names those functions of an
+    /// advisory that are affected in the package's version and that the symbols keep.
     pub fn set_symbols(&mut self, symbols: SymbolSet)
         ensures symbols { self.new.symbols ≡ Some symbols }
         ensures config { self.new.config ≡ self.old.config }
@@ -102,8 +101,8 @@ impl Presenter {
         put_text(err, line.as_bytes())
     }
 
-    /// Puts the status line of a binary, by what it tells of its packages, unless status lines are
-    /// left out.
+    /// Puts the status line of a binary, by what it reports of its packages, unless status lines
+    /// are left out.
     pub fn binary_scan_report<E: Sink>(
         &mut self,
         alloc: Global,
@@ -126,7 +125,7 @@ impl Presenter {
         put_text(err, line.as_bytes())
     }
 
-    /// Puts the blocks of a report. The sheet has to be empty; the trees that are shown are added
+    /// Puts the blocks of a report. The sheet must be empty; the trees that are shown are added
     /// to it.
     fn put_blocks<O: Sink>(
         &self,
@@ -163,7 +162,7 @@ impl Presenter {
         put_report(alloc, out, sheet, &findings, report)
     }
 
-    /// Puts the lines that sum a report up, whose trees count as shown once they are put.
+    /// Puts the summary of a report; once it is put, the report's trees count as shown.
     fn put_summary<E: Sink>(
         &mut self,
         err: &mut E,
@@ -192,8 +191,8 @@ impl Presenter {
         }
     }
 
-    /// Prints a report in the terminal form: its blocks one after the other on `out`, and then on
-    /// `err` the lines that sum it up.
+    /// Prints a report in the terminal form: its blocks one after the other on `out`, then its
+    /// summary on `err`.
     fn print_terminal<O: Sink, E: Sink>(
         &mut self,
         alloc: Global,
@@ -236,12 +235,11 @@ impl Presenter {
         self.put_summary(err, &mut sheet.added, summary.as_str())
     }
 
-    /// Prints a report in the presenter's form: on `out` its text, on `err` the lines that sum it
-    /// up; `path` is that of a binary, if there is one. `Tree` comes before anything is put. The
-    /// terminal form is put block by block, so that any other refusal may leave a part of it, and
-    /// after any refusal the trees count as shown that did before. As JSON and as SARIF it is one
-    /// line on `out` alone, and the trees stay as they were; results are located at `path`, or at
-    /// `Cargo.lock`.
+    /// Prints a report in the presenter's form: its text on `out`, its summary on `err`; `path` is
+    /// that of a binary, if there is one. `Tree` comes before anything is put. The terminal form is
+    /// put block by block, so any other refusal may leave a part of it; after any refusal the same
+    /// trees count as shown as before. JSON and SARIF are one line on `out` alone, and the trees
+    /// stay as they were; results are located at `path`, or at `Cargo.lock`.
     pub fn print_report<O: Sink, E: Sink>(
         &mut self,
         alloc: Global,
@@ -254,7 +252,7 @@ impl Presenter {
     ) -> Result<(), PrintError>
         ensures tree { IsErrOf result PrintError.Tree
             ↔ IsFalse (is_placed (length database.now) (length lockfile.now) report.now) }
-        // the report of this database on this lockfile has no such place
+        // the report of this database on this lockfile never causes `Tree`
         ensures placed { IsPlaced report.now → report.now.advisory_count ≡ length database.now
             → report.now.dependency_count ≡ length lockfile.now
             → IfErr result (λ e. e ≢ PrintError.Tree) }
@@ -264,7 +262,7 @@ impl Presenter {
         ensures err { E.tells → IsPut (E.holds err.old)
             (printed self.old (option_map (λ p. p.now) path.entry)
             database.now lockfile.now report.now).err (E.holds err.new) result }
-        // err is called once out holds its text whole
+        // err is called only once out holds its whole text
         ensures in_order { O.tells → (O.holds out.new ≡ O.holds out.old
             ++ (printed self.old (option_map (λ p. p.now) path.entry)
             database.now lockfile.now report.now).out)
@@ -282,10 +280,10 @@ impl Presenter {
             ≡ (printed self.old (option_map (λ p. p.now) path.entry)
             database.now lockfile.now report.now).trees) }
         ensures same { OnErr result (self.new ≡ self.old) }
-        // the line of JSON is read as the object that is meant
+        // the line of JSON is read as the intended object
         ensures reads_back { self.old.config.format ≡ OutputFormat.Json
             → OnOk result (ReadsBack database.now lockfile.now report.now) }
-        // and that of SARIF
+        // the same for SARIF
         ensures sarif_reads_back { self.old.config.format ≡ OutputFormat.Sarif
             → OnOk result (LogReadsBack
             (sarif_log (uri_of (option_map (λ p. p.now) path.entry))
@@ -311,8 +309,8 @@ impl Presenter {
         }
     }
 
-    /// Prints what advisories on the auditor itself say, by their places, where there is one: a
-    /// line on `err`, and then the text on `out`. `Tree` comes before anything is put.
+    /// Prints what advisories on the auditor itself say, by their places, if there are any: a
+    /// line on `err`, then the text on `out`. `Tree` comes before anything is put.
     pub fn print_self_report<O: Sink, E: Sink>(
         &mut self,
         alloc: Global,
@@ -323,14 +321,14 @@ impl Presenter {
     ) -> Result<(), PrintError>
         ensures tree { IsErrOf result PrintError.Tree
             ↔ IsFalse (are_placed (length database.now) advisories.now) }
-        // places that a query of this database finds are none of these
+        // places that a query of this database finds never cause `Tree`
         ensures placed { All (λ place. place < length database.now) advisories.now
             → IfErr result (λ e. e ≢ PrintError.Tree) }
         ensures out { O.tells → IsPut (O.holds out.old)
             (self_text database.now advisories.now) (O.holds out.new) result }
         ensures err { E.tells → IsPut (E.holds err.old)
             (self_summary self.old.config.deny advisories.now) (E.holds err.new) result }
-        // out is called once err holds its line whole
+        // out is called only once err holds its whole line
         ensures in_order { E.tells → (E.holds err.new ≡ E.holds err.old
             ++ self_summary self.old.config.deny advisories.now)
             ⊎ (out.new ≡ out.old) }
@@ -352,16 +350,16 @@ impl Presenter {
         put_texts(err, out, line.as_bytes(), text.as_bytes())
     }
 
-    /// Whether an audit fails by its report: it has a vulnerability, or a warning of a kind that is
-    /// denied.
+    /// Whether an audit fails because of its report: it has a vulnerability, or a warning of a
+    /// denied kind.
     pub fn should_exit_with_failure(&self, report: &Report) -> bool
         ensures { result ≡ report_fails report.now self.now.config.deny }
     {
         report_fails(report, self.config.deny.as_slice())
     }
 
-    /// Whether an audit fails by advisories on the auditor itself: there are some, and they are
-    /// denied.
+    /// Whether an audit fails because of advisories on the auditor itself: there are some, and they
+    /// are denied.
     pub fn should_exit_with_failure_due_to_self(&self, advisories: &Items<usize>) -> bool
         ensures { result ≡ self_fails self.now.config.deny advisories.now }
     {

@@ -1,4 +1,4 @@
-//! What is printed of advisories on the auditor itself.
+//! What is printed for advisories on the auditor itself.
 ghost use Rattle.std.specs.Prelude.{◌≡◌, ◌++◌, IfOk, OnOk, string_bytes};
 ghost use Rattle.std.specs.List.{flat_map};
 ghost use Rattle.audit_report.specs.SelfReports.{metadata_at, self_message};
@@ -81,7 +81,7 @@ fn self_lines(
     Ok(out)
 }
 
-/// The line that tells of advisories on the auditor itself; nothing where there is none.
+/// The line about advisories on the auditor itself; nothing if there are none.
 pub fn self_summary(
     alloc: Global,
     deny: &[DenyOption],
@@ -96,7 +96,7 @@ pub fn self_summary(
     }
 }
 
-/// What these advisories say of themselves, and an empty line; nothing where there is none.
+/// What these advisories say about themselves, and an empty line; nothing if there are none.
 pub fn self_text(
     alloc: Global,
     advisories: &[Advisory],

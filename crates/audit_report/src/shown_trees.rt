@@ -78,7 +78,7 @@ impl Trees {
         Ok(())
     }
 
-    /// Adds these trees: all of them, or none where memory runs out.
+    /// Adds these trees: all of them, or none if out of memory.
     pub fn extend(&mut self, more: &mut Trees) -> Result<(), NoMemory>
         ensures ok { OnOk result (self.new ≡ self.old ++ more.old) }
         ensures same { OnErr result (self.new ≡ self.old) }
@@ -94,7 +94,7 @@ impl Trees {
         self.shown.len()
     }
 
-    /// Lets go all but the first.
+    /// Drops all but the first `count` trees.
     pub fn keep(&mut self, count: usize)
         ensures { self.new ≡ take count self.old }
     {
@@ -108,7 +108,7 @@ fn was_shown(shown: &[ShownTree], locked: &Package) -> bool
     shown.iter().any(|tree| tree.is_of(locked))
 }
 
-/// Whether a package's tree is to stand: trees are wanted, and it is neither among those known nor
+/// Whether a package's tree is due: trees are wanted, and it is neither among those known nor
 /// among those added.
 pub fn is_due(wanted: bool, known: &[ShownTree], added: &Trees, locked: &Package) -> bool
     ensures { result ≡ spec.is_due wanted (known.now ++ added.now) locked.now }
@@ -116,7 +116,7 @@ pub fn is_due(wanted: bool, known: &[ShownTree], added: &Trees, locked: &Package
     wanted && !was_shown(known, locked) && !was_shown(added.as_slice(), locked)
 }
 
-/// Adds a package's tree where it is due.
+/// Adds a package's tree if it is due.
 pub fn add_due(
     alloc: Global,
     wanted: bool,

@@ -9,7 +9,7 @@ use audit_advisory::OutputConfig;
 use report_parts::{push_number, push_quoted};
 use std::alloc::{AllocError, Global};
 
-/// Appends the line that tells how many advisories the database at a path has.
+/// Appends the line that says how many advisories the database at a path has.
 #[tactic(auto, unfolding(crate::specs::StatusLines::loaded_line))]
 pub fn push_loaded(
     alloc: Global,
@@ -27,7 +27,7 @@ pub fn push_loaded(
     out.push_str(")\n")
 }
 
-/// Appends the line that tells that the index is asked.
+/// Appends the line that says that the index is asked.
 #[tactic(auto, unfolding(crate::specs::StatusLines::updating_line))]
 pub fn push_updating(out: &mut String) -> Result<(), AllocError>
     ensures { OnOk result (string_bytes out.new ≡ string_bytes out.old ++ updating_line) }
@@ -35,7 +35,7 @@ pub fn push_updating(out: &mut String) -> Result<(), AllocError>
     out.push_str("Updating crates.io index\n")
 }
 
-/// The line that tells how many packages the lockfile at a path has.
+/// The line that says how many packages the lockfile at a path has.
 #[tactic(auto, unfolding(crate::specs::StatusLines::scanning_line))]
 fn scanning_line(alloc: Global, path: &str, count: usize) -> Result<String, AllocError>
     ensures { IfOk result (λ text. string_bytes text ≡ spec.scanning_line path.now count) }
@@ -99,7 +99,7 @@ fn nothing_line(alloc: Global, path: &str) -> Result<String, AllocError>
     Ok(out)
 }
 
-/// The line that tells what the binary at a path tells of its packages, and how many of them it
+/// The line that says what the binary at a path reports of its packages, and how many of them it
 /// names.
 fn binary_line(alloc: Global, found: Found, count: usize, path: &str) -> Result<String, AllocError>
     ensures { IfOk result (λ text. string_bytes text ≡ spec.binary_line found count path.now) }
@@ -135,7 +135,7 @@ fn push_unchecked_title(out: &mut String) -> Result<(), AllocError>
     out.push_str("error: couldn't check if the package is yanked: ")
 }
 
-/// Appends the line of a package of which it isn't known whether it is yanked, and why.
+/// Appends the line of a package for which it isn't known whether it is yanked, and why.
 #[tactic(auto, unfolding(crate::specs::StatusLines::unchecked_line))]
 pub fn push_unchecked(
     alloc: Global,

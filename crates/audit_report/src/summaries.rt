@@ -1,4 +1,4 @@
-//! The lines that sum up a report.
+//! The summary of a report.
 ghost use Rattle.std.specs.Prelude.{◌≡◌, ◌++◌, IfOk, OnOk, option_map, string_bytes};
 ghost use Rattle.audit_advisory.specs.Exits as spec;
 ghost use Rattle.audit_report.specs.Summaries.{allowed_line, denied_line, ending, found_line, vulnerabilities_line};
@@ -7,7 +7,7 @@ ghost use Rattle.audit_report.specs.Summaries as summaries_spec;
 use audit_advisory::{DenyOption, Report, Warning, is_denied};
 use std::alloc::{AllocError, Global};
 
-/// What a line counts: its level, its word for one and for several, and what ends it where there is
+/// What a line counts: its level, its singular and plural words, and what ends it if there is
 /// no path.
 #[derive(Clone, Copy)]
 struct Counted {
@@ -17,7 +17,7 @@ struct Counted {
     without: &'static str,
 }
 
-/// Appends where it was found: a binary's path, or what stands without one.
+/// Appends where it was found: a binary's path, or the text without one.
 fn push_ending(out: &mut String, without: &str, path: Option<&str>) -> Result<(), AllocError>
     ensures { OnOk result (string_bytes out.new
         ≡ string_bytes out.old ++ ending without.now (option_map (λ p. p.now) path.entry)) }
@@ -120,7 +120,7 @@ fn push_allowed(
     push_found(alloc, out, count, counted, path)
 }
 
-/// The lines that sum up a report: its vulnerabilities, the warnings of denied kinds, the others.
+/// The lines of a summary: a report's vulnerabilities, the warnings of denied kinds, the others.
 #[tactic(auto, unfolding(crate::specs::Summaries::summary))]
 pub fn summary(
     alloc: Global,

@@ -25,7 +25,7 @@ fn is_segment(wanted: &Text, segment: &Text) -> bool
     plain(wanted.as_str()) == segment.as_str()
 }
 
-/// Whether wanted segments stand among a symbol's, in their order.
+/// Whether wanted segments are among a symbol's, in their order.
 fn is_subsequence(wanted: &[Text], symbol: &[Text]) -> bool
     ensures { result ≡ spec.is_subsequence (map spec.plain wanted.now) symbol.now }
 {
@@ -49,7 +49,7 @@ struct Ends<'a> {
     last: &'a Text,
 }
 
-/// These parts of a path; nothing where there are fewer than two segments.
+/// These parts of a path; nothing if there are fewer than two segments.
 fn ends_of(path: &[Text]) -> Option<Ends<'_>>
     ensures { MatchOption result (length path.now < 2)
         (λ e. path.now ≡ e.first.now ∷ (e.middle.now ++ e.last.now ∷ [])) }
@@ -63,7 +63,7 @@ fn ends_of(path: &[Text]) -> Option<Ends<'_>>
     })
 }
 
-/// Whether the parts of a wanted path name the symbol of these parts.
+/// Whether the parts of a wanted path name the symbol with these parts.
 fn names_between(wanted: &Ends<'_>, symbol: &Ends<'_>) -> bool
     ensures { result ≡ (bytes_eq (spec.plain wanted.now.first.now) symbol.now.first.now
         && spec.is_subsequence (map spec.plain wanted.now.middle.now) symbol.now.middle.now
@@ -106,7 +106,7 @@ impl Model for SymbolSet {
     ghost view = { λ s. s.paths };
 }
 
-/// The first path that symbols keep, and what is left behind it.
+/// The first path that symbols keep, and what is left after it.
 fn first_kept<'a>(
     symbols: &SymbolSet,
     affected: &'a [FunctionPath],
@@ -144,9 +144,9 @@ impl SymbolSet {
     }
 
     /// Those of some paths that name one of the symbols, in their order. Of each of a path's
-    /// segments only what stands in front of the first `<` counts. A path of one segment names the
+    /// segments only what is before the first `<` counts. A path of one segment names the
     /// symbol that is this segment. A longer path names a symbol with the same first and last
-    /// segments, where its other segments stand among the symbol's between these two, in their
+    /// segments, if its other segments are among the symbol's between these two, in their
     /// order. A path without segments names none.
     pub fn filter<'a>(&'a self, affected: &'a [FunctionPath]) -> Filtered<'a>
         ensures { result ≡ filter (is_kept self.now) affected.now }

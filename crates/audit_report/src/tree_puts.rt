@@ -1,4 +1,4 @@
-//! A block: its lines, and behind them its tree, which is rendered straight into the output.
+//! A block: its lines, and then its tree, which is rendered straight into the output.
 ghost use Rattle.std.specs.Prelude.{◌≡◌, ◌≢◌, ◌<◌, ◌≤◌, ◌++◌, [], IfErr, IsErrOf, OnOk, length};
 ghost use Rattle.tame_names.specs.Counts.{CountRose};
 ghost use Rattle.audit_lock.specs.Parents.{tree_of};
@@ -54,8 +54,8 @@ fn put_rendering<O: Sink>(
     }
 }
 
-/// Puts the lines of a page, behind them the tree of the package at a place under its title, and
-/// an empty line. The page is empty then.
+/// Puts the lines of a page, then the tree of the package at a place under its title, and
+/// an empty line. The page is empty afterwards.
 fn put_tree_text<O: Sink>(
     alloc: Global,
     out: &mut O,
@@ -78,8 +78,8 @@ fn put_tree_text<O: Sink>(
     put_with(out, page, "\n")
 }
 
-/// Puts the lines of a page, a tree where it is due, and the empty line that ends a block. The page
-/// is empty then.
+/// Puts the lines of a page, a tree if it is due, and the empty line that ends a block. The page
+/// is empty afterwards.
 fn put_tree_lines<O: Sink>(
     alloc: Global,
     out: &mut O,
@@ -105,9 +105,9 @@ fn put_tree_lines<O: Sink>(
     }
 }
 
-/// Puts what the sheet's page holds, the lines of a block, its package's tree, unless it was shown
-/// before or none is wanted, and the empty line that ends it. A tree that was put is added to those
-/// shown. The page is empty then.
+/// Puts what the sheet's page holds, the lines of a block, its package's tree (unless it was shown
+/// before or none is wanted), and the empty line that ends it. A tree that was put is added to
+/// those shown. The page is empty afterwards.
 pub fn put_block<O: Sink>(
     alloc: Global,
     out: &mut O,

@@ -3,7 +3,7 @@ use Rattle.semver.specs.Identifiers.{parts_of}
 use Rattle.audit_report.specs.Affected.{affected_paths}
 use Rattle.audit_report.proofs.affected.first_affected.Given as goal
 
--- those in front aren't affected
+-- those before aren't affected
 abbrev pub invariant-loop-function : goal.invariant-loop-function
 invariant-loop-function l =
     affected_paths l.symbols (option_map parts_of l.version) l.functions

@@ -3,7 +3,7 @@ use Rattle.std.specs.List.{filter}
 use Rattle.audit_report.specs.Symbols.{is_kept}
 use Rattle.audit_report.proofs.symbols.first_kept.Given as goal
 
--- those in front aren't kept
+-- those before aren't kept
 abbrev pub invariant-loop-path : goal.invariant-loop-path
 invariant-loop-path l = filter (is_kept l.symbols) l.affected ≡ filter (is_kept l.symbols) l.left
 
