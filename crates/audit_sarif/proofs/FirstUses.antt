@@ -1,4 +1,4 @@
--- Of each id its first use.
+-- The first use of each id.
 use Rattle.std.proofs.Common.{◌≡◌, ◌<◌, ◌+◌, ℕ, List, [], ◌∷◌, map, Bool, true, false, cond, not, ◌||◌, ◌++◌, append-nil, append_assoc, Less, rules, arith, refl, sym, ap, ◌∙◌}
 use Rattle.std.specs.Prelude.{⊤, bytes_eq, ◌↔◌}
 use Rattle.std.specs.Cmp.{IsEquivalence}
@@ -13,7 +13,7 @@ use Rattle.std.proofs.lemmas.List.Elements.{filter-append}
 use Rattle.audit_sarif.specs.Firsts.{first_of_each, is_text_of, with_all_new, with_new}
 use Rattle.tame_names.specs.FirstPlaces.{AreEachOnce, first_place}
 
--- ---- texts that are equal
+-- ---- equal strings
 
 equal : IsEquivalence bytes_eq
 equal = search (comparing, rules)
@@ -26,7 +26,7 @@ same xs ys h = search (rules, bytes_eq-Decides)
 abbrev others : List ℕ → List (List ℕ) → List (List ℕ)
 others t ts = filter (λ s. not (bytes_eq s t)) ts
 
--- a text that differs from t differs from what is equal to t
+-- a string that differs from t differs from what is equal to t
 differs : (q y t : List ℕ) → bytes_eq q t ≡ false → bytes_eq y t ≡ true → bytes_eq q y ≡ false
 differs q y t h e = equal.symm q y ∙ equal.congr y t q e ∙ equal.symm t q ∙ h
 
@@ -78,9 +78,9 @@ exact ts id = (
   (λ c. Contains-from_any same id (firsts ts) (any_firsts id ts ∙ list_any-from_Contains equal id ts c)),
 )
 
--- ---- where they stand
+-- ---- where they are
 
--- each is in front of those behind it
+-- each has a lower number than those after it
 abbrev Rise : (List ℕ → ℕ) → List (List ℕ) → Type 0
 Rise f [] = ⊤
 Rise f (y ∷ ys) = AllByRecursion (λ z. f y < f z) ys × Rise f ys
@@ -93,7 +93,7 @@ rise_others f t (y ∷ ys) h =
       | false ↦ (all_others (λ z. f y < f z) t ys h.0, rise_others f t ys h.1)
     ]
 
--- one place further behind another text
+-- after another string, one place further
 behind : (t : List ℕ) (ts : List (List ℕ)) (y : List ℕ) → bytes_eq y t ≡ false
     → first_place (t ∷ ts) y ≡ 1 + first_place ts y
 behind t ts y h = rw h refl
@@ -138,7 +138,7 @@ firsts_rise (t ∷ ts) = (
       (rise_others (first_place ts) t (firsts ts) (firsts_rise ts)),
 )
 
--- ---- in the words of lists
+-- ---- in terms of lists
 
 less_cmp : (a b : ℕ) → a < b → nat_cmp a b ≡ Less
 less_cmp a b h = grind (arith, h)
@@ -177,7 +177,7 @@ first_uses ts = record {
   exact = exact ts;
 }
 
--- ---- items by their texts
+-- ---- items by their strings
 
 map_others : {X : Type 0} (text : X → List ℕ) (t : List ℕ) (xs : List X)
     → map text (filter (λ x. not (bytes_eq (text x) t)) xs) ≡ others t (map text xs)
@@ -189,7 +189,7 @@ map_others text t (x ∷ xs) =
       | false ↦ ap (λ ts. text x ∷ ts) (map_others text t xs)
     ]
 
--- the texts of the first items are the first texts
+-- the strings of the first items are the first strings
 pub map_firsts : {X : Type 0} (text : X → List ℕ) (xs : List X) → map text (first_of_each text xs) ≡ firsts (map text xs)
 map_firsts text [] = refl
 map_firsts text (x ∷ xs) =
@@ -209,7 +209,7 @@ is_text_of-first text t xs =
     ∙ any_firsts t (map text xs)
     ∙ sym (any_map text t xs)
 
--- ---- one item more
+-- ---- one more item
 
 -- an item, unless it is there
 abbrev unless : {X : Type 0} → Bool → X → List X

@@ -83,7 +83,7 @@ run_within run =
     le_suc _ 6 (both _ _ _ (le_suc _ 5 (both _ _ _ (driver_within run.rules) (zero_le 5)))
     (both _ _ _ results (zero_le 6)))
 
--- far below what a reader takes
+-- far below the depth that a reader accepts
 pub log_within : (log : SarifLog) → depth (sarif_object log) ≤ max_depth
 log_within log =
     let runs : depth (array_of (run_object log.run ∷ [])) ≤ 8 =

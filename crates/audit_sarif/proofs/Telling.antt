@@ -28,7 +28,7 @@ rules_of fs = map (λ f. f.rule) fs
 abbrev results_of : List Finding → List SarifResult
 results_of fs = map (λ f. f.result) fs
 
--- ---- findings, one behind the other
+-- ---- findings, one after the other
 
 pub tells_none : (run : Run) → Tells run run []
 tells_none run = record { rules = refl; results = sym (append-nil run.results) }

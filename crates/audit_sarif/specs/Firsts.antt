@@ -2,17 +2,17 @@
 use Rattle.std.specs.Prelude.{ℕ, List, [], ◌∷◌, ◌++◌, Bool, not, bytes_eq, if◌then◌else◌}
 use Rattle.std.specs.List.{filter, list_any}
 
--- of the items of each text the first
+-- for each string, the first of its items
 abbrev pub first_of_each : {X : Type 0} → (X → List ℕ) → List X → List X
 first_of_each text [] = []
 first_of_each text (x ∷ xs) =
     x ∷ filter (λ y. not (bytes_eq (text y) (text x))) (first_of_each text xs)
 
--- one of these items has this text
+-- one of these items has this string
 abbrev pub is_text_of : {X : Type 0} → (X → List ℕ) → List ℕ → List X → Bool
 is_text_of text t xs = list_any (λ x. bytes_eq t (text x)) xs
 
--- an item more, where none has its text
+-- one more item, if none has its string
 abbrev pub with_new : {X : Type 0} → (X → List ℕ) → List X → X → List X
 with_new text xs x = if is_text_of text (text x) xs then xs else xs ++ x ∷ []
 

@@ -30,7 +30,7 @@ precision_word precise.VeryHigh = codes "very-high"
 
 -- ---- rules
 
--- a member, where it has a value
+-- a member, if it has a value
 abbrev pub member_of : List ℕ → Option Json → List (List ℕ × Json)
 member_of name None = []
 member_of name (Some j) = (name, j) ∷ []

@@ -16,7 +16,7 @@ unfoldable pub help_markdown : List ℕ → List ℕ → List ℕ
 help_markdown id url =
     codes "For more information, see: [" ++ id ++ codes "](" ++ url ++ codes ")"
 
--- what a kind of warning tells, where no advisory does
+-- what a kind of warning says if no advisory does
 unfoldable pub kind_text : WarningKind → List ℕ
 kind_text kind.Notice = codes "Unknown warning type"
 kind_text kind.Unmaintained =
@@ -41,7 +41,7 @@ kind_message kind p = named p ++ codes " has a " ++ kind_word kind ++ codes " wa
 unfoldable pub titled_message : WarningKind → Package → Metadata → List ℕ
 titled_message kind p m = kind_message kind p ++ codes ": " ++ m.title
 
--- with the advisory's title, where there is one
+-- with the advisory's title, if there is one
 abbrev pub warning_message : WarningKind → Package → Option Advisory → List ℕ
 warning_message kind p None = kind_message kind p
 warning_message kind p (Some a) = titled_message kind p a.metadata

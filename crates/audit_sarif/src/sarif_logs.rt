@@ -34,12 +34,12 @@ pub enum Precision {
     VeryHigh,
 }
 
-/// A text, and the same in Markdown where it has such a form.
+/// A text, and the same in Markdown if it has such a form.
 #[derive(Debug, Drop)]
 pub struct MultiformatMessageString {
     /// The plain text.
     pub text: Text,
-    /// The same in Markdown, where it has such a form.
+    /// The same in Markdown, if it has such a form.
     pub markdown: Option<Text>,
 }
 
@@ -54,7 +54,7 @@ pub struct Rule {
     pub full_description: Option<MultiformatMessageString>,
     /// The level of its results.
     pub level: Level,
-    /// Where more is said, if the advisory states it.
+    /// The page that says more, if the advisory states one.
     pub help: Option<MultiformatMessageString>,
     /// How sure its results are.
     pub precision: Precision,
@@ -62,22 +62,22 @@ pub struct Rule {
     pub security_severity: Option<Text>,
 }
 
-/// A package that a rule tells something of.
+/// A package that a rule reports.
 #[derive(Debug, Drop)]
 pub struct SarifResult {
     /// The id of the rule.
     pub rule_id: Text,
-    /// What is told of the package.
+    /// What is reported of the package.
     pub message: Text,
     /// The level of this result.
     pub level: Level,
-    /// Where the package is named: the lockfile, or a binary's path.
+    /// The path that names the package: the lockfile, or a binary's path.
     pub uri: Text,
     /// The rule's id, the package's name and its version, with colons between.
     pub fingerprint: Text,
 }
 
-/// What one audit tells.
+/// What one audit reports.
 #[derive(Debug, Drop)]
 pub struct Run {
     /// Of each id that a result names one rule, in the order of first use.
@@ -94,7 +94,7 @@ pub struct SarifLog {
 }
 
 impl SarifLog {
-    /// The log of a report, whose results are located at a path. `Tree` comes exactly where a place
+    /// The log of a report, whose results are located at a path. `Tree` comes exactly if a place
     /// in the report has no advisory or no package.
     pub fn from_report(
         alloc: Global,
@@ -105,14 +105,14 @@ impl SarifLog {
     ) -> Result<SarifLog, PrintError>
         ensures tree { IsErrOf result PrintError.Tree
             ↔ IsFalse (is_placed (length database.now) (length lockfile.now) report.now) }
-        // the report of this database on this lockfile has no such place
+        // the report of this database on this lockfile never causes `Tree`
         ensures placed { IsPlaced report.now → report.now.advisory_count ≡ length database.now
             → report.now.dependency_count ≡ length lockfile.now
             → IfErr result (λ e. e ≢ PrintError.Tree) }
         ensures unput { IfErr result (λ e. e ≢ PrintError.Io) }
         ensures log { IfOk result (λ log. log
             ≡ sarif_log cargo_lock_path.now database.now lockfile.now report.now) }
-        // the rules' ids are distinct, they stand in the order of first use in the results, and
+        // the rules' ids are distinct, they are in the order of first use in the results, and
         // they are exactly the ids that results name
         ensures rules { IfOk result (λ log. HasRulesOfResults log.run) }
     {

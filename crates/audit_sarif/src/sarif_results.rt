@@ -10,7 +10,7 @@ use audit_lock::Package;
 use std::alloc::Global;
 use tame_names::{NoMemory, Text};
 
-/// What is told of a package that an advisory hits.
+/// What is reported of a package that an advisory hits.
 pub fn hit_result(
     alloc: Global,
     uri: &str,
@@ -29,7 +29,7 @@ pub fn hit_result(
     })
 }
 
-/// What is told of a package that is warned of.
+/// What is reported of a package that is warned of.
 pub fn warning_result(
     alloc: Global,
     uri: &str,

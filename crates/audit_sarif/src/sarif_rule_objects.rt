@@ -17,7 +17,7 @@ use report_parts::{
 use std::alloc::AllocError;
 use tame_names::Text;
 
-/// Writes a member that is a text, where there is one.
+/// Writes a member that is a text, if there is one.
 fn write_stated(out: &mut Writer, name: &str, text: &Option<Text>) -> Result<(), AllocError>
     ensures { OnOk result (WritesTokens out.old out.new
         (listed_tokens (member_of name.now (option_map string text.now)))) }
@@ -53,7 +53,7 @@ fn write_message_member(
     write_message(out, message)
 }
 
-/// Writes a member that is a text with its Markdown, where there is one.
+/// Writes a member that is a text with its Markdown, if there is one.
 fn write_stated_message(
     out: &mut Writer,
     name: &str,
@@ -116,7 +116,7 @@ fn write_precision(out: &mut Writer, precision: Precision) -> Result<(), AllocEr
     write_str(out, "precision", precision_word(precision))
 }
 
-/// Writes a member that is a word, where there is one.
+/// Writes a member that is a word, if there is one.
 fn write_word_if(out: &mut Writer, name: &str, word: Option<&str>) -> Result<(), AllocError>
     ensures { OnOk result (WritesTokens out.old out.new (listed_tokens
         (member_of name.now (option_map string (option_map (λ w. w.now) word.entry))))) }

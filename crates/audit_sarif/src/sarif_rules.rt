@@ -40,7 +40,7 @@ fn help(alloc: Global, id: &str, url: &str) -> Result<MultiformatMessageString, 
     })
 }
 
-/// Where more is said, if an advisory states it.
+/// The page that says more, if an advisory states one.
 fn stated_help(
     alloc: Global,
     id: &str,

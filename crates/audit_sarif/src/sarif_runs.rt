@@ -22,7 +22,7 @@ fn is_ruled(id: &str, rules: &[Rule]) -> bool
     rules.iter().any(|rule| id == rule.id.as_str())
 }
 
-/// Adds the rule of an advisory, where no rule has its id.
+/// Adds the rule of an advisory if no rule has its id.
 fn add_advisory_rule(
     alloc: Global,
     rules: &mut Items<Rule>,
@@ -38,7 +38,7 @@ fn add_advisory_rule(
     Ok(())
 }
 
-/// Adds the rule of a warning, where no rule has its id.
+/// Adds the rule of a warning if no rule has its id.
 fn add_warning_rule(
     alloc: Global,
     rules: &mut Items<Rule>,

@@ -7,7 +7,7 @@ use audit_lock::Package;
 use report_parts::kind_word;
 use std::alloc::{AllocError, Global};
 
-/// Where more is said.
+/// The page that says more.
 #[tactic(auto, unfolding(crate::specs::SarifTexts::help_text))]
 pub fn help_text(alloc: Global, url: &str) -> Result<String, AllocError>
     ensures { IfOk result (λ text. string_bytes text ≡ spec.help_text url.now) }
@@ -17,7 +17,7 @@ pub fn help_text(alloc: Global, url: &str) -> Result<String, AllocError>
     Ok(out)
 }
 
-/// Where more is said, as a link in Markdown.
+/// The page that says more, as a link in Markdown.
 #[tactic(auto, unfolding(crate::specs::SarifTexts::help_markdown))]
 pub fn help_markdown(alloc: Global, id: &str, url: &str) -> Result<String, AllocError>
     ensures { IfOk result (λ text. string_bytes text ≡ spec.help_markdown id.now url.now) }
@@ -41,7 +41,7 @@ fn named(alloc: Global, locked: &Package) -> Result<String, AllocError>
     Ok(out)
 }
 
-/// What is told of a vulnerability.
+/// What is reported of a vulnerability.
 #[tactic(auto, unfolding(crate::specs::SarifTexts::hit_message))]
 pub fn hit_message(
     alloc: Global,
@@ -59,7 +59,7 @@ pub fn hit_message(
     Ok(out)
 }
 
-/// What is told of a warning of a kind.
+/// What is reported of a warning of a kind.
 #[tactic(auto, unfolding(crate::specs::SarifTexts::kind_message))]
 fn kind_message(alloc: Global, kind: WarningKind, locked: &Package) -> Result<String, AllocError>
     ensures { IfOk result (λ text. string_bytes text ≡ spec.kind_message kind locked.now) }
@@ -71,7 +71,7 @@ fn kind_message(alloc: Global, kind: WarningKind, locked: &Package) -> Result<St
     Ok(out)
 }
 
-/// What is told of a warning that an advisory gives.
+/// What is reported of a warning that an advisory gives.
 #[tactic(auto, unfolding(crate::specs::SarifTexts::titled_message))]
 fn titled_message(
     alloc: Global,
@@ -88,7 +88,7 @@ fn titled_message(
     Ok(out)
 }
 
-/// What is told of a warning.
+/// What is reported of a warning.
 pub fn warning_message(
     alloc: Global,
     kind: WarningKind,

@@ -50,7 +50,7 @@ pub fn problem_severity(level: Level) -> Option<&'static str>
     }
 }
 
-/// What a kind of warning tells, where no advisory does.
+/// What a kind of warning says if no advisory does.
 #[tactic(auto, unfolding(crate::specs::SarifTexts::kind_text))]
 pub fn kind_text(kind: WarningKind) -> &'static str
     ensures { result.now ≡ sarif_texts_spec.kind_text kind }

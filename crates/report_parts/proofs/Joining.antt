@@ -1,4 +1,4 @@
--- Members written one behind the other.
+-- Members written one after the other.
 use Rattle.std.proofs.Common.{◌≡◌, ℕ, Bool, true, List, [], ◌∷◌, ◌++◌, refl, sym, subst, ap, ◌∙◌, append-nil, append_assoc}
 use Rattle.json.specs.Json.{Json}
 use Rattle.json.specs.Token.{Token, begin_object, end_object, key}
@@ -45,7 +45,7 @@ adds_member_if stands k j a b e h =
     let P : Bool → Type 0 = λ s. WritesTokens a b (listed_tokens (member_if s k j)) in
     subst P (sym e) (adds_member k j a b h)
 
--- the members of an object, in front of others
+-- the members of an object, before others
 pub members_behind : (ms ns : List (List ℕ × Json)) {a b c : Written}
     → WritesTokens b c (members_tokens (members_of ns)) → WritesTokens a b (listed_tokens ms)
     → WritesTokens a c (members_tokens (members_of (ms ++ ns)))

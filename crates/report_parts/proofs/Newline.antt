@@ -1,4 +1,4 @@
--- A newline behind a JSON text changes nothing for a reader.
+-- A newline after a JSON text changes nothing for a reader.
 use Rattle.std.proofs.Common.{◌≡◌, ℕ, suc, ◌+◌, ◌-◌, ◌≤◌, List, [], ◌∷◌, ◌++◌, length, take, drop, Bool, true, false, cond, not, ◌&&◌, ◌||◌, ◌==◌, nat_eq, Option, Some, None, option_map, option_and_then, arith, refl, sym, ap, ap₂, ◌∙◌}
 use Rattle.std.specs.List.{list_all, prefix_len, starts_with}
 use Rattle.std.specs.Char.{encode_utf8, is_ascii_digit, is_digit}

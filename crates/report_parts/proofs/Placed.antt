@@ -9,7 +9,7 @@ use Rattle.audit_advisory.specs.declared.reports.Vulnerability.{Vulnerability}
 use Rattle.audit_advisory.specs.declared.reports.Warning.{Warning}
 use Rattle.report_parts.specs.Placing.{are_placed, is_place, is_placed, is_placed_vulnerability, is_placed_warning}
 
--- a test that each item passes
+-- a test that every item passes
 all_pass : {X : Type 0} (P : X → Type 0) (p : X → Bool) → ((x : X) → P x → p x ≡ true)
     → (xs : List X) → All P xs → list_all p xs ≡ true
 all_pass P p h [] all = refl
@@ -46,7 +46,7 @@ placed report h =
     (all_pass (warned_within p a) (is_placed_warning a p)
     (λ w l. both_hold _ _ (is_place-some _ _ l.1) (below _ _ l.0)) report.warnings h.warnings)
 
--- where the counts are those of these lists
+-- if the counts are those of these lists
 pub placed_in : (report : Report) (advisories packages : ℕ) → IsPlaced report
     → report.advisory_count ≡ advisories → report.dependency_count ≡ packages
     → is_placed advisories packages report ≡ true

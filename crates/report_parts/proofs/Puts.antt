@@ -1,4 +1,4 @@
--- Texts that are put one after the other.
+-- Texts put one after the other.
 use Rattle.std.proofs.Common.{◌≡◌, ℕ, zero, suc, List, [], ◌∷◌, ◌++◌, length, take, Result, Ok, Err, refl, sym, ap, ◌∙◌, append_assoc, append-nil, arith}
 use Rattle.std.proofs.lemmas.List.{take_all}
 use Rattle.std.specs.Prelude.{OnOk, IsErr}
@@ -11,7 +11,7 @@ front zero xs ys = (zero, refl)
 front (suc n) [] ys = (zero, refl)
 front (suc n) (x ∷ xs) ys = let more = front n xs ys in (suc more.0, ap (λ (zs : List ℕ). x ∷ zs) more.1)
 
--- the first text whole, and then from the front of the second
+-- the whole first text, then the first part of the second
 behind : (n : ℕ) (xs ys : List ℕ) → (m : ℕ) × (xs ++ take n ys ≡ take m (xs ++ ys))
 behind n [] ys = (n, refl)
 behind n (x ∷ xs) ys = let more = behind n xs ys in (suc more.0, ap (λ (zs : List ℕ). x ∷ zs) more.1)
@@ -52,7 +52,7 @@ put_then before xs ys mid now s first h = record {
     whole_then_assoc before xs ys mid now (Ok done) first h = h ∙ ap (λ (zs : List ℕ). zs ++ ys) first ∙ append_assoc before xs ys
     whole_then_assoc before xs ys mid now (Err e) first h = tt
 
--- nothing is said of success where it failed
+-- after a failure, nothing is said about success
 pub if_err : {T E : Type 0} (r : Result T E) (P : Type 0) → IsErr r → OnOk r P
 if_err (Ok x) P failed = absurd (cc)
 if_err (Err e) P failed = tt

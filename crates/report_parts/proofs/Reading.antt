@@ -7,7 +7,7 @@ use Rattle.json.specs.Print.{print}
 use Rattle.json.specs.Tree.{depth, json_tokens}
 use Rattle.json.proofs.Printed.Trees.{value-json_tokens}
 
--- tokens that a reader finds in their text are the value that was written
+-- the tokens that a reader finds in the text are the value that was written
 pub reads_back : (j : Json) (before : List ℕ) (ts : List Token) (text : List ℕ)
     → before ≡ [] → ts ≡ json_tokens j → text ≡ before ++ print ts → tokens (print ts) ≡ ts
     → depth j ≤ max_depth → document text ≡ Some j

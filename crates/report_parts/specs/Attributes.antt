@@ -13,13 +13,13 @@ filled word = word ++ replicate (10 - length word) 32
 unfoldable pub attribute : List ℕ → List ℕ → List ℕ
 attribute word content = filled word ++ codes " " ++ content ++ codes "\n"
 
--- no line without content
+-- without content, no line
 abbrev pub attribute_if : List ℕ → Option (List ℕ) → List ℕ
 attribute_if word content = option_map_or (attribute word) content []
 
 -- ---- the url
 
--- where RustSec's database has a page for each of its ids
+-- RustSec's database has a page here for each of its ids
 abbrev pub database_url : List ℕ
 database_url = codes "https://rustsec.org/advisories/"
 
@@ -27,12 +27,12 @@ abbrev pub id_url : List ℕ → Option (List ℕ)
 id_url id =
     if starts_with nat_eq id (codes "RUSTSEC-") then Some (database_url ++ id) else None
 
--- a license that asks to name where a text comes from
+-- a license that asks to name the origin of a text
 abbrev pub is_shared : Option (List ℕ) → Bool
 is_shared license = option_eq bytes_eq license (Some (codes "CC-BY-4.0"))
 
--- of the stated url and the id's page the first that there is: under such a license the url stands
--- in front, under any other the page
+-- the stated url or the id's page, the first that there is: under such a license the url comes
+-- first, under any other the page
 abbrev pub url_of : Metadata → Option (List ℕ)
 url_of m =
     if is_shared m.license then option_or m.url (id_url m.id)

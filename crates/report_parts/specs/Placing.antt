@@ -1,4 +1,4 @@
--- The places that a report and a list name: below the numbers of advisories and of packages.
+-- The places in a report and in a list: below the numbers of advisories and of packages.
 use Rattle.std.specs.Prelude.{ℕ, List, Bool, true, ◌&&◌, nat_lt, Option}
 use Rattle.std.specs.List.{list_all}
 use Rattle.std.specs.Option.{option_map_or}
@@ -18,7 +18,7 @@ abbrev pub is_placed_warning : ℕ → ℕ → Warning → Bool
 is_placed_warning advisories packages w =
     is_place advisories w.advisory && nat_lt w.«package» packages
 
--- each place that a report names has an advisory or a package
+-- each place in a report has an advisory or a package
 abbrev pub is_placed : ℕ → ℕ → Report → Bool
 is_placed advisories packages report =
     list_all (is_placed_vulnerability advisories packages) report.vulnerabilities

@@ -1,4 +1,4 @@
--- The words of what is reported (RustSec's advisory database; CVSS 3.1, section 5).
+-- The words for what is reported (RustSec's advisory database; CVSS 3.1, section 5).
 use Rattle.std.specs.Prelude.{ℕ, codes, List}
 use Rattle.audit_advisory.specs.declared.metadata.Informational.{Informational}
 use Rattle.audit_advisory.specs.declared.metadata.Informational.TheVariants as told

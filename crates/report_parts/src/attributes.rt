@@ -12,7 +12,7 @@ use serde_json::Value;
 use std::alloc::{AllocError, Global};
 use tame_names::Text;
 
-/// How many characters a word is filled to.
+/// The number of characters that a word is filled to.
 const WIDTH: usize = 10;
 
 /// Appends a word, filled to ten characters with spaces.
@@ -55,7 +55,7 @@ fn is_shared(license: &Option<Text>) -> bool
     }
 }
 
-/// Appends the line of the page of an id of the public database.
+/// Appends the line of the page for an id of the public database.
 #[tactic(auto, unfolding(crate::specs::Attributes::attribute))]
 fn push_database_url(out: &mut String, id: &str) -> Result<(), AllocError>
     ensures { OnOk result (string_bytes out.new

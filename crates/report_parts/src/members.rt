@@ -71,7 +71,7 @@ pub fn write_str(out: &mut Writer, name: &str, word: &str) -> Result<(), AllocEr
     out.string(word)
 }
 
-/// Writes a member that is a text.
+/// Writes a member that is a string.
 pub fn write_text(out: &mut Writer, name: &str, text: &Text) -> Result<(), AllocError>
     ensures { OnOk result (WritesTokens out.old out.new
         (key name.now ∷ json_tokens (string text.now))) }
@@ -79,7 +79,7 @@ pub fn write_text(out: &mut Writer, name: &str, text: &Text) -> Result<(), Alloc
     write_str(out, name, text.as_str())
 }
 
-/// Writes a member that is a text or null.
+/// Writes a member that is a string or null.
 pub fn write_optional(out: &mut Writer, name: &str, text: &Option<Text>) -> Result<(), AllocError>
     ensures { OnOk result (WritesTokens out.old out.new
         (key name.now ∷ json_tokens (text_or_null text.now))) }
@@ -124,7 +124,7 @@ pub fn write_count(out: &mut Writer, name: &str, number: usize) -> Result<(), Al
     out.u64(number as u64)
 }
 
-/// Writes a member that is an array of texts.
+/// Writes a member that is an array of strings.
 pub fn write_texts(out: &mut Writer, name: &str, items: &Items<Text>) -> Result<(), AllocError>
     ensures { OnOk result (WritesTokens out.old out.new
         (key name.now ∷ json_tokens (texts items.now))) }

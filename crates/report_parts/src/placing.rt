@@ -1,4 +1,4 @@
-//! The places that a report and a list name.
+//! The places in a report and in a list.
 ghost use Rattle.std.specs.Prelude.{◌≡◌, length};
 ghost use Rattle.std.specs.List.{list_all};
 ghost use Rattle.report_parts.specs.Placing as spec;
@@ -41,7 +41,7 @@ fn are_warnings(advisories: usize, packages: usize, warnings: &[Warning]) -> boo
         .all(|warning| is_placed_warning(advisories, packages, warning))
 }
 
-/// Whether each place that a report names has an advisory or a package.
+/// Whether each place in a report has an advisory or a package.
 pub fn is_placed(advisories: usize, packages: usize, report: &Report) -> bool
     ensures { result ≡ spec.is_placed advisories packages report.now }
 {

@@ -13,7 +13,7 @@ pub enum PrintError {
     Io,
     /// A place that is named has no advisory or no package.
     Tree,
-    /// Memory ran out.
+    /// Out of memory.
     NoMemory,
 }
 

@@ -1,10 +1,10 @@
-//! The words of what is reported.
+//! The words for what is reported.
 ghost use Rattle.std.specs.Prelude.{◌≡◌, option_map};
 ghost use Rattle.report_parts.specs.Words as spec;
 
 use audit_advisory::{Informational, Severity, WarningKind};
 
-/// The word of a severity.
+/// The word for a severity.
 #[tactic(auto, unfolding(crate::specs::Words::severity_word))]
 pub fn severity_word(severity: Severity) -> &'static str
     ensures { result.now ≡ spec.severity_word severity }
@@ -18,7 +18,7 @@ pub fn severity_word(severity: Severity) -> &'static str
     }
 }
 
-/// The word of a kind of warning.
+/// The word for a kind of warning.
 #[tactic(auto, unfolding(crate::specs::Words::kind_word))]
 pub fn kind_word(kind: WarningKind) -> &'static str
     ensures { result.now ≡ spec.kind_word kind }
@@ -31,7 +31,7 @@ pub fn kind_word(kind: WarningKind) -> &'static str
     }
 }
 
-/// The word of what an advisory informs of.
+/// The word for what an advisory informs about.
 pub fn informational_word(informational: &Informational) -> &str
     ensures { result.now ≡ spec.informational_word informational.now }
 {
@@ -43,7 +43,7 @@ pub fn informational_word(informational: &Informational) -> &str
     }
 }
 
-/// The word of a severity that may be absent.
+/// The word for a severity that may be absent.
 pub fn stated_severity(severity: Option<Severity>) -> Option<&'static str>
     ensures { option_map (λ w. w.now) result ≡ option_map spec.severity_word severity }
 {
@@ -53,7 +53,7 @@ pub fn stated_severity(severity: Option<Severity>) -> Option<&'static str>
     }
 }
 
-/// The word of what an advisory informs of, if it does.
+/// The word for what an advisory informs about, if it does.
 pub fn stated_informational(informational: &Option<Informational>) -> Option<&str>
     ensures { option_map (λ w. w.now) result
         ≡ option_map spec.informational_word informational.now }
