@@ -7,7 +7,7 @@ use Rattle.report_parts.proofs.Nested.{array_within, both, count_within, items_w
 use Rattle.audit_report.specs.Documents.{found_object, hit_at, hit_of, kind_member, member_if, occurs, report_object, kind_warning_at, warning_of, warnings_object}
 use Rattle.audit_report.specs.Objects.{hit_object, metadata_object, metadata_or_null, package_object, settings_object, versions_object, warning_object}
 use Rattle.report_parts.specs.Values.{array_of, count_or_null, items_of, members_of, text_or_null, texts}
-use Rattle.audit_report.specs.Blocks.{advisory_at}
+use Rattle.audit_advisory.specs.Reports.{advisory_at}
 use Rattle.audit_advisory.specs.Exits.{same_kind}
 use Rattle.report_parts.specs.Words.{informational_word, kind_word, severity_word}
 use Rattle.audit_advisory.specs.declared.advisories.Advisory.{Advisory}

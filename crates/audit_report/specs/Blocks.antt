@@ -5,7 +5,7 @@ use Rattle.std.specs.List.{flat_map}
 use Rattle.std.specs.Option.{option_map_or}
 use Rattle.audit_lock.specs.Rendering.{rendering}
 use Rattle.audit_lock.specs.declared.resolving.Package.{Package}
-pub use Rattle.audit_advisory.specs.Reports.{advisory_at}
+use Rattle.audit_advisory.specs.Reports.{advisory_at}
 use Rattle.audit_advisory.specs.declared.advisories.Advisory.{Advisory}
 use Rattle.audit_advisory.specs.declared.metadata.Metadata.{Metadata}
 use Rattle.audit_advisory.specs.declared.outputs.WarningKind.{WarningKind}

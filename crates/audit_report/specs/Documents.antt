@@ -8,7 +8,7 @@ use Rattle.json.specs.Tree.{json_tokens}
 use Rattle.audit_report.specs.Objects.{hit_object, settings_object, warning_object}
 use Rattle.report_parts.specs.Values.{array_of, count, json_text, object_of}
 pub use Rattle.report_parts.specs.Values.{listed_tokens, member_if}
-use Rattle.audit_report.specs.Blocks.{advisory_at}
+use Rattle.audit_advisory.specs.Reports.{advisory_at}
 use Rattle.audit_advisory.specs.Exits.{same_kind}
 use Rattle.report_parts.specs.Words.{kind_word}
 use Rattle.audit_advisory.specs.declared.advisories.Advisory.{Advisory}

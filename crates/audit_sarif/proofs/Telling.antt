@@ -8,7 +8,7 @@ use Rattle.audit_lock.specs.declared.resolving.Package.{Package}
 use Rattle.audit_advisory.specs.declared.advisories.Advisory.{Advisory}
 use Rattle.audit_advisory.specs.declared.outputs.WarningKind.{WarningKind}
 use Rattle.audit_advisory.specs.declared.reports.Report.{Report}
-use Rattle.audit_report.specs.Blocks.{advisory_at}
+use Rattle.audit_advisory.specs.Reports.{advisory_at}
 use Rattle.audit_sarif.specs.Firsts.{first_of_each, with_all_new}
 use Rattle.tame_names.specs.FirstPlaces.{AreEachOnce}
 use Rattle.audit_sarif.specs.Rules.{HasRulesOfResults}

@@ -11,7 +11,7 @@ use Rattle.audit_advisory.specs.declared.reports.Report.{Report}
 use Rattle.audit_advisory.specs.declared.reports.Vulnerability.{Vulnerability}
 use Rattle.audit_advisory.specs.declared.reports.Warning.{Warning}
 use Rattle.report_parts.specs.Attributes.{one_decimal}
-use Rattle.audit_report.specs.Blocks.{advisory_at}
+use Rattle.audit_advisory.specs.Reports.{advisory_at}
 use Rattle.audit_sarif.specs.Firsts.{first_of_each}
 use Rattle.audit_sarif.specs.SarifTexts.{fingerprint, help_markdown, help_text, hit_message, kind_text, warning_message}
 use Rattle.report_parts.specs.Words.{kind_word}
