@@ -4,7 +4,7 @@ use audit_advisory::{DenyOption, Informational, OutputFormat, Severity, WarningK
 use audit_report::Found;
 use row_fixtures::{Row, RowFault};
 use std::alloc::Global;
-use tame_names::{Items, Text};
+use tame_names::Items;
 
 /// What advisories inform of; nothing for `-`.
 pub fn informational(alloc: Global, row: &mut Row<'_>) -> Result<Items<Informational>, RowFault> {

@@ -8,7 +8,7 @@
 //! `audit_lock`, `audit_advisory`, `audit_settings` and `known_findings`.
 //!
 //! ```ignore
-//! let asked = ask(alloc, &command, None, &mut files, &mut runner)?; // or a AskFault
+//! let asked = ask(alloc, &command, None, &mut files, &mut runner)?; // or an AskFault
 //! let lockfile = asked.text.as_str();                               // of the file at asked.place
 //! ```
 #![tactic(auto)]

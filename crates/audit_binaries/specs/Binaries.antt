@@ -148,8 +148,8 @@ pub record IsBinary (tells : Tells) (scan : Scan) (began ended : Outside) (path 
 
 -- ---- one that ran out of memory
 
--- a part of the audit of these packages: the first of its paths were asked for, and no other file
--- changed
+-- a part of the audit of these packages: the first few of its paths were asked for, and no other
+-- file changed
 pub record IsPart (tells : Tells) (scan : Scan) (began ended : Outside)
     (packages : List Package) : Type 0 where
   pub asked : tells.wire → AddsPart
@@ -189,7 +189,7 @@ IsNextBegun tells scan began ended [] = ended ≡ began
 IsNextBegun tells scan began ended (path ∷ paths) =
     (ended ≡ began) ⊎ IsCutOff tells scan began ended path
 
--- the first of the paths were answered, and the next one may have been begun
+-- the first few paths were answered, and the next one may have been begun
 abbrev pub ArePartly : Tells → Scan → Outside → Outside → List (List ℕ) → Type 0
 ArePartly tells scan began ended paths =
     (k : ℕ) × (answers : List BinaryAnswer) × (mid : Outside)

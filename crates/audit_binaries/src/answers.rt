@@ -27,7 +27,7 @@ pub enum BinaryFault {
     PayloadOver(u64),
     /// It says nothing about the packages that it was built from.
     NoInformation,
-    /// What it says is no lockfile, for this reason, which is never out of memory.
+    /// What it says is no lockfile, for this reason, which is never `NoMemory`.
     Lockfile(LockfileFault),
 }
 

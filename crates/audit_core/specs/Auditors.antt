@@ -49,7 +49,7 @@ abbrev pub text_auditor : AuditConfig → List (List ℕ) → Result Auditor Aud
 text_auditor config texts =
     and_then (λ advisories. Ok (auditor_of config advisories)) (advisories_from 0 texts)
 
--- this says that a text is no advisory, for a reason that isn't out of memory
+-- this says that a text is no advisory, for a reason that isn't `NoMemory`
 abbrev pub refuses_advisory : AuditError → Type 0
 refuses_advisory (audit_error.Advisory n fault) = fault ≢ advisory_fault.NoMemory
 refuses_advisory _ = ⊥

@@ -17,7 +17,7 @@ abbrev pub holding : List Exchange → Disk → List (List ℕ) → Holding
 holding exchanges files folders =
     record { exchanges = exchanges; files = files; folders = folders }
 
--- the first of the paths were asked for; no file changed that belongs to no path, and no folders
+-- the first few paths were asked for; no file changed that belongs to no path, and no folders
 -- were created except those above such files
 pub record AsksOnly (wire_tells disk_tells : Type 0) (paths : List (List ℕ))
     (before now : Holding) : Type 0 where

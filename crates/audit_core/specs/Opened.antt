@@ -38,7 +38,7 @@ IsTextFault (fault.TooLarge n) = Unit {0}
 IsTextFault _ = ⊥
 
 -- a reason in what is there: why its text wasn't read, or why the text is no lockfile, which is
--- never out of memory; that a count rose is said separately
+-- never `NoMemory`; that a count rose is said separately
 abbrev pub IsUnopenedFor : Type 0 → Standing → FileAuditError → Type 0
 IsUnopenedFor told standing fault.Missing = told → opened_text standing ≡ Err fault.Missing
 IsUnopenedFor told standing fault.NotUtf8 = told → opened_text standing ≡ Err fault.NotUtf8

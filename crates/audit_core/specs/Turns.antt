@@ -133,7 +133,7 @@ abbrev pub AddsTurns : Type 0 → List Exchange → List Exchange → DiskAt →
 AddsTurns told before now old hs new =
     (es : List Exchange) × (now ≡ before ++ es) × TurnsInOrder told old es hs new
 
--- exchanges for the first of these paths follow the list
+-- exchanges for the first few of these paths follow the list
 abbrev pub AddsPart : List (List ℕ) → List Exchange → List Exchange → Type 0
 AddsPart paths before now =
     (es : List Exchange) × (k : ℕ) × (now ≡ before ++ es) × (map (λ e. e.path) es ≡ take k paths)

@@ -159,8 +159,8 @@ impl Auditor {
             → (wire.new ≡ wire.old) × (disk.new ≡ disk.old) }
         ensures becomes { W.becomes wire.old wire.new }
 
-        // for a text that is a lockfile, whatever the result: the first of the paths were asked
-        // for, no file changes except those of asked paths, and no folders are created except
+        // for a text that is a lockfile, whatever the result: the first few paths were asked for,
+        // no file changes except those of asked paths, and no folders are created except
         // those above these
         ensures asks { F.tells → (text : List ℕ) (packages : List Package)
             → opened_text (standing_at (F.host files.old) path.now) ≡ Ok text

@@ -2,7 +2,6 @@
 ghost use Rattle.std.specs.Prelude.{◌≡◌, List, ℕ, [], ◌++◌, map, Some, IfOk, IfSome, OnOk};
 ghost use Rattle.tame_names.specs.Names.{path};
 ghost use Rattle.audit_core.specs.Paths.{asked_paths, default_path, place_in};
-ghost use Rattle.audit_core.specs.Paths as spec;
 ghost use Rattle.audit_core.specs.Plans.{ArePlanned, IsPathOf};
 
 use audit_lock::Package;

@@ -15,7 +15,7 @@ use Rattle.audit_lock.specs.declared.lockfiles.LockfileFault.{LockfileFault}
 use Rattle.audit_lock.specs.declared.lockfiles.LockfileFault.TheVariants as fault
 use Rattle.audit_lock.specs.declared.resolving.Package.{Package}
 
--- absent, or 1 to 4; a value that is no number is `Some None`
+-- absent (`Some None`), or 1 to 4; a value that is no number is `None`
 abbrev pub is_known : Option (Option ℕ) → Bool
 is_known None = false
 is_known (Some None) = true

@@ -1,5 +1,5 @@
 //! What a presenter puts for an audit.
-ghost use Rattle.std.specs.Prelude.{◌≡◌, ◌≢◌, ◌≤◌, ◌⊎◌, Err, IfOk, IfErr, OnOk, option_map};
+ghost use Rattle.std.specs.Prelude.{◌≡◌, ◌≢◌, ◌↔◌, ◌≤◌, ◌⊎◌, Err, IfOk, IfErr, OnOk, option_map};
 ghost use Rattle.tame_names.specs.Counts.{CountRose};
 ghost use Rattle.audit_core.specs.Auditors.{IsReportOf, self_advisories};
 ghost use Rattle.report_parts.specs.Outputs.{IsPut};
@@ -26,7 +26,7 @@ pub fn new_presenter(alloc: Global, config: &OutputConfig) -> Result<Presenter, 
 /// The fault of a run whose report can't be printed; the error is never `Tree`.
 fn print_fault(error: PrintError) -> PrintFault
     requires { error ≢ PrintError.Tree }
-    ensures print { result ≡ PrintFault.Put → error ≡ PrintError.Io }
+    ensures print { (result ≡ PrintFault.Put) ↔ (error ≡ PrintError.Io) }
 {
     match error {
         PrintError::Io => PrintFault::Put,

@@ -29,7 +29,8 @@ impl From<NoMemory> for PrintFault {
 pub fn put_text<S: Sink>(sink: &mut S, text: &[u8]) -> Result<(), PrintFault>
     ensures put { S.tells → IsPut (S.holds sink.old) text.now (S.holds sink.new) result }
     ensures later { S.faults sink.old ≤ S.faults sink.new }
-    ensures failed { IfErr result (λ _. CountRose (S.faults sink.old) (S.faults sink.new)) }
+    ensures failed { IfErr result (λ e. (e ≡ PrintFault.Put)
+        × CountRose (S.faults sink.old) (S.faults sink.new)) }
     ensures nothing { text.now ≡ [] → IsOk result × (sink.new ≡ sink.old) }
 {
     match put_counted(sink, text) {

@@ -221,8 +221,8 @@ pub fn plans_of_runs_tell_what_the_server_held<
         → ArePlannedByHeld given.advisories audited added items }
 {}
 
-/// The same in a history of runs, which asks nothing of the cache: the plan of a run whose exchanges
-/// are honest for the map of the history says what the server held when the run asked it.
+/// The same in a history of runs, which asks nothing of the cache: the plan of a run whose
+/// exchanges are honest for the map of the history says what the server held when the run asked it.
 pub fn plans_of_runs_in_histories_tell_what_the_server_held<
     F: Files,
     P: Decoder,

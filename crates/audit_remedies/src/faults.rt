@@ -10,7 +10,7 @@ use audit_settings::SettingsFault;
 use tame_names::{NoMemory, Text};
 use vendor_registry::VendorFault;
 
-/// Why a run ended without its output. The reason that a fault holds is never out of memory.
+/// Why a run ended without its output. The reason that a fault holds is never `NoMemory`.
 #[derive(Debug, Drop)]
 pub enum RunFault {
     /// The argument at this position, counted from 0, is wrong or missing.

@@ -1,5 +1,5 @@
 //! What holds for everything that a presenter prints.
-ghost use Rattle.std.specs.Prelude.{◌≡◌, ◌↔◌, ℕ, List, [], ◌∷◌, ◌++◌, map, Bool, IsTrue, true, not, ◌&&◌, ◌||◌};
+ghost use Rattle.std.specs.Prelude.{◌≡◌, ◌↔◌, List, [], ◌∷◌, ◌++◌, map, Bool, IsTrue, true, not, ◌&&◌, ◌||◌};
 ghost use Rattle.std.specs.List.{Any};
 ghost use Rattle.audit_lock.specs.declared.resolving.Package.{Package};
 ghost use Rattle.audit_report.specs.Blocks.{Block};

@@ -1,6 +1,5 @@
 //! Status lines.
 ghost use Rattle.std.specs.Prelude.{◌≡◌, ◌++◌, decimal, IfOk, OnOk, string_bytes};
-ghost use Rattle.json.specs.Print.{quoted};
 ghost use Rattle.audit_report.specs.StatusLines.{loaded_line, unchecked_line, unchecked_title, updating_line};
 ghost use Rattle.audit_report.specs.StatusLines as spec;
 

@@ -1,6 +1,5 @@
 //! The summary of a report.
 ghost use Rattle.std.specs.Prelude.{◌≡◌, ◌++◌, IfOk, OnOk, option_map, string_bytes};
-ghost use Rattle.audit_advisory.specs.Exits as spec;
 ghost use Rattle.audit_report.specs.Summaries.{allowed_line, denied_line, ending, found_line, vulnerabilities_line};
 ghost use Rattle.audit_report.specs.Summaries as summaries_spec;
 

@@ -1,7 +1,7 @@
 //! The report of an audit as a SARIF log (SARIF 2.1.0).
 //!
-//! Promises: the log is a function of the report, the advisories, the packages and the path that was
-//! audited; its text reads back to it. Depends on the sinks of `tame_names`, on `audit_lock`,
+//! Promises: the log is a function of the report, the advisories, the packages and the path that
+//! was audited; its text reads back to it. Depends on the sinks of `tame_names`, on `audit_lock`,
 //! `audit_advisory` and `report_parts`.
 #![tactic(auto)]
 

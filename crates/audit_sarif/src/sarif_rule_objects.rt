@@ -4,9 +4,8 @@ ghost use Rattle.json.specs.Json.{string};
 ghost use Rattle.json.specs.Token.{key};
 ghost use Rattle.json.specs.Tree.{json_tokens};
 ghost use Rattle.report_parts.specs.WrittenTokens.{WritesTokens};
-ghost use Rattle.report_parts.specs.Values.{listed_tokens};
 ghost use Rattle.audit_sarif.specs.SarifObjects.{level_object, level_word, member_of, message_object, precision_word, problem_severity, properties_object, rule_object, tag_word};
-ghost use Rattle.report_parts.specs.Values.{texts};
+ghost use Rattle.report_parts.specs.Values.{listed_tokens, texts};
 
 use crate::sarif_logs::{Level, MultiformatMessageString, Precision, Rule};
 use crate::sarif_words::{level_word, precision_word, problem_severity, tag_word};

@@ -69,9 +69,9 @@ pub fn runs_at_once_are_a_history<
         (telling F.tells P.tells R.tells W.tells D.tells O.tells E.tells) m taken taken }
 {}
 
-/// The headline of each of them. A run that took the lock so, whose exchanges are honest for the map
-/// of the others, and whose arguments ask for an audit with online checks, judges each package of
-/// the default registry by what the server held when asked. It asks nothing of the cache.
+/// The headline of each of them. A run that took the lock so, whose exchanges are honest for the
+/// map of the others, and whose arguments ask for an audit with online checks, judges each package
+/// of the default registry by what the server held when asked. It asks nothing of the cache.
 pub fn runs_at_once_match_the_server<
     F: Files,
     P: Decoder,

@@ -1,5 +1,5 @@
 //! The findings of a report.
-ghost use Rattle.std.specs.Prelude.{◌≡◌, ◌++◌, IfOk, OnOk, option_copied, slice_get};
+ghost use Rattle.std.specs.Prelude.{◌≡◌, ◌++◌, IfOk, OnOk, option_copied};
 ghost use Rattle.std.specs.List.{flat_map};
 ghost use Rattle.baseline_gate.specs.Reports.{findings_of, hit_finding, hit_finding_at, source_of, warning_finding, warning_finding_at, warning_kind};
 ghost use Rattle.baseline_gate.specs.Reports as spec;

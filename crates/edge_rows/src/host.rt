@@ -38,7 +38,7 @@ impl FailurePlan {
         self.fails_at.set(fails_at);
     }
 
-    /// Whether the call of this number fails: the one that is meant, and where it is interrupted the
+    /// Whether the call of this number fails: the one that is meant, and, if it is interrupted, the
     /// next one too, which is the same call made again.
     fn befalls(&self, number: u64) -> bool {
         let meant = self.fails_at.get();

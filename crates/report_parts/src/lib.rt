@@ -1,8 +1,8 @@
-//! The parts that the forms of a report share: words, lines of an attribute, members of JSON objects,
-//! the check of the places that a report names, and the put of a text.
+//! The parts that the forms of a report share: words, lines of an attribute, members of JSON
+//! objects, the check of the places that a report names, and the put of a text.
 //!
-//! Promises: each call appends or writes exactly what its definition says; a text without bytes isn't
-//! put. Depends on the sinks of `tame_names`, on `audit_lock` and `audit_advisory`, and on `serde_json`.
+//! Promises: each call appends or writes exactly what its definition says; a text without bytes
+//! isn't put. Depends on the sinks of `tame_names`, on `audit_advisory`, and on `serde_json`.
 #![tactic(auto)]
 
 mod attributes;

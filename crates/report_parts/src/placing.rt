@@ -1,10 +1,9 @@
 //! The places in a report and in a list.
-ghost use Rattle.std.specs.Prelude.{◌≡◌, length};
+ghost use Rattle.std.specs.Prelude.{◌≡◌};
 ghost use Rattle.std.specs.List.{list_all};
 ghost use Rattle.report_parts.specs.Placing as spec;
 
-use audit_advisory::{Advisory, Report, Vulnerability, Warning};
-use audit_lock::Package;
+use audit_advisory::{Report, Vulnerability, Warning};
 
 fn is_place(count: usize, place: Option<usize>) -> bool
     ensures { result ≡ spec.is_place count place }

@@ -25,7 +25,7 @@ pub struct MemCacheDisk {
     folders: Vec<String>,
     tears: bool,
     pub(crate) counts: Counts,
-    /// The calls that have failed; none once one of them ran out of memory.
+    /// The calls that have failed; none once there was no memory to note one of them.
     pub(crate) failed: Option<Items<FailedDiskCall>>,
 }
 

@@ -239,7 +239,8 @@ impl<'p> LockOptions<'p> {
         ensures left { F.tells → Leaves self.now.exclusive (cow_str_bytes self.now.path)
             (F.host files.old) (F.host files.new) }
         ensures holds { F.tells → Holds result (F.locks files.old) (F.locks files.new) }
-        ensures only { IfErr result (IsLockedError (cow_str_bytes self.now.path) LockError.TimedOut) }
+        ensures only { IfErr result
+            (IsLockedError (cow_str_bytes self.now.path) LockError.TimedOut) }
         ensures cause { HasLockCause (IsLockFault result)
             (F.faults files.old) (F.faults files.new) }
     {
@@ -267,7 +268,8 @@ impl<'p> LockOptions<'p> {
         ensures left { F.tells → Leaves self.now.exclusive (cow_str_bytes self.now.path)
             (F.host files.old) (F.host files.new) }
         ensures holds { F.tells → Holds result (F.locks files.old) (F.locks files.new) }
-        ensures only { IfErr result (IsLockedError (cow_str_bytes self.now.path) LockError.Contested) }
+        ensures only { IfErr result
+            (IsLockedError (cow_str_bytes self.now.path) LockError.Contested) }
         ensures cause { HasLockCause (IsLockFault result)
             (F.faults files.old) (F.faults files.new) }
     {

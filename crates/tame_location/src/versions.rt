@@ -16,7 +16,7 @@ fn is_memory(error: semver::Error) -> bool
     error == semver::Error::from(AllocError)
 }
 
-/// The version in a string; `Semver` if it is none.
+/// The version in a string; `Semver` if there is none.
 pub fn read_version(alloc: Global, text: &str) -> Result<Version, Error>
     ensures ok { IfOk result (λ version. version_of text.now ≡ Ok (parts_of version)) }
     ensures refused { IfErr result (λ e. e ≢ Error.NoMemory → version_of text.now ≡ Err e) }

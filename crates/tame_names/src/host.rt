@@ -137,7 +137,7 @@ pub enum LockCall {
 pub struct LockStep {
     /// The path, as given to the call.
     pub path: Text,
-    /// Whether the file was to be locked for one user alone.
+    /// Whether the file was to be locked by one holder alone.
     pub exclusive: bool,
     /// The call, and why it was refused.
     pub call: LockCall,

@@ -93,6 +93,8 @@ impl Sink for MemSink {
             < vec_len self.old.bytes + length piece.now) }
         ensures counted { OnErr result (self.new.faults ≡ next_call self.old.faults) }
         ensures uncounted { OnOk result (self.new.faults ≡ self.old.faults) }
+        ensures kept { OnErr result (self.new.bytes.items ≡ self.old.bytes.items) }
+        ensures room { vec_capacity self.old.bytes ≤ vec_capacity self.new.bytes }
     {
         self.calls = self.calls.saturating_add(1);
         if self.fails.as_slice().contains(&self.calls) {

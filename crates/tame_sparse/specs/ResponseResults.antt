@@ -1,5 +1,5 @@
--- The result of an answer for an index (Cargo Book, "Registry Index", sparse protocol; RFC 9110,
--- section 15), and what it stores of it.
+-- What an index returns for an answer (Cargo Book, "Registry Index", sparse protocol; RFC 9110,
+-- section 15), and what it stores of that answer.
 use Rattle.std.specs.Prelude.{◌≡◌, ◌≢◌, ◌⊎◌, ℕ, ◌+◌, codes, List, Bool, false, IsTrue, Option, Some, None, drop, option_map, IfSome, Result, Ok, Err, IfOk, IfErr}
 use Rattle.tame_names.specs.Names.{path}
 use Rattle.tame_names.specs.declared.errors.Error.{Error}

@@ -7,7 +7,7 @@ use tame_entry::IndexConfig;
 use tame_names::Error;
 use tame_records::LineFault;
 
-/// The configuration in these bytes. `Json` if they are none.
+/// The configuration in these bytes; `Json` if there is none.
 pub fn config_of(alloc: Global, bytes: &[u8]) -> Result<IndexConfig, Error>
     ensures ok { IfOk result (λ config. spec.config_of bytes.now ≡ Some config) }
     ensures refused { IfErr result

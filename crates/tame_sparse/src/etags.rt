@@ -154,7 +154,8 @@ impl EtagCache {
             → cache_file_of index.now.cache.path (text_of name.entry) ≡ Some q
             → IfOk result (λ e. HandsOut index.now.cache.index e (reads (D.past disk.old q))) }
         ensures rose { result ≡ Err (Error.Io IoKind.Failed)
-            → (response.entry.status_code ≡ 304) × CountRose (D.faults disk.old) (D.faults disk.new) }
+            → (response.entry.status_code ≡ 304)
+            × CountRose (D.faults disk.old) (D.faults disk.new) }
         // what is stored
         ensures stores { D.tells → Stores index.now.cache.index index.now.cache.path
             (text_of name.entry) (came response.entry) write_cache_entry (D.past disk.old)

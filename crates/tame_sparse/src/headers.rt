@@ -93,7 +93,7 @@ fn field_map(
     Ok(map)
 }
 
-/// The target in a string (RFC 3986). `Http(Http)` if it is none.
+/// The target in a string (RFC 3986); `Http(Http)` if there is none.
 fn target(alloc: Global, text: &str) -> Result<Uri, Error>
     ensures ok { IfOk result (Spells text.now) }
     ensures refused { IfErr result

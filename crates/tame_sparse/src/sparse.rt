@@ -289,7 +289,8 @@ impl SparseIndex {
             → cache_file_of self.now.cache.path (text_of name.entry) ≡ Some q
             → IfOk result (λ e. HandsOut self.now.cache.index e (reads (D.past disk.old q))) }
         ensures rose { result ≡ Err (Error.Io IoKind.Failed)
-            → (response.entry.status_code ≡ 304) × CountRose (D.faults disk.old) (D.faults disk.new) }
+            → (response.entry.status_code ≡ 304)
+            × CountRose (D.faults disk.old) (D.faults disk.new) }
         // what is stored
         ensures stores { D.tells → Stores self.now.cache.index self.now.cache.path
             (text_of name.entry) (came response.entry) write_cache_entry (D.past disk.old)

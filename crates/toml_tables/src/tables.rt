@@ -17,7 +17,7 @@ pub enum TableFault {
 }
 
 /// The table in a string, as the toolchain's `toml` reads it: TOML 1.1, arrays and inline tables
-/// nested at most 80 deep. `Toml` exactly if the string is none.
+/// nested at most 80 deep. `Toml` exactly if there is none.
 pub fn parse_table(alloc: Global, text: &str) -> Result<Table, TableFault>
     ensures ok { IfOk result (λ table. parse_document text.now ≡ Some (table_view table)) }
     ensures refused { IsErrOf result TableFault.Toml → parse_document text.now ≡ None }

@@ -4,8 +4,8 @@
 //! package has no records is given; nothing is asked, and no file changes. After an audit over an
 //! honest server, the version follows from what the server held.
 //! Depends on the index of a registry (`tame_names` to `tame_sparse`), the lockfiles of
-//! `audit_lock`, the advisories of `audit_advisory`, the audits of `audit_core`, and `serde_json`
-//! and `semver`.
+//! `audit_lock`, the advisories of `audit_advisory`, the audits of `audit_core`, the words of
+//! `report_parts`, and `semver`.
 //!
 //! ```ignore
 //! let least = least_safe(alloc, &database, &settings, &package, &krate)?;

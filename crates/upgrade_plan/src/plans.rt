@@ -4,7 +4,6 @@ ghost use Rattle.std.specs.List.{AllByRecursion};
 ghost use Rattle.tame_names.specs.Counts.{CountRose, CountRoseBy};
 ghost use Rattle.tame_cache.specs.Disk.{reads};
 ghost use Rattle.tame_cache.specs.Kept.{cache_file_of};
-ghost use Rattle.audit_advisory.specs.Hits as hits_spec;
 ghost use Rattle.audit_advisory.specs.Reports.{report_of, with_yanked};
 ghost use Rattle.audit_core.specs.FailedTurns.{InSteps};
 ghost use Rattle.upgrade_plan.specs.Plans.{IsOutcome, IsPlannedAt, IsPlanOf, ReadsOnly, ReadsOwn, hit_places, stores, vulnerable_places};

@@ -163,7 +163,7 @@ IsStopped s ps e = Unit {0}
 
 -- ---- refusals
 
--- what a refusal says about a package; a call that failed and out of memory say nothing
+-- what a refusal says about a package; a call that failed and `NoMemory` say nothing
 abbrev pub is_of_package : VendorFault → Bool
 is_of_package (fault.Name place) = true
 is_of_package (fault.Absent place) = true
